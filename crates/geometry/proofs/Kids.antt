@@ -1,0 +1,171 @@
+-- The tree of places: a place's kids are the places whose parent it is.
+-- Assumes nothing.
+use Prim.Native.Nat.{ℕ, zero, suc, pred, _+_, _*_, _/_, _%_, _≤_, _<_}
+use native.Mathlib.Omega.{arith}
+use native.Mathlib.Decide.{decLt}
+use mathlib.Core.Path.{_≡_, refl, sym, ap, _∙_, subst}
+use mathlib.Core.Logic.{_⊎_, inl, inr}
+use mathlib.Core.Bool.{Bool, true, false, not, _&&_, _||_}
+use mathlib.Core.Option.{Option, none, some, Option·map, Option·none-ne-some, Option·some-injective}
+use mathlib.Core.List.{List, [], _∷_, map}
+use lib.Dec.{T, T-not, not-T}
+use Rattle.mesh.specs.Tools.{any, all}
+use Rattle.mesh.specs.Place.{Place, Grid, at, same, before, compass, kid, kids, parent, Wind, NE, SE, SW, NW, N, E, S, W}
+use Rattle.mesh.specs.Mesh.{hasKids, leaf}
+use Rattle.geometry.proofs.Bools.{or-cases, and-both, and-left, and-right}
+use Rattle.geometry.proofs.Places.{place-path, In, in-cases, in-here, in-there, any-in, in-any, all-in, in-all, before-is, mapped}
+
+-- ---- the parent's place
+
+-- the parent's place, of a place that is not the root
+unfoldable pub up : Place → Place
+up p = at (pred (p .depth)) (p .col / 2) (p .row / 2)
+
+pub parent-up : (p : Place) → 0 < p .depth → parent p ≡ some (up p)
+unfolding parent up
+parent-up p h = go (p .depth) refl
+  where
+    go : (e : ℕ) → p .depth ≡ e → parent p ≡ some (up p)
+    go zero e = absurd (omega arith)
+    go (suc n) e = rw e
+
+pub no-parent : (p : Place) → p .depth ≡ 0 → parent p ≡ none
+unfolding parent
+no-parent p e = rw e
+
+pub parent-depth : (q p : Place) → parent q ≡ some p → q .depth ≡ suc (p .depth)
+unfolding parent
+parent-depth q p e =
+    let (d, b, f) = mapped (λ e. at e (q .col / 2) (q .row / 2)) p (before (q .depth)) e in
+    before-is (q .depth) d b ∙ ap (λ (x : Place). suc (x .depth)) f
+
+pub up-depth : (p : Place) → 0 < p .depth → suc (up p .depth) ≡ p .depth
+unfolding up
+up-depth p h = let e : suc (pred (p .depth)) ≡ p .depth = omega arith in e
+
+pub up-is : (q p : Place) → parent q ≡ some p → up q ≡ p
+up-is q p e = Option·some-injective _ _ (sym (parent-up q (omega (arith, parent-depth q p e))) ∙ e)
+
+-- ---- the kids' places
+
+kid-east : (w : Wind) → compass w .east / 2 ≤ 1
+kid-east NE = omega arith
+kid-east SE = omega arith
+kid-east SW = omega arith
+kid-east NW = omega arith
+kid-east N = omega arith
+kid-east E = omega arith
+kid-east S = omega arith
+kid-east W = omega arith
+
+kid-north : (w : Wind) → compass w .north / 2 ≤ 1
+kid-north NE = omega arith
+kid-north SE = omega arith
+kid-north SW = omega arith
+kid-north NW = omega arith
+kid-north N = omega arith
+kid-north E = omega arith
+kid-north S = omega arith
+kid-north W = omega arith
+
+pub kid-depth : (w : Wind) (p : Place) → kid w p .depth ≡ suc (p .depth)
+unfolding kid
+kid-depth w p = refl
+
+pub parent-kid : (w : Wind) (p : Place) → parent (kid w p) ≡ some p
+unfolding kid parent
+parent-kid w p =
+    let x : (2 * p .col + compass w .east / 2) / 2 ≡ p .col = omega (arith, kid-east w) in
+    let y : (2 * p .row + compass w .north / 2) / 2 ≡ p .row = omega (arith, kid-north w) in
+    ap some (place-path (at (p .depth) ((2 * p .col + compass w .east / 2) / 2) ((2 * p .row + compass w .north / 2) / 2)) p refl x y)
+
+pub up-kid : (w : Wind) (p : Place) → up (kid w p) ≡ p
+unfolding up kid
+up-kid w p = Option·some-injective _ _ (sym (parent-up (kid w p) (omega arith)) ∙ parent-kid w p)
+
+-- ---- "(k+1, 2i+l, 2j+m), l and m in 0,1": which of the four a place is
+
+-- the kid's wind, by the last digit of the column and of the row
+pub kid-wind : (q p : Place) → parent q ≡ some p → (w : Wind) × (kid w p ≡ q) × In q (kids p)
+unfolding parent kid kids
+kid-wind q p e =
+    let (d, b, f) = mapped (λ e. at e (q .col / 2) (q .row / 2)) p (before (q .depth)) e in
+    let dep : suc (p .depth) ≡ q .depth = ap (λ (x : Place). suc (x .depth)) (sym f) ∙ sym (before-is (q .depth) d b) in
+    let c : q .col / 2 ≡ p .col = ap (λ (x : Place). x .col) f in
+    let r : q .row / 2 ≡ p .row = ap (λ (x : Place). x .row) f in
+    go dep c r (decLt (q .col % 2) 1) (decLt (q .row % 2) 1)
+  where
+    is : (l m : ℕ) → suc (p .depth) ≡ q .depth → 2 * p .col + l ≡ q .col → 2 * p .row + m ≡ q .row → at (suc (p .depth)) (2 * p .col + l) (2 * p .row + m) ≡ q
+    is l m dep x y = place-path (at (suc (p .depth)) (2 * p .col + l) (2 * p .row + m)) q dep x y
+
+    go : suc (p .depth) ≡ q .depth → q .col / 2 ≡ p .col → q .row / 2 ≡ p .row → Dec (q .col % 2 < 1) → Dec (q .row % 2 < 1) → (w : Wind) × (kid w p ≡ q) × In q (kids p)
+    go dep c r (no x) (no y) = let k = is 1 1 dep (omega arith) (omega arith) in (NE, k, in-here q (kid NE p) (kid SE p ∷ kid SW p ∷ kid NW p ∷ []) (sym k))
+    go dep c r (no x) (yes y) = let k = is 1 0 dep (omega arith) (omega arith) in (SE, k, in-there q (kid NE p) (kid SE p ∷ kid SW p ∷ kid NW p ∷ []) (in-here q (kid SE p) (kid SW p ∷ kid NW p ∷ []) (sym k)))
+    go dep c r (yes x) (yes y) = let k = is 0 0 dep (omega arith) (omega arith) in (SW, k, in-there q (kid NE p) (kid SE p ∷ kid SW p ∷ kid NW p ∷ []) (in-there q (kid SE p) (kid SW p ∷ kid NW p ∷ []) (in-here q (kid SW p) (kid NW p ∷ []) (sym k))))
+    go dep c r (yes x) (no y) = let k = is 0 1 dep (omega arith) (omega arith) in (NW, k, in-there q (kid NE p) (kid SE p ∷ kid SW p ∷ kid NW p ∷ []) (in-there q (kid SE p) (kid SW p ∷ kid NW p ∷ []) (in-there q (kid SW p) (kid NW p ∷ []) (in-here q (kid NW p) [] (sym k)))))
+
+-- the kids are the places whose parent it is
+pub parent-in : (q p : Place) → parent q ≡ some p → In q (kids p)
+parent-in q p e = kid-wind q p e .2
+
+pub in-parent : (q p : Place) → In q (kids p) → parent q ≡ some p
+unfolding kids
+in-parent q p t = first (in-cases q (kid NE p) (kid SE p ∷ kid SW p ∷ kid NW p ∷ []) t)
+  where
+    is : (w : Wind) → q ≡ kid w p → parent q ≡ some p
+    is w e = ap parent e ∙ parent-kid w p
+
+    fourth : (q ≡ kid NW p) ⊎ In q [] → parent q ≡ some p
+    fourth (inl e) = is NW e
+    fourth (inr t) = absurd t
+
+    third : (q ≡ kid SW p) ⊎ In q (kid NW p ∷ []) → parent q ≡ some p
+    third (inl e) = is SW e
+    third (inr t) = fourth (in-cases q (kid NW p) [] t)
+
+    second : (q ≡ kid SE p) ⊎ In q (kid SW p ∷ kid NW p ∷ []) → parent q ≡ some p
+    second (inl e) = is SE e
+    second (inr t) = third (in-cases q (kid SW p) (kid NW p ∷ []) t)
+
+    first : (q ≡ kid NE p) ⊎ In q (kid SE p ∷ kid SW p ∷ kid NW p ∷ []) → parent q ≡ some p
+    first (inl e) = is NE e
+    first (inr t) = second (in-cases q (kid SE p) (kid SW p ∷ kid NW p ∷ []) t)
+
+pub kid-in : (w : Wind) (p : Place) → In (kid w p) (kids p)
+kid-in w p = parent-in (kid w p) p (parent-kid w p)
+
+-- ---- tests of the kids
+
+pub any-kid : (f : Place → Bool) (p : Place) → T (any f (kids p)) → (q : Place) × (parent q ≡ some p) × T (f q)
+any-kid f p t = let (q, i, h) = any-in f (kids p) t in (q, in-parent q p i, h)
+
+pub kid-any : (f : Place → Bool) (p q : Place) → parent q ≡ some p → T (f q) → T (any f (kids p))
+kid-any f p q e t = in-any f (kids p) q (parent-in q p e) t
+
+pub all-kids : (f : Place → Bool) (p : Place) → T (all f (kids p)) → (q : Place) → parent q ≡ some p → T (f q)
+all-kids f p t q e = all-in f (kids p) t q (parent-in q p e)
+
+pub kids-all : (f : Place → Bool) (p : Place) → ((q : Place) → parent q ≡ some p → T (f q)) → T (all f (kids p))
+kids-all f p h = in-all f (kids p) (λ q i. h q (in-parent q p i))
+
+module _ (g : Grid) (c : Place → Bool) where
+  pub has-kid : (p : Place) → T (hasKids g c p) → (q : Place) × (parent q ≡ some p) × T (c q)
+  unfolding hasKids
+  has-kid p t = any-kid c p t
+
+  pub kid-has : (p q : Place) → parent q ≡ some p → T (c q) → T (hasKids g c p)
+  unfolding hasKids
+  kid-has p q e t = kid-any c p q e t
+
+  -- a leaf is a cell none of whose kids' places is a cell
+  pub leaf-cell : (p : Place) → T (leaf g c p) → T (c p)
+  unfolding leaf
+  leaf-cell p t = and-left (c p) (not (hasKids g c p)) t
+
+  pub leaf-kidless : (p : Place) → T (leaf g c p) → (q : Place) → parent q ≡ some p → T (c q) → ⊥
+  unfolding leaf
+  leaf-kidless p t q e u = T-not (hasKids g c p) (and-right (c p) (not (hasKids g c p)) t) (kid-has p q e u)
+
+  pub is-leaf : (p : Place) → T (c p) → ((q : Place) → parent q ≡ some p → T (c q) → ⊥) → T (leaf g c p)
+  unfolding leaf
+  is-leaf p t h = and-both (c p) (not (hasKids g c p)) t (not-T (hasKids g c p) (λ x. let (q, e, u) = has-kid p x in h q e u))

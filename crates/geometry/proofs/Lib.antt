@@ -1,0 +1,7 @@
+-- The laws of the geometry, bottom up.
+pub mod Bools
+pub mod Lists
+pub mod Places
+pub mod Kids
+pub mod Near
+pub mod Tree

@@ -1,0 +1,1 @@
+// Laws about places and sets of cells: no code, only the modules of proofs/ that other crates cite.

@@ -1,0 +1,132 @@
+-- Each public call as one total function: from what is lent at entry to the answer and to what every lent list and the header hold at exit.
+-- "Checks go 1, 2, 3, then the call's own .. a refused call returns count 0 .. and the refused step changes nothing" (01, 'Numbered refusals').
+-- Assumes nothing.
+use Prim.Native.Nat.{ℕ, zero, suc, _+_, _*_}
+use mathlib.Core.Bool.{Bool, not, _&&_, _||_}
+use mathlib.Core.List.{List, [], _∷_, _++_}
+use lib.Dec.{leb, ltb, eqb}
+use lib.ListN.{length, drop}
+use lib.Ieee.{Float}
+use lib.IntN.{ℤ}
+use Rattle.mesh.specs.Place.{Grid}
+use Rattle.mesh.specs.State.{State, Header, Value, blank, valueOf, entry, inUse}
+use Rattle.mesh.specs.Picture.{rowWords, table, amounts}
+use Rattle.mesh.specs.Decode.{decode}
+use Rattle.mesh.specs.Test.{sound}
+use Rattle.mesh.specs.Refusal.{Check, _if_, refusal}
+use Rattle.mesh.specs.Build.{numbered, built}
+use Rattle.mesh.specs.Tape.{Run, run}
+use Rattle.mesh.specs.Scan.{scan, scanChecks}
+use Rattle.mesh.specs.Lookup.{lookup, lookupChecks}
+use Rattle.mesh.specs.Page.{page, pageChecks}
+
+-- what is lent with a capacity: the header, the table and the values
+pub record Lent : Type 0 where
+  pub header : Header
+  pub words : List ℤ
+  pub values : List Float
+
+abbrev pub picture : State → Lent
+picture s = record { header = s .header; words = table s; values = amounts s }
+
+abbrev pub stateOf : Lent → State
+stateOf l = decode (l .header) (l .words) (l .values)
+
+-- ---- the first checks
+
+abbrev pub outside : ℕ → ℕ → ℕ → Bool
+outside low high n = not (leb low n && leb n high)
+
+-- 1: "table length is not 14 × (capacity+1), value list is not capacity+1, or capacity outside 5 to 4,095"
+abbrev pub no1 : ℕ → Lent → Check
+no1 cap l = 1 if (not (eqb (length (l .words)) (rowWords * (cap + 1))) || (not (eqb (length (l .values)) (cap + 1)) || outside 5 4095 cap))
+
+-- 2: "columns or rows outside 1 to 32"
+abbrev pub no2 : Grid → Check
+no2 g = 2 if (outside 1 32 (g .columns) || outside 1 32 (g .rows))
+
+-- 3: "table, values and header are not sound"
+abbrev pub no3 : Lent → Check
+no3 l = 3 if not (sound (l .header) (l .words) (l .values))
+
+unfoldable pub lentChecks : ℕ → Lent → List Check
+lentChecks cap l = no1 cap l ∷ no2 (l .header .grid) ∷ no3 l ∷ []
+
+-- what a call answers if it is refused with a number above 0, and if it is not
+unfoldable pub unless : {A : Type 0} → ℕ → (ℕ → A) → A → A
+unless zero refused done = done
+unless (suc n) refused done = refused (suc n)
+
+-- ---- check: 0 for yes
+
+unfoldable pub checkCall : ℕ → Lent → ℕ
+checkCall cap l = refusal (lentChecks cap l)
+
+-- ---- build: "build checks 1, 2, 11"
+
+pub record Built : Type 0 where
+  pub why : ℕ
+  pub in-use : ℕ
+  pub lent : Lent
+
+unfoldable pub buildChecks : ℕ → Lent → Grid → List Check
+buildChecks cap l g = no1 cap l ∷ no2 g ∷ (11 if ltb cap (length (numbered g))) ∷ []
+
+unfoldable pub buildCall : ℕ → Lent → Grid → Built
+buildCall cap l g =
+    unless (refusal (buildChecks cap l g))
+    (λ n. record { why = n; in-use = 0; lent = l })
+    (record { why = 0; in-use = inUse (built g cap .entries); lent = picture (built g cap) })
+
+-- ---- tape: "a tape: those done; for 1 to 3 count and offset 0"
+
+pub record Taped : Type 0 where
+  pub done : ℕ
+  pub why : ℕ
+  pub offset : ℕ
+  pub lent : Lent
+
+unfoldable pub tapeCall : ℕ → Lent → List ℕ → Taped
+tapeCall cap l bytes =
+    let r = run (stateOf l) bytes in
+    unless (refusal (lentChecks cap l))
+    (λ n. record { done = 0; why = n; offset = 0; lent = l })
+    (record { done = r .done; why = r .why; offset = r .offset; lent = picture (r .state) })
+
+-- ---- scan and page: "places past the count stay"
+
+pub record Wrote : Type 0 where
+  pub why : ℕ
+  pub count : ℕ
+  pub out : List ℕ
+
+abbrev pub over : List ℕ → List ℕ → List ℕ
+over xs out = xs ++ drop (length xs) out
+
+-- what is to be written, if no check refuses it
+abbrev pub wrote : ℕ → List ℕ → List ℕ → Wrote
+wrote r xs out = unless r (λ n. record { why = n; count = 0; out = out }) (record { why = 0; count = length xs; out = over xs out })
+
+unfoldable pub scanCall : ℕ → Lent → ℕ → List ℕ → ℕ → ℤ → ℤ → List ℕ → Wrote
+scanCall cap l n o k from to out =
+    let s = stateOf l in
+    wrote (refusal (lentChecks cap l ++ scanChecks s (length out) n o k from to)) (scan s n o k from to) out
+
+unfoldable pub pageCall : ℕ → Lent → List ℕ → Wrote
+pageCall cap l out =
+    let s = stateOf l in
+    wrote (refusal (lentChecks cap l ++ pageChecks s (length out))) (page s) out
+
+-- ---- lookup: "the answer is the leaf's number and is a measured value, a carried value, or blank"; refused, "number 0 and blank"
+
+pub record Found : Type 0 where
+  pub why : ℕ
+  pub leaf : ℕ
+  pub value : Value
+
+unfoldable pub lookupCall : ℕ → Lent → ℕ → ℕ → Found
+lookupCall cap l u v =
+    let s = stateOf l in
+    unless (refusal (lentChecks cap l ++ lookupChecks s u v))
+    (λ n. record { why = n; leaf = 0; value = blank })
+    (record { why = 0; leaf = lookup s u v; value = valueOf (entry (s .entries) (lookup s u v)) })

@@ -1,0 +1,145 @@
+-- The reference grids P1 to P11 and the page of 07 01 01 (01, 'Reference grids'): one list of what the calls' rules give and what 01 says.
+-- Assumes nothing.
+use Prim.Native.Nat.{ℕ, zero, suc, _+_, _*_, _%_}
+use mathlib.Core.Path.{_≡_}
+use mathlib.Core.Bool.{Bool, true, false}
+use mathlib.Core.List.{List, [], _∷_, _++_, map}
+use lib.Dec.{eqb}
+use lib.ListN.{getD, replicate}
+use lib.IntN.{ℤ, pos, negsuc, natAbs}
+use lib.Ieee.{Float}
+use Rattle.mesh.specs.Tools.{keep}
+use Rattle.mesh.specs.Place.{Grid}
+use Rattle.mesh.specs.State.{State, Header, inUse, plusZero}
+use Rattle.mesh.specs.Picture.{rowWords}
+use Rattle.mesh.specs.Call.{Lent, stateOf, checkCall, Built, buildCall, Taped, tapeCall, Wrote, scanCall, Found, lookupCall}
+use Rattle.mesh.specs.Program.{program}
+
+-- ---- how 01's words read what a call leaves
+
+abbrev grid : ℕ → ℕ → Grid
+grid c r = record { columns = c; rows = r }
+
+-- lists of the right length that hold nothing of use
+abbrev empty : ℕ → Lent
+empty cap = record { header = record { grid = grid 0 0; mark = 7 }; words = replicate (rowWords * (cap + 1)) (negsuc 0); values = replicate (cap + 1) plusZero }
+
+-- a build with so many columns, rows and numbers, and then a tape
+abbrev build : ℕ → ℕ → ℕ → Built
+build c r cap = buildCall cap (empty cap) (grid c r)
+
+abbrev tape : ℕ → ℕ → ℕ → List ℕ → Taped
+tape c r cap bytes = tapeCall cap (build c r cap .lent) bytes
+
+-- the word w of the row n, where no sign is to be seen
+abbrev wordAt : Lent → ℕ → ℕ → ℕ
+wordAt l w n = natAbs (getD (l .words) (n * rowWords + w) (pos 0))
+
+abbrev flagsAt : Lent → List ℕ → List ℕ
+flagsAt l ns = map (wordAt l 12) ns
+
+-- i and j of the rows with these numbers
+abbrev spotsAt : Lent → List ℕ → List (ℕ × ℕ)
+spotsAt l ns = map (λ n. (wordAt l 10 n, wordAt l 11 n)) ns
+
+abbrev usedIn : Lent → ℕ
+usedIn l = inUse (stateOf l .entries)
+
+-- the numbers, among these, whose rows are free; that are cells
+abbrev freeAmong : Lent → List ℕ → List ℕ
+freeAmong l ns = keep (λ n. eqb (wordAt l 12 n) 8192) ns
+
+abbrev cellsAmong : Lent → List ℕ → List ℕ
+cellsAmong l ns = keep (λ n. eqb (wordAt l 12 n % 2) 1) ns
+
+-- requests done, refusal, offset
+abbrev outcome : Taped → ℕ × ℕ × ℕ
+outcome r = (r .done, r .why, r .offset)
+
+abbrev lookup : ℕ → ℕ → ℕ × ℕ
+lookup u v = let f = lookupCall 14 (build 1 1 14 .lent) u v in (f .leaf, f .why)
+
+-- one claim: what the rules give, and what 01 says that it is
+pub record Claim : Type 1 where
+  pub What : Type 0
+  pub gives : What
+  pub says : What
+
+infix 20 _is_
+abbrev _is_ : {A : Type 0} → A → A → Claim
+_is_ {A} a b = record { What = A; gives = a; says = b }
+
+abbrev pub Hold : List Claim → Type 0
+Hold [] = Unit {0}
+Hold (c ∷ cs) = (c .gives ≡ c .says) × Hold cs
+
+abbrev numbers : List ℕ
+numbers = 1 ∷ 2 ∷ 3 ∷ 4 ∷ 5 ∷ 6 ∷ 7 ∷ 8 ∷ 9 ∷ 10 ∷ 11 ∷ 12 ∷ 13 ∷ 14 ∷ 15 ∷ 16 ∷ 17 ∷ 18 ∷ 19 ∷ 20 ∷ []
+
+-- the tapes of the grids, each going on from the one before
+abbrev refine2 : List ℕ
+refine2 = 1 ∷ 0 ∷ 2 ∷ []
+
+abbrev away : List ℕ
+away = refine2 ++ (2 ∷ 0 ∷ 6 ∷ 2 ∷ 0 ∷ 7 ∷ 2 ∷ 0 ∷ 8 ∷ 2 ∷ 0 ∷ 9 ∷ 3 ∷ 0 ∷ 2 ∷ [])
+
+abbrev refine4 : List ℕ
+refine4 = 1 ∷ 0 ∷ 4 ∷ []
+
+abbrev killed : List ℕ
+killed = refine4 ++ (4 ∷ 0 ∷ 6 ∷ [])
+
+abbrev refine10 : List ℕ
+refine10 = killed ++ (1 ∷ 0 ∷ 10 ∷ [])
+
+abbrev kill6 : List ℕ
+kill6 = 4 ∷ 0 ∷ 6 ∷ []
+
+unfoldable pub grids : List Claim
+grids =
+    -- P1
+    (build 1 1 14 .in-use is 5) ∷
+    (spotsAt (build 1 1 14 .lent) (2 ∷ 3 ∷ 4 ∷ 5 ∷ []) is ((0, 0) ∷ (0, 1) ∷ (1, 0) ∷ (1, 1) ∷ [])) ∷
+    -- P2
+    (flagsAt (build 1 1 14 .lent) (2 ∷ 3 ∷ 4 ∷ 5 ∷ []) is (127 ∷ 26 ∷ 44 ∷ 8 ∷ [])) ∷
+    -- P3
+    (spotsAt (tape 1 1 14 refine2 .lent) (6 ∷ 7 ∷ 8 ∷ 9 ∷ 10 ∷ 11 ∷ 12 ∷ 13 ∷ 14 ∷ []) is
+    ((0, 0) ∷ (1, 0) ∷ (0, 1) ∷ (1, 1) ∷ (0, 2) ∷ (1, 2) ∷ (2, 1) ∷ (2, 0) ∷ (2, 2) ∷ [])) ∷
+    (outcome (tape 1 1 14 refine2) is (1, 0, 3)) ∷
+    (outcome (tape 1 1 13 refine2) is (0, 11, 0)) ∷
+    -- P4
+    (flagsAt (tape 1 1 14 refine2 .lent) (6 ∷ 7 ∷ 8 ∷ 9 ∷ []) is (127 ∷ 95 ∷ 111 ∷ 71 ∷ [])) ∷
+    -- P5
+    (tape 1 1 14 away .lent .words is build 1 1 14 .lent .words) ∷
+    (tape 1 1 14 away .lent .header .mark is 6) ∷
+    -- P6
+    (build 2 1 20 .in-use is 9) ∷
+    (cellsAmong (build 2 1 20 .lent) numbers is (4 ∷ 6 ∷ [])) ∷
+    (usedIn (tape 2 1 20 refine4 .lent) is 18) ∷
+    (flagsAt (tape 2 1 20 refine4 .lent) (17 ∷ 16 ∷ 11 ∷ 18 ∷ []) is (652 ∷ 644 ∷ 1119 ∷ 136 ∷ [])) ∷
+    -- P7: 19 and 20 were free before
+    (freeAmong (tape 2 1 20 killed .lent) numbers is (3 ∷ 8 ∷ 9 ∷ 19 ∷ 20 ∷ [])) ∷
+    (flagsAt (tape 2 1 20 killed .lent) (17 ∷ 16 ∷ 11 ∷ 18 ∷ []) is (44 ∷ 44 ∷ 95 ∷ 8 ∷ [])) ∷
+    -- P8: the words 3, 2, 4 and 1 are the kids SW, SE, NW and NE
+    (map (λ w. wordAt (tape 2 1 24 refine10 .lent) w 10) (3 ∷ 2 ∷ 4 ∷ 1 ∷ []) is (3 ∷ 8 ∷ 9 ∷ 19 ∷ [])) ∷
+    -- P9: the words 6 and 8 are the neighbours E and W
+    (usedIn (tape 3 1 16 kill6 .lent) is 11) ∷
+    (wordAt (tape 3 1 16 kill6 .lent) 6 6 is 8) ∷
+    (wordAt (tape 3 1 16 kill6 .lent) 8 8 is 6) ∷
+    -- P10
+    (outcome (tape 1 1 14 (refine2 ++ refine2)) is (1, 8, 3)) ∷
+    -- P11
+    (lookup 4095 4095 is (2, 0)) ∷
+    (lookup 4096 0 is (0, 19)) ∷
+    -- the page of 07 01 01
+    (program (7 ∷ 1 ∷ 1 ∷ []) is (
+    109 ∷ 97 ∷ 112 ∷ 32 ∷ 49 ∷ 32 ∷ 49 ∷ 32 ∷ 48 ∷ 10 ∷
+    50 ∷ 32 ∷ 48 ∷ 32 ∷ 48 ∷ 32 ∷ 48 ∷ 32 ∷ 110 ∷ 32 ∷
+    48 ∷ 48 ∷ 48 ∷ 48 ∷ 48 ∷ 48 ∷ 48 ∷ 48 ∷ 48 ∷ 48 ∷ 48 ∷ 48 ∷ 48 ∷ 48 ∷ 48 ∷ 48 ∷ 10 ∷
+    99 ∷ 101 ∷ 108 ∷ 108 ∷ 115 ∷ 32 ∷ 49 ∷ 32 ∷ 115 ∷ 117 ∷ 109 ∷ 32 ∷ 49 ∷ 56 ∷ 49 ∷ 50 ∷ 10 ∷ [])) ∷
+    -- 'Slips that look right': a scan from level 0 to 0 lists the inner patch at from-level; columns come before rows
+    (scanCall 14 (tape 1 1 14 refine2 .lent) 1 (3 ∷ 4 ∷ 2 ∷ 1 ∷ []) 2 (pos 0) (pos 0) (7 ∷ 7 ∷ []) is record { why = 0; count = 1; out = 2 ∷ 7 ∷ [] }) ∷
+    (map (λ n. wordAt (build 2 1 20 .lent) 10 n) (4 ∷ 6 ∷ []) is (0 ∷ 1 ∷ [])) ∷
+    -- what these tapes leave is sound
+    (map (checkCall 20) (tape 2 1 20 refine4 .lent ∷ tape 2 1 20 killed .lent ∷ []) is (0 ∷ 0 ∷ [])) ∷
+    []

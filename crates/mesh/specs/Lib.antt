@@ -1,0 +1,19 @@
+-- The rules of 01 as definitions that compute.
+pub mod Tools
+pub mod Place
+pub mod Mesh
+pub mod State
+pub mod Valid
+pub mod Picture
+pub mod Decode
+pub mod Test
+pub mod Refusal
+pub mod Build
+pub mod Request
+pub mod Tape
+pub mod Scan
+pub mod Lookup
+pub mod Page
+pub mod Call
+pub mod Program
+pub mod Grids

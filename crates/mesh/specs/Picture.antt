@@ -1,0 +1,48 @@
+-- The table and the values of a state (01, 'Rows and header').
+-- Assumes nothing.
+use Prim.Native.Nat.{ℕ}
+use mathlib.Core.Path.{_≡_}
+use mathlib.Core.Bool.{false}
+use mathlib.Core.Option.{Option, none, some}
+use mathlib.Core.List.{List, [], _∷_, _++_, map}
+use lib.Ieee.{Float}
+use lib.IntN.{ℤ, pos}
+use Rattle.mesh.specs.Tools.{flat, digits}
+use Rattle.mesh.specs.Place.{Place, Grid, around, level}
+use Rattle.mesh.specs.Mesh.{flags}
+use Rattle.mesh.specs.State.{State, Header, Entry, nil, free, used, placeOf, isSentenced, valueOf, status, amount, cells, numberOf, gridOf}
+use Rattle.mesh.specs.Valid.{Valid}
+
+-- "rows 1 to capacity have 14 signed 32-bit words"
+abbrev pub rowWords : ℕ
+rowWords = 14
+
+-- "9 level; 10 i; 11 j; 12 flags; 13 value status"
+abbrev pub fieldWords : ℤ → ℕ → ℕ → ℕ → ℕ → List ℤ
+fieldWords k i j f st = k ∷ pos i ∷ pos j ∷ pos f ∷ pos st ∷ []
+
+-- "A free row has flags 8192 and every other word 0."
+unfoldable pub fields : Grid → List Entry → Entry → List ℤ
+fields g es nil = fieldWords (pos 0) 0 0 0 0
+fields g es free = fieldWords (pos 0) 0 0 8192 0
+fields g es (used p x) =
+    fieldWords (level g p) (p .col) (p .row) (digits (flags g (cells es) p (isSentenced (used p x)))) (status (valueOf (used p x)))
+
+-- "0 parent; 1 to 4 kids NE, SE, SW, NW; 5 to 8 neighbours N, E, S, W", and the fields
+unfoldable pub rowOf : Grid → List Entry → Entry → List ℤ
+rowOf g es e = map (λ o. pos (numberOf es o)) (around g (placeOf e)) ++ fields g es e
+
+unfoldable pub table : State → List ℤ
+table s = flat (map (rowOf (gridOf s) (s .entries)) (s .entries))
+
+-- "A second lent list has one f64 for each row."
+unfoldable pub amounts : State → List Float
+amounts s = map (λ e. amount (valueOf e)) (s .entries)
+
+-- "a table is sound if it pictures one mesh under one numbering, with the rules above"
+pub record Sound (h : Header) (t : List ℤ) (v : List Float) : Type 0 where
+  pub state : State
+  pub valid : Valid state
+  pub is-header : h ≡ state .header
+  pub is-table : t ≡ table state
+  pub is-values : v ≡ amounts state

@@ -1,0 +1,124 @@
+-- Places: where a patch can stand (01, 'What a mesh is'). The root is (0, 0, 0), and a place's kids lie one deeper, so a place is the same
+-- thing for ghosts and for patches: a level is the depth less the depth of level 0.
+-- Assumes nothing.
+use Prim.Native.Nat.{ℕ, zero, suc, _+_, _-_, _*_, _/_, _^_, max}
+use mathlib.Core.Bool.{Bool, true, false, _&&_}
+use mathlib.Core.Option.{Option, none, some, Option·map}
+use mathlib.Core.List.{List, [], _∷_, _++_, map}
+use lib.Dec.{eqb}
+use lib.IntN.{ℤ, subℕ}
+use lib.Count.{leadingZeros}
+use Rattle.mesh.specs.Tools.{orElse}
+
+pub record Place : Type 0 where
+  pub depth : ℕ
+  pub col : ℕ
+  pub row : ℕ
+
+abbrev pub at : ℕ → ℕ → ℕ → Place
+at e i j = record { depth = e; col = i; row = j }
+
+unfoldable pub same : Place → Place → Bool
+same p q = eqb (p .depth) (q .depth) && (eqb (p .col) (q .col) && eqb (p .row) (q .row))
+
+-- the rectangle of level-0 cells: what of the header the geometry needs
+pub record Grid : Type 0 where
+  pub columns : ℕ
+  pub rows : ℕ
+
+-- "the root level is minus d, d being the bit length of the larger of columns and rows": a word's width less its leading zeros
+unfoldable pub base : Grid → ℕ
+base g = 32 - leadingZeros 32 (max (g .columns) (g .rows))
+
+unfoldable pub level : Grid → Place → ℤ
+level g p = subℕ (p .depth) (base g)
+
+abbrev pub root : Place
+root = at 0 0 0
+
+-- ---- "the offset and opposite of each of the eight winds stand in one small table"
+
+-- in the order of the words 1 to 8 of a row
+pub data Wind : Type 0 where
+  NE SE SW NW N E S W : Wind
+
+-- how far east and how far north a wind goes, one too large so that no number is negative, and the wind that leads back
+pub record Compass : Type 0 where
+  pub east : ℕ
+  pub north : ℕ
+  pub opposite : Wind
+
+abbrev pub compass : Wind → Compass
+compass NE = record { east = 2; north = 2; opposite = SW }
+compass SE = record { east = 2; north = 0; opposite = NW }
+compass SW = record { east = 0; north = 0; opposite = NE }
+compass NW = record { east = 0; north = 2; opposite = SE }
+compass N = record { east = 1; north = 2; opposite = S }
+compass E = record { east = 2; north = 1; opposite = W }
+compass S = record { east = 1; north = 0; opposite = N }
+compass W = record { east = 0; north = 1; opposite = E }
+
+abbrev pub kidWinds : List Wind
+kidWinds = NE ∷ SE ∷ SW ∷ NW ∷ []
+
+abbrev pub sideWinds : List Wind
+sideWinds = N ∷ E ∷ S ∷ W ∷ []
+
+-- ---- steps
+
+abbrev pub before : ℕ → Option ℕ
+before zero = none
+before (suc n) = some n
+
+-- One step north and one step east there is always a place; south and west there is one if the indices go on there.
+-- These four definitions alone know how the indices of a level run.
+unfoldable pub toNorth : Grid → Place → Place
+toNorth g p = at (p .depth) (p .col) (suc (p .row))
+
+unfoldable pub toEast : Grid → Place → Place
+toEast g p = at (p .depth) (suc (p .col)) (p .row)
+
+unfoldable pub toSouth : Grid → Place → Option Place
+toSouth g p = Option·map (λ j. at (p .depth) (p .col) j) (before (p .row))
+
+unfoldable pub toWest : Grid → Place → Option Place
+toWest g p = Option·map (λ i. at (p .depth) i (p .row)) (before (p .col))
+
+-- a step from a place that may be missing
+abbrev pub then : (Place → Option Place) → Option Place → Option Place
+then f o = orElse none f o
+
+-- by an offset of the table: one back, none, or one on
+abbrev pub eastward : Grid → ℕ → Option Place → Option Place
+eastward g zero o = then (toWest g) o
+eastward g (suc zero) o = o
+eastward g (suc (suc n)) o = Option·map (toEast g) o
+
+abbrev pub northward : Grid → ℕ → Option Place → Option Place
+northward g zero o = then (toSouth g) o
+northward g (suc zero) o = o
+northward g (suc (suc n)) o = Option·map (toNorth g) o
+
+unfoldable pub step : Grid → Wind → Place → Option Place
+step g w p = northward g (compass w .north) (eastward g (compass w .east) (some p))
+
+-- ---- the tree of places
+
+-- "(k+1, 2i+l, 2j+m), l and m in 0,1"
+unfoldable pub kid : Wind → Place → Place
+kid w p = at (suc (p .depth)) (2 * p .col + compass w .east / 2) (2 * p .row + compass w .north / 2)
+
+unfoldable pub kids : Place → List Place
+kids p = map (λ w. kid w p) kidWinds
+
+-- "halve the indices, rounding down"
+unfoldable pub parent : Place → Option Place
+parent p = Option·map (λ e. at e (p .col / 2) (p .row / 2)) (before (p .depth))
+
+-- the places that a row's words 0 to 8 link to: the parent, the kids and the neighbours
+unfoldable pub around : Grid → Option Place → List (Option Place)
+around g o = then parent o ∷ map (λ w. Option·map (kid w) o) kidWinds ++ map (λ w. then (step g w) o) sideWinds
+
+-- the place on level 0 that a place of level 0 or above lies in
+unfoldable pub home : Grid → Place → Place
+home g p = at (base g) (p .col / 2 ^ (p .depth - base g)) (p .row / 2 ^ (p .depth - base g))

@@ -1,0 +1,68 @@
+-- A tape of requests (01, 'Build and requests').
+-- Assumes nothing.
+use Prim.Native.Nat.{ℕ, zero, suc, _+_, _*_}
+use mathlib.Core.Bool.{Bool, cond}
+use mathlib.Core.Option.{Option, none, some}
+use mathlib.Core.List.{List, [], _∷_}
+use lib.Dec.{ltb}
+use lib.ListN.{length, take, drop}
+use lib.Ieee.{ofBits, binary64}
+use Rattle.mesh.specs.State.{State}
+use Rattle.mesh.specs.Request.{Request, refine, sentence, remove, kill, setValue, Result, refused, accepted, request}
+
+-- "every number in a tape has its high byte first": the number n with these bytes behind it
+abbrev pub highFirst : ℕ → List ℕ → ℕ
+highFirst n [] = n
+highFirst n (b ∷ bs) = highFirst (256 * n + b) bs
+
+-- "a body whose length the kind fixes", and what it asks for
+pub record Kind : Type 0 where
+  pub len : ℕ
+  pub ask : List ℕ → Request
+
+-- "patch numbers are two bytes"
+abbrev pub numberIn : List ℕ → ℕ
+numberIn body = highFirst 0 (take 2 body)
+
+abbrev pub kind : ℕ → Option Kind
+kind zero = none
+kind (suc zero) = some (record { len = 2; ask = λ b. refine (numberIn b) })
+kind (suc (suc zero)) = some (record { len = 2; ask = λ b. sentence (numberIn b) })
+kind (suc (suc (suc zero))) = some (record { len = 2; ask = λ b. remove (numberIn b) })
+kind (suc (suc (suc (suc zero)))) = some (record { len = 2; ask = λ b. kill (numberIn b) })
+kind (suc (suc (suc (suc (suc zero))))) = some (record { len = 10; ask = λ b. setValue (numberIn b) (ofBits binary64 (highFirst 0 (drop 2 b))) })
+kind (suc (suc (suc (suc (suc (suc n)))))) = none
+
+-- "the answer is requests done, refusal or none, and the byte offset of the refused kind byte (the tape length if none)", and the state left
+pub record Run : Type 0 where
+  pub state : State
+  pub done : ℕ
+  pub why : ℕ
+  pub offset : ℕ
+
+-- one request: it stops the tape, or the state goes on past so many bytes of body
+pub data Step : Type 0 where
+  stop : ℕ → Step
+  next : State → ℕ → Step
+
+abbrev pub answered : Result → ℕ → Step
+answered (refused r) l = stop r
+answered (accepted s) l = next s l
+
+-- "kind (5), then body (4), then the kind's list", with the bytes behind the kind byte
+abbrev pub stepBy : State → Option Kind → List ℕ → Step
+stepBy s none bs = stop 5
+stepBy s (some k) bs = cond (ltb (length bs) (k .len)) (stop 4) (answered (request s (k .ask (take (k .len) bs))) (k .len))
+
+-- the rest of a tape: so many bytes to pass over, the state, the requests done, the offset, the bytes
+unfoldable pub runFrom : ℕ → State → ℕ → ℕ → List ℕ → Run
+runFrom l s n o [] = record { state = s; done = n; why = 0; offset = o }
+runFrom zero s n o (k ∷ bs) =
+    elim (stepBy s (kind k) bs) [
+      | stop r ↦ record { state = s; done = n; why = r; offset = o }
+      | next t l ↦ runFrom l t (n + 1) (o + 1) bs
+    ]
+runFrom (suc l) s n o (b ∷ bs) = runFrom l s n (o + 1) bs
+
+unfoldable pub run : State → List ℕ → Run
+run s tape = runFrom 0 s 0 0 tape

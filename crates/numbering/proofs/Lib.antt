@@ -1,0 +1,4 @@
+-- The laws of the numbering, bottom up.
+pub mod Entries
+pub mod Numbers
+pub mod Filling

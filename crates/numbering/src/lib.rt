@@ -1,0 +1,1 @@
+// Laws about entries and their numbers: no code, only the modules of proofs/ that other crates cite.
