@@ -1,1 +1,4 @@
+-- The reference grids, and the rules of the two tables that are code.
 pub mod References
+pub mod Winds
+pub mod Depth

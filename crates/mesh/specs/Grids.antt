@@ -9,7 +9,7 @@ use lib.ListN.{getD, replicate}
 use lib.IntN.{ℤ, pos, negsuc, natAbs}
 use lib.Ieee.{Float}
 use Rattle.mesh.specs.Tools.{keep}
-use Rattle.mesh.specs.Place.{Grid}
+use Rattle.mesh.specs.Place.{rectangle}
 use Rattle.mesh.specs.State.{State, Header, inUse, plusZero}
 use Rattle.mesh.specs.Picture.{rowWords}
 use Rattle.mesh.specs.Call.{Lent, stateOf, checkCall, Built, buildCall, Taped, tapeCall, Wrote, scanCall, Found, lookupCall}
@@ -17,16 +17,13 @@ use Rattle.mesh.specs.Program.{program}
 
 -- ---- how 01's words read what a call leaves
 
-abbrev grid : ℕ → ℕ → Grid
-grid c r = record { columns = c; rows = r }
-
 -- lists of the right length that hold nothing of use
 abbrev empty : ℕ → Lent
-empty cap = record { header = record { grid = grid 0 0; mark = 7 }; words = replicate (rowWords * (cap + 1)) (negsuc 0); values = replicate (cap + 1) plusZero }
+empty cap = record { header = record { grid = rectangle 0 0; mark = 7 }; words = replicate (rowWords * (cap + 1)) (negsuc 0); values = replicate (cap + 1) plusZero }
 
 -- a build with so many columns, rows and numbers, and then a tape
 abbrev build : ℕ → ℕ → ℕ → Built
-build c r cap = buildCall cap (empty cap) (grid c r)
+build c r cap = buildCall cap (empty cap) (rectangle c r)
 
 abbrev tape : ℕ → ℕ → ℕ → List ℕ → Taped
 tape c r cap bytes = tapeCall cap (build c r cap .lent) bytes

@@ -26,6 +26,9 @@ pub record Grid : Type 0 where
   pub columns : ℕ
   pub rows : ℕ
 
+abbrev pub rectangle : ℕ → ℕ → Grid
+rectangle c r = record { columns = c; rows = r }
+
 -- "the root level is minus d, d being the bit length of the larger of columns and rows": a word's width less its leading zeros
 unfoldable pub base : Grid → ℕ
 base g = 32 - leadingZeros 32 (max (g .columns) (g .rows))

@@ -5,7 +5,7 @@ use mathlib.Core.Bool.{Bool, not}
 use mathlib.Core.List.{List, [], _∷_}
 use lib.Dec.{ltb, eqb}
 use lib.ListN.{length, getD, drop}
-use Rattle.mesh.specs.Place.{Grid}
+use Rattle.mesh.specs.Place.{Grid, rectangle}
 use Rattle.mesh.specs.State.{State}
 use Rattle.mesh.specs.Refusal.{Check, _if_, refusal}
 use Rattle.mesh.specs.Build.{numbered, built}
@@ -19,7 +19,7 @@ refusedLine n o = line ((114 ∷ 101 ∷ 102 ∷ 117 ∷ 115 ∷ 101 ∷ 100 ∷
 
 -- "byte 7, columns, rows (one byte each), then a tape; capacity 1,000"
 abbrev pub gridIn : List ℕ → Grid
-gridIn input = record { columns = getD input 1 0; rows = getD input 2 0 }
+gridIn input = rectangle (getD input 1 0) (getD input 2 0)
 
 -- "20, then 4 for empty input, 5 for another first byte, 4 for a missing second or third byte, then the build, all at offset 0"
 unfoldable pub headChecks : List ℕ → List Check

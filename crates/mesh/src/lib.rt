@@ -1,1 +1,75 @@
-// The rules of the patch grid.
+// The two tables of 01 that are code: the eight winds, and the depth of level 0 by leading zeros.
+ghost use mathlib.Core.Path.{_≡_};
+ghost use Prim.Native.Nat.{_<_, _≤_};
+ghost use Rattle.mesh.specs.Place.{base, rectangle};
+ghost use Rattle.mesh.specs.Winds.{compassAt};
+
+// How far east and how far north a wind goes, each one too large, and the place of the opposite wind in the table.
+pub struct Compass {
+    pub east: u32,
+    pub north: u32,
+    pub opposite: usize,
+}
+
+// NE, SE, SW, NW, N, E, S, W: in the order of a row's words 1 to 8.
+const WINDS: [Compass; 8] = [
+    Compass {
+        east: 2,
+        north: 2,
+        opposite: 2,
+    },
+    Compass {
+        east: 2,
+        north: 0,
+        opposite: 3,
+    },
+    Compass {
+        east: 0,
+        north: 0,
+        opposite: 0,
+    },
+    Compass {
+        east: 0,
+        north: 2,
+        opposite: 1,
+    },
+    Compass {
+        east: 1,
+        north: 2,
+        opposite: 6,
+    },
+    Compass {
+        east: 2,
+        north: 1,
+        opposite: 7,
+    },
+    Compass {
+        east: 1,
+        north: 0,
+        opposite: 4,
+    },
+    Compass {
+        east: 0,
+        north: 1,
+        opposite: 5,
+    },
+];
+
+// The wind of a row's word i + 1.
+pub fn wind(i: usize) -> Compass
+    requires { ⌜ i < 8 ⌝ }
+    ensures { λ r. ⌜ r ≡ compassAt i ⌝ }
+{
+    WINDS[i]
+}
+
+// The depth of level 0: the bit length of the larger of columns and rows.
+pub fn ground_depth(columns: u32, rows: u32) -> u32
+    ensures { λ r. ⌜ r ≡ base (rectangle columns rows) ⌝ }
+{
+    if columns <= rows {
+        32 - u32::leading_zeros(rows)
+    } else {
+        32 - u32::leading_zeros(columns)
+    }
+}

@@ -1,0 +1,27 @@
+-- The table of the winds as the code holds it: a wind by its place in the order of the words.
+-- Assumes nothing.
+use Prim.Native.Nat.{ℕ}
+use mathlib.Core.List.{List, _++_, map}
+use lib.ListN.{getD}
+use Rattle.mesh.specs.Place as Place
+use Rattle.mesh.specs.Place.{Wind, NE, SE, SW, NW, N, E, S, W, kidWinds, sideWinds}
+use Rattle.mesh.specs.declared.Compass.{Compass}
+
+abbrev pub winds : List Wind
+winds = kidWinds ++ sideWinds
+
+abbrev pub position : Wind → ℕ
+position NE = 0
+position SE = 1
+position SW = 2
+position NW = 3
+position N = 4
+position E = 5
+position S = 6
+position W = 7
+
+abbrev pub compassOf : Wind → Compass
+compassOf w = record { east = Place.compass w .east; north = Place.compass w .north; opposite = position (Place.compass w .opposite) }
+
+abbrev pub compassAt : ℕ → Compass
+compassAt i = getD (map compassOf winds) i (record { east = 0; north = 0; opposite = 0 })
