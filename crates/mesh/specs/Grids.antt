@@ -137,6 +137,8 @@ grids =
     -- 'Slips that look right': a scan from level 0 to 0 lists the inner patch at from-level; columns come before rows
     (scanCall 14 (tape 1 1 14 refine2 .lent) 1 (3 ∷ 4 ∷ 2 ∷ 1 ∷ []) 2 (pos 0) (pos 0) (7 ∷ 7 ∷ []) is record { why = 0; count = 1; out = 2 ∷ 7 ∷ [] }) ∷
     (map (λ n. wordAt (build 2 1 20 .lent) 10 n) (4 ∷ 6 ∷ []) is (0 ∷ 1 ∷ [])) ∷
+    -- "touching at a corner only does not count": the middle of 3×3 once the cell at (2,2) is killed
+    (flagsAt (tape 3 3 21 (4 ∷ 0 ∷ 18 ∷ []) .lent) (9 ∷ []) is (7 ∷ [])) ∷
     -- what these tapes leave is sound
     (map (checkCall 20) (tape 2 1 20 refine4 .lent ∷ tape 2 1 20 killed .lent ∷ []) is (0 ∷ 0 ∷ [])) ∷
     []
