@@ -5,3 +5,5 @@ pub mod Places
 pub mod Kids
 pub mod Near
 pub mod Tree
+pub mod Points
+pub mod Tiling

@@ -1,0 +1,71 @@
+-- Points in 1/4096 of a level-0 cell: of each depth one place holds a point, and its parent is the place one depth less that holds it.
+-- Assumes nothing.
+use Prim.Native.Nat.{ℕ, suc, _+_, _-_, _*_, _/_, _^_, _<_}
+use native.Mathlib.Nat.{add-mul, one-mul, pow-suc, one-le-pow, div-eq-of-lt-le, div-mul-le-self, lt-div-mul-add, div-div-eq-div-mul}
+use native.Mathlib.Omega.{arith}
+use mathlib.Core.Path.{_≡_, refl, sym, ap, _∙_}
+use mathlib.Core.Bool.{_&&_}
+use mathlib.Core.Option.{some}
+use lib.Dec.{T, leb, ltb, leb→le, ltb→lt, le→leb, lt→ltb}
+use Rattle.mesh.specs.Place.{Place, Grid, at, base, parent}
+use Rattle.mesh.specs.Lookup.{side, holds}
+use Rattle.geometry.proofs.Bools.{and-both, and-left, and-right}
+use Rattle.geometry.proofs.Places.{place-path}
+use Rattle.geometry.proofs.Kids.{up, parent-up}
+
+-- ---- one index: the interval of length h that a number lies in
+
+index-low : (h u : ℕ) → T (leb (u / h * h) u)
+index-low h u = le→leb (u / h * h) u (div-mul-le-self u h)
+
+index-high : (h u : ℕ) → 0 < h → T (ltb u ((u / h + 1) * h))
+index-high h u l = lt→ltb u ((u / h + 1) * h) (rw (add-mul, one-mul) (lt-div-mul-add l))
+
+is-index : (h i u : ℕ) → T (leb (i * h) u) → T (ltb u ((i + 1) * h)) → i ≡ u / h
+is-index h i u a b = sym (div-eq-of-lt-le h (leb→le (i * h) u a) (ltb→lt u ((i + 1) * h) b))
+
+-- ---- the place that holds a point
+
+-- the place of depth e that holds the point
+unfoldable pub spot : Grid → ℕ → ℕ → ℕ → Place
+spot g e u v = at e (u / 2 ^ (base g + 12 - e)) (v / 2 ^ (base g + 12 - e))
+
+module _ (g : Grid) (u v : ℕ) where
+  pub spot-depth : (e : ℕ) → spot g e u v .depth ≡ e
+  unfolding spot
+  spot-depth e = refl
+
+  pub spot-holds : (e : ℕ) → T (holds g (spot g e u v) u v)
+  unfolding spot holds
+  spot-holds e =
+      let h = 2 ^ (base g + 12 - e) in
+      let l : 0 < h = one-le-pow (base g + 12 - e) 2 (omega arith) in
+      and-both (leb (u / h * h) u) (ltb u ((u / h + 1) * h) && (leb (v / h * h) v && ltb v ((v / h + 1) * h))) (index-low h u)
+      (and-both (ltb u ((u / h + 1) * h)) (leb (v / h * h) v && ltb v ((v / h + 1) * h)) (index-high h u l)
+      (and-both (leb (v / h * h) v) (ltb v ((v / h + 1) * h)) (index-low h v) (index-high h v l)))
+
+  -- and no other place of that depth
+  pub holds-spot : (p : Place) → T (holds g p u v) → p ≡ spot g (p .depth) u v
+  unfolding spot holds
+  holds-spot p t =
+      let h = side g p in
+      let a = leb (p .col * h) u in
+      let b = ltb u ((p .col + 1) * h) in
+      let c = leb (p .row * h) v in
+      let d = ltb v ((p .row + 1) * h) in
+      let t₁ = and-right a (b && (c && d)) t in
+      let t₂ = and-right b (c && d) t₁ in
+      place-path p (at (p .depth) (u / h) (v / h)) refl
+      (is-index h (p .col) u (and-left a (b && (c && d)) t) (and-left b (c && d) t₁))
+      (is-index h (p .row) v (and-left c d t₂) (and-right c d t₂))
+
+  -- "halve the indices, rounding down": half an index is the index in intervals twice as long
+  pub spot-parent : (e : ℕ) → e < base g + 12 → parent (spot g (suc e) u v) ≡ some (spot g e u v)
+  unfolding spot up
+  spot-parent e l = parent-up (spot g (suc e) u v) (omega arith) ∙ ap some (place-path (up (spot g (suc e) u v)) (spot g e u v) refl (half u) (half v))
+    where
+      half : (x : ℕ) → x / 2 ^ (base g + 12 - suc e) / 2 ≡ x / 2 ^ (base g + 12 - e)
+      half x =
+          let k : suc (base g + 12 - suc e) ≡ base g + 12 - e = omega arith in
+          div-div-eq-div-mul x (2 ^ (base g + 12 - suc e)) 2
+          ∙ ap (λ (n : ℕ). x / n) (sym (pow-suc 2 (base g + 12 - suc e)) ∙ ap (λ (n : ℕ). 2 ^ n) k)

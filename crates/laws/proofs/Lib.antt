@@ -1,0 +1,2 @@
+-- The laws of valid states.
+pub mod Lookups
