@@ -5,5 +5,7 @@ pub mod Places
 pub mod Kids
 pub mod Near
 pub mod Tree
+pub mod Base
+pub mod Full
 pub mod Points
 pub mod Tiling

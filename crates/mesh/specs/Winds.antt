@@ -1,6 +1,6 @@
 -- The table of the winds as the code holds it: a wind by its place in the order of the words.
 -- Assumes nothing.
-use Prim.Native.Nat.{ℕ}
+use Prim.Native.Nat.{ℕ, _+_}
 use mathlib.Core.List.{List, _++_, map}
 use lib.ListN.{getD}
 use Rattle.mesh.specs.Place as Place
@@ -19,6 +19,10 @@ position N = 4
 position E = 5
 position S = 6
 position W = 7
+
+-- "1 to 4 kids NE, SE, SW, NW; 5 to 8 neighbours N, E, S, W"
+abbrev pub wordOfWind : Wind → ℕ
+wordOfWind w = position w + 1
 
 abbrev pub compassOf : Wind → Compass
 compassOf w = record { east = Place.compass w .east; north = Place.compass w .north; opposite = position (Place.compass w .opposite) }

@@ -1,0 +1,2 @@
+-- The checker's test.
+pub mod Rowwise

@@ -1,0 +1,74 @@
+-- The words that are worked out from other rows' words: a neighbour from the parent's kids and neighbours, the flags from the neighbours' cells
+-- and the parent's walls.
+-- Assumes nothing.
+use Prim.Native.Nat.{ℕ, _+_, _-_, _%_}
+use mathlib.Core.Bool.{Bool, true, false, not, _&&_, _||_, cond, Bool·beq}
+use mathlib.Core.List.{List, [], _∷_}
+use lib.Dec.{eqb, leb}
+use lib.IntN.{ℤ}
+use Rattle.mesh.specs.Tools.{digits}
+use Rattle.mesh.specs.Place.{Wind, compass}
+use Rattle.mesh.specs.Winds.{wordOfWind}
+use Rattle.table.specs.Words.{wordOf, linkOf, flagOf, depthOf}
+
+-- the word of the kid whose column ends in the digit l and whose row ends in the digit m: NE 1, SE 2, SW 3, NW 4
+abbrev pub kidWord : ℕ → ℕ → ℕ
+kidWord l m = cond (eqb l 1) (2 - m) (3 + m)
+
+-- ---- neighbours
+
+-- a digit moved by an offset (one too large) is still one of the same two, or one of the next two
+abbrev pub staysIn : ℕ → Bool
+staysIn a = leb 1 a && leb a 2
+
+-- the row that is the neighbour: a kid of the parent, or of the parent's neighbour
+unfoldable pub sideOf : List ℤ → ℕ → ℕ → Wind → ℕ
+sideOf t cap n w =
+    let p = linkOf t cap n 0 in
+    let a = wordOf t n 10 % 2 + compass w .east in
+    let b = wordOf t n 11 % 2 + compass w .north in
+    linkOf t cap (cond (staysIn a && staysIn b) p (linkOf t cap p (wordOfWind w))) (kidWord ((a + 1) % 2) ((b + 1) % 2))
+
+-- ---- flags
+
+module _ (t : List ℤ) (cap d : ℕ) where
+  -- a cell stands under the number
+  abbrev pub cellIn : ℕ → Bool
+  cellIn n = flagOf t 0 n
+
+  -- a wall of the row with one cell: it is boundary on level 0, and above where it lies on a boundary wall of the parent
+  unfoldable pub edgeH : ℕ → Bool
+  edgeH n = not (Bool·beq (cellIn n) (cellIn (linkOf t cap n 7))) && (eqb (depthOf t d n) d || (eqb (wordOf t n 11 % 2) 0 && flagOf t 4 (linkOf t cap n 0)))
+
+  unfoldable pub edgeV : ℕ → Bool
+  edgeV n = not (Bool·beq (cellIn n) (cellIn (linkOf t cap n 8))) && (eqb (depthOf t d n) d || (eqb (wordOf t n 10 % 2) 0 && flagOf t 5 (linkOf t cap n 0)))
+
+  unfoldable pub innerH : ℕ → Bool
+  innerH n = not (Bool·beq (cellIn n) (cellIn (linkOf t cap n 7))) && not (edgeH n)
+
+  unfoldable pub innerV : ℕ → Bool
+  innerV n = not (Bool·beq (cellIn n) (cellIn (linkOf t cap n 8))) && not (edgeV n)
+
+  -- the flags of a row from level 0 up, bit 0 first; a neighbour's walls are read off its flags
+  unfoldable pub flagsFrom : ℕ → Bool → List Bool
+  flagsFrom n sentenced =
+      let c = cellIn n in
+      let north = linkOf t cap n 5 in
+      let east = linkOf t cap n 6 in
+      let south = linkOf t cap n 7 in
+      let west = linkOf t cap n 8 in
+      c ∷
+      (c || cellIn south) ∷
+      (c || cellIn west) ∷
+      (edgeH n || (flagOf t 4 west || (edgeV n || flagOf t 5 south))) ∷
+      edgeH n ∷
+      edgeV n ∷
+      (c && (edgeH n || (flagOf t 4 north || (edgeV n || flagOf t 5 east)))) ∷
+      (innerH n || (flagOf t 8 west || (innerV n || flagOf t 9 south))) ∷
+      innerH n ∷
+      innerV n ∷
+      (c && (innerH n || (flagOf t 8 north || (innerV n || flagOf t 9 east)))) ∷
+      false ∷
+      sentenced ∷
+      false ∷
+      []

@@ -1,0 +1,1 @@
+// The lent table: every read and write of its words and values.
