@@ -2,6 +2,7 @@
 pub mod Bools
 pub mod Lists
 pub mod Places
+pub mod Distinct
 pub mod Kids
 pub mod Near
 pub mod Tree
@@ -9,3 +10,5 @@ pub mod Base
 pub mod Full
 pub mod Points
 pub mod Tiling
+pub mod Wanted
+pub mod Growing

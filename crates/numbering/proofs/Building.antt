@@ -19,7 +19,7 @@ use Rattle.geometry.proofs.Base.{Rectangle}
 use Rattle.geometry.proofs.Full.{full-mesh}
 use Rattle.numbering.proofs.Entries.{stands-in}
 use Rattle.numbering.proofs.Numbers.{Numbered, contents, cells-contents}
-use Rattle.numbering.proofs.Levels.{numbered-once, numbered-patch, patch-numbered, numbered-first}
+use Rattle.numbering.proofs.Levels.{numbered-distinct, numbered-patch, patch-numbered, numbered-first}
 use Rattle.numbering.proofs.Written.{written, written-there, written-not-nil, written-count, written-length, written-numbered, written-entry, written-contents}
 
 -- ---- what a build gives to each place
@@ -68,12 +68,12 @@ module _ (g : Grid) (cap : ℕ) (in-range : Rectangle g) where
 
   pub built-numbered : Numbered (built g cap .entries)
   unfolding built
-  built-numbered = written-numbered (given g) (cap - length (numbered g)) (numbered g) (numbered-once g in-range)
+  built-numbered = written-numbered (given g) (cap - length (numbered g)) (numbered g) (numbered-distinct g in-range)
 
   pub built-contents : (q : Place) → contents (built g cap .entries) q ≡ cond (full g q) (some blankCell) none
   unfolding built
   built-contents q =
-      written-contents (given g) (cap - length (numbered g)) (numbered g) (numbered-once g in-range) q ∙ go (any (same q) (numbered g)) refl
+      written-contents (given g) (cap - length (numbered g)) (numbered g) (numbered-distinct g in-range) q ∙ go (any (same q) (numbered g)) refl
     where
       go : (b : Bool) → any (same q) (numbered g) ≡ b → cond b (given g q) none ≡ given g q
       go true e = refl
@@ -91,7 +91,7 @@ module _ (g : Grid) (cap : ℕ) (in-range : Rectangle g) where
   built-entry : (n : ℕ) (p : Place) → placeOf (entry (built g cap .entries) n) ≡ some p → T (patch g (full g) p) × (entry (built g cap .entries) n ≡ used p (given g p))
   unfolding built
   built-entry n p e =
-      let (i, h) = written-entry (given g) (cap - length (numbered g)) (numbered g) (numbered-once g in-range) n p e in
+      let (i, h) = written-entry (given g) (cap - length (numbered g)) (numbered g) (numbered-distinct g in-range) n p e in
       (numbered-patch g in-range p i, h)
 
   built-blank : (n : ℕ) (p : Place) (x : Cell) → entry (built g cap .entries) n ≡ used p (some x) → x ≡ blankCell

@@ -22,7 +22,7 @@ use Rattle.geometry.proofs.Kids.{up, parent-up, up-depth, parent-depth, parent-
 use Rattle.geometry.proofs.Tree.{patch-up}
 use Rattle.geometry.proofs.Base.{Rectangle, depth-zero-root, root-patch}
 use Rattle.geometry.proofs.Full.{full-mesh, full-depth}
-use Rattle.numbering.proofs.Distinct.{Once, in-append, append-left, append-right, once-append, keep-in, in-keep, keep-once}
+use Rattle.geometry.proofs.Distinct.{Distinct, in-append, append-left, append-right, distinct-append, keep-in, in-keep, keep-distinct}
 
 -- ---- the kids of a list of places
 
@@ -70,8 +70,8 @@ other-kids p w (v ∷ ws) h t =
     go d (inl e) ih = T-not (eqb (turn w) (turn v)) d (rw (same-turn p w v e) (eqb-refl (turn v)))
     go d (inr i) ih = ih i
 
-born-once : (p : Place) → Once (born p)
-born-once p = (other-kids p SW (NW ∷ SE ∷ NE ∷ []) tt, (other-kids p NW (SE ∷ NE ∷ []) tt, (other-kids p SE (NE ∷ []) tt, (other-kids p NE [] tt, tt))))
+born-distinct : (p : Place) → Distinct (born p)
+born-distinct p = (other-kids p SW (NW ∷ SE ∷ NE ∷ []) tt, (other-kids p NW (SE ∷ NE ∷ []) tt, (other-kids p SE (NE ∷ []) tt, (other-kids p NE [] tt, tt))))
 
 abbrev brood : List Place → List Place
 brood ps = flat (map born ps)
@@ -92,9 +92,9 @@ parent-brood (r ∷ ps) p q i e = go (in-cases p r ps i) (parent-brood ps p q)
     go (inl h) ih = append-left q (born r) (brood ps) (born-kid r q (e ∙ ap some h))
     go (inr j) ih = append-right q (born r) (brood ps) (ih j e)
 
-brood-once : (ps : List Place) → Once ps → Once (brood ps)
-brood-once [] o = tt
-brood-once (p ∷ ps) o = once-append (born p) (brood ps) (born-once p) (brood-once ps (o .1)) apart
+brood-distinct : (ps : List Place) → Distinct ps → Distinct (brood ps)
+brood-distinct [] o = tt
+brood-distinct (p ∷ ps) o = distinct-append (born p) (brood ps) (born-distinct p) (brood-distinct ps (o .1)) apart
   where
     apart : (q : Place) → In q (born p) → In q (brood ps) → ⊥
     apart q i j =
@@ -107,7 +107,7 @@ brood-once (p ∷ ps) o = once-append (born p) (brood ps) (born-once p) (brood-o
 module _ (g : Grid) (in-range : Rectangle g) where
   -- exactly the patches of these depths, each once
   pub record Patches (low high : ℕ) (ps : List Place) : Type 0 where
-    pub once : Once ps
+    pub once : Distinct ps
     pub holds : (q : Place) → In q ps → (low ≤ q .depth) × (q .depth ≤ high) × T (patch g (full g) q)
     pub all-of : (q : Place) → low ≤ q .depth → q .depth ≤ high → T (patch g (full g) q) → In q ps
 
@@ -121,7 +121,7 @@ module _ (g : Grid) (in-range : Rectangle g) where
   next-level : (e : ℕ) (ps : List Place) → Patches e e ps → Patches (suc e) (suc e) (nextLevel g ps)
   unfolding nextLevel
   next-level e ps l = record {
-    once = keep-once (patch g (full g)) (brood ps) (brood-once ps (l .once));
+    once = keep-distinct (patch g (full g)) (brood ps) (brood-distinct ps (l .once));
     holds = λ q t.
         let (i, u) = keep-in (patch g (full g)) (brood ps) q t in
         let (p, j, h) = brood-parent ps q i in
@@ -137,7 +137,7 @@ module _ (g : Grid) (in-range : Rectangle g) where
   -- the patches of some depths, and then those of the depths that follow
   joined : (a b c : ℕ) (ps rs : List Place) → a ≤ b → b ≤ c → Patches a b ps → Patches (suc b) c rs → Patches a c (ps ++ rs)
   joined a b c ps rs ab bc l m = record {
-    once = once-append ps rs (l .once) (m .once) (λ q i j. let (v, w, t) = l .holds q i in let (x, y, u) = m .holds q j in omega arith);
+    once = distinct-append ps rs (l .once) (m .once) (λ q i j. let (v, w, t) = l .holds q i in let (x, y, u) = m .holds q j in omega arith);
     holds = λ q t. member q (in-append q ps rs t);
     all-of = λ q x y t. place q x y t (decLe (q .depth) b);
   }
@@ -162,8 +162,8 @@ module _ (g : Grid) (in-range : Rectangle g) where
 
   -- ---- the numbering of a build
 
-  pub numbered-once : Once (numbered g)
-  numbered-once = all-levels .once
+  pub numbered-distinct : Distinct (numbered g)
+  numbered-distinct = all-levels .once
 
   pub numbered-patch : (q : Place) → In q (numbered g) → T (patch g (full g) q)
   numbered-patch q t = let (a, b, u) = all-levels .holds q t in u

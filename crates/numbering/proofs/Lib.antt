@@ -1,8 +1,10 @@
 -- The laws of the numbering, bottom up.
 pub mod Entries
 pub mod Numbers
-pub mod Distinct
+pub mod Checks
 pub mod Levels
 pub mod Filling
 pub mod Written
 pub mod Building
+pub mod Giving
+pub mod Refining

@@ -17,7 +17,7 @@ use Rattle.mesh.specs.State.{Entry, nil, free, used, Cell, isNil, isUsed, place
 use Rattle.geometry.proofs.Bools.{is-yes}
 use Rattle.geometry.proofs.Places.{In, in-cases, in-here, in-there}
 use Rattle.numbering.proofs.Numbers.{Numbered, number-place, contents, entry-contents}
-use Rattle.numbering.proofs.Distinct.{Once}
+use Rattle.geometry.proofs.Distinct.{Distinct}
 
 module _ (x : Place → Option Cell) (k : ℕ) where
   abbrev pub written : List Place → List Entry
@@ -44,7 +44,7 @@ module _ (x : Place → Option Cell) (k : ℕ) where
       go (inr j) ih = let (n, h) = ih j in (suc n, h)
 
   -- and only one
-  written-once : (ps : List Place) → Once ps → (n m : ℕ) (p : Place) → placeOf (getD (written ps) n nil) ≡ some p → placeOf (getD (written ps) m nil) ≡ some p → n ≡ m
+  written-once : (ps : List Place) → Distinct ps → (n m : ℕ) (p : Place) → placeOf (getD (written ps) n nil) ≡ some p → placeOf (getD (written ps) m nil) ≡ some p → n ≡ m
   written-once [] o n m p a b = absurd (Option·none-ne-some _ (sym (free-none k n) ∙ a))
   written-once (q ∷ ps) o zero zero p a b = refl
   written-once (q ∷ ps) o zero (suc m) p a b = absurd (o .0 (rw (Option·some-injective _ _ a) (written-given ps m p b .0)))
@@ -72,7 +72,7 @@ module _ (x : Place → Option Cell) (k : ℕ) where
   pub written-length : (ps : List Place) → length (written ps) ≡ length ps + k
   written-length ps = simp (length-append, length-map, length-replicate)
 
-  module _ (ps : List Place) (o : Once ps) where
+  module _ (ps : List Place) (o : Distinct ps) where
     pub written-numbered : Numbered (nil ∷ written ps)
     written-numbered = record { zeroth = refl; once = once }
       where

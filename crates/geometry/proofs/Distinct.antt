@@ -7,14 +7,14 @@ use mathlib.Core.List.{List, [], _∷_, _++_}
 use lib.Dec.{T}
 use Rattle.mesh.specs.Tools.{any, keep}
 use Rattle.mesh.specs.Place.{Place, same}
 use Rattle.geometry.proofs.Bools.{or-left, or-right, or-cases}
 use Rattle.geometry.proofs.Lists.{any-append}
 use Rattle.geometry.proofs.Places.{In, in-cases, in-here, in-there}
 
 -- no place stands twice
-abbrev pub Once : List Place → Type 0
-Once [] = Unit {0}
-Once (p ∷ ps) = (In p ps → ⊥) × Once ps
+abbrev pub Distinct : List Place → Type 0
+Distinct [] = Unit {0}
+Distinct (p ∷ ps) = (In p ps → ⊥) × Distinct ps
 
 -- ---- one list after another
 
@@ -28,9 +28,9 @@ pub append-right : (q : Place) (ps rs : List Place) → In q rs → In q (ps ++ 
 append-right q ps rs t = rw (any-append (same q) ps rs) (or-right (any (same q) ps) (any (same q) rs) t)
 
 -- the lists have no place in common
-pub once-append : (ps rs : List Place) → Once ps → Once rs → ((q : Place) → In q ps → In q rs → ⊥) → Once (ps ++ rs)
-once-append [] rs a b h = b
-once-append (p ∷ ps) rs a b h = (λ t. go (in-append p ps rs t), once-append ps rs (a .1) b (λ q i j. h q (in-there q p ps i) j))
+pub distinct-append : (ps rs : List Place) → Distinct ps → Distinct rs → ((q : Place) → In q ps → In q rs → ⊥) → Distinct (ps ++ rs)
+distinct-append [] rs a b h = b
+distinct-append (p ∷ ps) rs a b h = (λ t. go (in-append p ps rs t), distinct-append ps rs (a .1) b (λ q i j. h q (in-there q p ps i) j))
   where
     go : In p ps ⊎ In p rs → ⊥
     go (inl i) = a .0 i
@@ -64,10 +64,10 @@ module _ (f : Place → Bool) where
       go false e (inl s) ih = absurd (let t : T (f p) = rw (← s) h in let u : T false = rw e at t in u)
       go false e (inr j) ih = rw e (ih j h)
 
-  pub keep-once : (ps : List Place) → Once ps → Once (keep f ps)
-  keep-once [] o = tt
-  keep-once (p ∷ ps) o = go (f p) refl (keep-once ps (o .1))
+  pub keep-distinct : (ps : List Place) → Distinct ps → Distinct (keep f ps)
+  keep-distinct [] o = tt
+  keep-distinct (p ∷ ps) o = go (f p) refl (keep-distinct ps (o .1))
     where
-      go : (b : Bool) → f p ≡ b → Once (keep f ps) → Once (keep f (p ∷ ps))
+      go : (b : Bool) → f p ≡ b → Distinct (keep f ps) → Distinct (keep f (p ∷ ps))
       go true e ih = rw e (λ t. o .0 (keep-in ps p t .0), ih)
       go false e ih = rw e ih

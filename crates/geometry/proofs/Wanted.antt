@@ -1,0 +1,200 @@
+-- The nine places that a refinement wants are the corners of the kids, each once.
+-- Assumes nothing.
+use Prim.Native.Nat.{ℕ, suc, _+_, _-_, _*_, _<_}
+use native.Mathlib.Omega.{arith}
+use mathlib.Core.Path.{_≡_, refl, sym, ap, _∙_, subst}
+use mathlib.Core.Logic.{_⊎_, inl, inr}
+use mathlib.Core.Bool.{Bool, true, not, _&&_}
+use mathlib.Core.Option.{some, Option·some-injective}
+use mathlib.Core.List.{List, [], _∷_, map}
+use lib.Dec.{T, T-not, eqb, eqb-refl, lit<}
+use lib.ListN.{getD}
+use Rattle.mesh.specs.Tools.{any}
+use Rattle.mesh.specs.Place.{Place, Grid, same, root, toNorth, toEast, toSouth, toWest, kid, kids, parent, Wind, NE, SE, SW, NW}
+use Rattle.mesh.specs.Request.{wanted}
+use Rattle.geometry.proofs.Bools.{and-left, and-right}
+use Rattle.geometry.proofs.Lists.{any-at, any-map}
+use Rattle.geometry.proofs.Places.{In, in-cases, in-any, is-same, north-south, east-west}
+use Rattle.geometry.proofs.Kids.{in-parent, parent-in, parent-kid, parent-depth}
+use Rattle.geometry.proofs.Distinct.{Distinct}
+use Rattle.geometry.proofs.Near.{Corner, c-here, c-east, c-north, c-both, corner-cast, corner-depth}
+
+-- ---- steps among kids
+
+-- from an even index to the odd one of the same pair, and on to the next pair
+to-odd : (n : ℕ) → suc (2 * n + 0) ≡ 2 * n + 1
+to-odd n = omega arith
+
+to-next : (n : ℕ) → suc (2 * n + 1) ≡ 2 * suc n + 0
+to-next n = omega arith
+
+module _ (g : Grid) (p : Place) where
+  -- one step within the four
+  pub east-sw : toEast g (kid SW p) ≡ kid SE p
+  unfolding toEast kid
+  east-sw = rw (to-odd (p .col))
+
+  pub east-nw : toEast g (kid NW p) ≡ kid NE p
+  unfolding toEast kid
+  east-nw = rw (to-odd (p .col))
+
+  pub north-sw : toNorth g (kid SW p) ≡ kid NW p
+  unfolding toNorth kid
+  north-sw = rw (to-odd (p .row))
+
+  pub north-se : toNorth g (kid SE p) ≡ kid NE p
+  unfolding toNorth kid
+  north-se = rw (to-odd (p .row))
+
+  -- and out of them
+  pub east-se : toEast g (kid SE p) ≡ kid SW (toEast g p)
+  unfolding toEast kid
+  east-se = rw (to-next (p .col))
+
+  pub east-ne : toEast g (kid NE p) ≡ kid NW (toEast g p)
+  unfolding toEast kid
+  east-ne = rw (to-next (p .col))
+
+  pub north-nw : toNorth g (kid NW p) ≡ kid SW (toNorth g p)
+  unfolding toNorth kid
+  north-nw = rw (to-next (p .row))
+
+  pub north-ne : toNorth g (kid NE p) ≡ kid SE (toNorth g p)
+  unfolding toNorth kid
+  north-ne = rw (to-next (p .row))
+
+-- one place alone leads to a place by a step east, and one by a step north
+pub east-once : (g : Grid) (p q : Place) → toEast g p ≡ toEast g q → p ≡ q
+east-once g p q e = Option·some-injective _ _ (sym (east-west g p) ∙ ap (toWest g) e ∙ east-west g q)
+
+pub north-once : (g : Grid) (p q : Place) → toNorth g p ≡ toNorth g q → p ≡ q
+north-once g p q e = Option·some-injective _ _ (sym (north-south g p) ∙ ap (toSouth g) e ∙ north-south g q)
+
+-- the point in the middle of p is a corner of the kids alone
+pub middle-kid : (g : Grid) (r p : Place) → Corner g r (kid NE p) → parent r ≡ some p
+middle-kid g r p k = go (kid NE p) refl k
+  where
+    is : (w : Wind) → r ≡ kid w p → parent r ≡ some p
+    is w e = ap parent e ∙ parent-kid w p
+
+    go : (q : Place) → q ≡ kid NE p → Corner g r q → parent r ≡ some p
+    go q e c-here = is NE e
+    go q e c-east = is NW (east-once g r (kid NW p) (e ∙ sym (east-nw g p)))
+    go q e c-north = is SE (north-once g r (kid SE p) (e ∙ sym (north-se g p)))
+    go q e c-both = is SW (east-once g r (kid SW p) (north-once g (toEast g r) (kid SE p) (e ∙ sym (north-se g p)) ∙ sym (east-sw g p)))
+
+-- ---- a property of each place of a list
+
+abbrev Each : (Place → Type 0) → List Place → Type 0
+Each P [] = Unit {0}
+Each P (p ∷ ps) = P p × Each P ps
+
+each-in : (P : Place → Type 0) (ps : List Place) → Each P ps → (q : Place) → In q ps → P q
+each-in P [] h q t = absurd t
+each-in P (p ∷ ps) h q t = go (in-cases q p ps t) (each-in P ps (h .1) q)
+  where
+    go : (q ≡ p) ⊎ In q ps → (In q ps → P q) → P q
+    go (inl e) f = subst P (sym e) (h .0)
+    go (inr i) f = f i
+
+-- ---- the nine are the corners of the kids
+
+module _ (g : Grid) (p : Place) where
+  far : toNorth g (toEast g (kid NE p)) ≡ kid SW (toNorth g (toEast g p))
+  far = ap (toNorth g) (east-ne g p) ∙ north-nw g (toEast g p)
+
+  pub wanted-corner : (q : Place) → In q (wanted g p) → (r : Place) × (parent r ≡ some p) × Corner g r q
+  unfolding wanted
+  wanted-corner = each-in (λ q. (r : Place) × (parent r ≡ some p) × Corner g r q) (wanted g p) (
+    here SW,
+    (
+      here SE,
+      (
+        here NW,
+        (
+          here NE,
+          (
+            of NW (north-nw g p) c-north,
+            (
+              of NE (north-ne g p) c-north,
+              (of NE (east-ne g p) c-east, (of SE (east-se g p) c-east, (of NE far c-both, tt))),
+            ),
+          ),
+        ),
+      ),
+    ),
+  )
+    where
+      of : (w : Wind) {q x : Place} → x ≡ q → Corner g (kid w p) x → (r : Place) × (parent r ≡ some p) × Corner g r q
+      of w e k = (kid w p, parent-kid w p, corner-cast e k)
+
+      here : (w : Wind) → (r : Place) × (parent r ≡ some p) × Corner g r (kid w p)
+      here w = of w refl c-here
+
+  -- the one at an index
+  nth : (i : ℕ) (q : Place) → i < 9 → q ≡ getD (wanted g p) i root → In q (wanted g p)
+  unfolding wanted
+  nth i q l e = any-at (same q) root (wanted g p) i l (is-same q (getD (wanted g p) i root) e)
+
+  -- of each kid the point itself, and the points east, north and both
+  abbrev Corners : Place → Type 0
+  Corners r = In r (wanted g p) × In (toEast g r) (wanted g p) × In (toNorth g r) (wanted g p) × In (toNorth g (toEast g r)) (wanted g p)
+
+  kid-corners : (r : Place) → In r (kids p) → Corners r
+  unfolding wanted kids
+  kid-corners = each-in Corners (kids p) (
+    (nth 3 _ (lit< tt) refl, nth 6 _ (lit< tt) (east-ne g p), nth 5 _ (lit< tt) (north-ne g p), nth 8 _ (lit< tt) far),
+    (
+      (nth 1 _ (lit< tt) refl, nth 7 _ (lit< tt) (east-se g p), nth 3 _ (lit< tt) (north-se g p), nth 6 _ (lit< tt) (ap (toNorth g) (east-se g p) ∙ north-sw g (toEast g p))),
+      (
+        (nth 0 _ (lit< tt) refl, nth 1 _ (lit< tt) (east-sw g p), nth 2 _ (lit< tt) (north-sw g p), nth 3 _ (lit< tt) (ap (toNorth g) (east-sw g p) ∙ north-se g p)),
+        (
+          (nth 2 _ (lit< tt) refl, nth 3 _ (lit< tt) (east-nw g p), nth 4 _ (lit< tt) (north-nw g p), nth 5 _ (lit< tt) (ap (toNorth g) (east-nw g p) ∙ north-ne g p)),
+          tt,
+        ),
+      ),
+    ),
+  )
+
+  pub corner-wanted : {r q : Place} → parent r ≡ some p → Corner g r q → In q (wanted g p)
+  corner-wanted {r} e c-here = kid-corners r (parent-in r p e) .0
+  corner-wanted {r} e c-east = kid-corners r (parent-in r p e) .1
+  corner-wanted {r} e c-north = kid-corners r (parent-in r p e) .2
+  corner-wanted {r} e c-both = kid-corners r (parent-in r p e) .3
+
+  pub kid-wanted : (q : Place) → In q (kids p) → In q (wanted g p)
+  kid-wanted q i = corner-wanted (in-parent q p i) c-here
+
+  pub wanted-depth : (q : Place) → In q (wanted g p) → q .depth ≡ suc (p .depth)
+  wanted-depth q i = let (r, e, k) = wanted-corner q i in corner-depth k ∙ parent-depth r p e
+
+-- ---- each once
+
+abbrev differ : List ℕ → Bool
+differ [] = true
+differ (n ∷ ns) = not (any (eqb n) ns) && differ ns
+
+-- places with different numbers are distinct
+numbers-distinct : (f : Place → ℕ) (ps : List Place) → T (differ (map f ps)) → Distinct ps
+numbers-distinct f [] t = tt
+numbers-distinct f (p ∷ ps) t =
+    let a = not (any (eqb (f p)) (map f ps)) in (
+      λ i. T-not (any (eqb (f p)) (map f ps)) (and-left a (differ (map f ps)) t) (rw (any-map (eqb (f p)) f ps) (in-any (λ q. eqb (f p) (f q)) ps p i (eqb-refl (f p)))),
+      numbers-distinct f ps (and-right a (differ (map f ps)) t),
+    )
+
+-- how far from the even index of a pair
+at-even : (n : ℕ) → 2 * n + 0 - 2 * n ≡ 0
+at-even n = omega arith
+
+at-odd : (n : ℕ) → 2 * n + 1 - 2 * n ≡ 1
+at-odd n = omega arith
+
+at-next : (n : ℕ) → 2 * suc n + 0 - 2 * n ≡ 2
+at-next n = omega arith
+
+-- counted along the rows from the south-west
+pub wanted-distinct : (g : Grid) (p : Place) → Distinct (wanted g p)
+unfolding wanted kid toNorth toEast
+wanted-distinct g p =
+    numbers-distinct (λ q. q .col - 2 * p .col + 3 * (q .row - 2 * p .row)) (wanted g p) (simp (at-even, at-odd, at-next) tt)

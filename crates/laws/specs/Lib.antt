@@ -1,0 +1,2 @@
+-- The set rules, and what a list of tapes does.
+pub mod Deeds
