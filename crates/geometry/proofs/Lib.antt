@@ -12,3 +12,4 @@ pub mod Points
 pub mod Tiling
 pub mod Wanted
 pub mod Growing
+pub mod Shrinking

@@ -8,3 +8,9 @@ pub mod Written
 pub mod Building
 pub mod Giving
 pub mod Refining
+pub mod Pruning
+pub mod ByPlace
+pub mod Keeping
+pub mod Naming
+pub mod Marking
+pub mod Taking
