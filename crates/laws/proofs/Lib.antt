@@ -1,2 +1,4 @@
--- The laws of valid states.
+-- The laws of demand 3, and of refusals.
 pub mod Lookups
+pub mod Refusals
+pub mod Requests

@@ -281,9 +281,22 @@ module _ (s : State) (v : Valid s) (n : ℕ) (p : Place) (x : Cell) (r : Refinab
     fill-used (kids p) (some (kidCell x)) (given .entries) ∙ have .used-more,
   )
 
+  effect-frame : (effect s (refine n) .header ≡ s .header) × (length (effect s (refine n) .entries) ≡ length (s .entries))
+  effect-frame = rw effect-is (refl, fill-length (kids p) (some (kidCell x)) (given .entries) ∙ have .long-same)
+
+  effect-stays : (q : Place) → T (patch g c q) → T (patch g (cells (effect s (refine n) .entries)) q)
+  effect-stays q t = rw (effect-is, after-cells) (grown-patch g c (v .mesh) p here q (inl t))
+
 -- ---- an accepted refinement
 
 module _ (s : State) (v : Valid s) (n : ℕ) (ok : refusal (checks s (refine n)) ≡ 0) where
+  pub refine-frame : (effect s (refine n) .header ≡ s .header) × (length (effect s (refine n) .entries) ≡ length (s .entries))
+  refine-frame = let (p, x, r) = refinable s v n ok in effect-frame s v n p x r
+
+  -- every patch stays
+  pub refine-stays : (q : Place) → T (patch (gridOf s) (cells (s .entries)) q) → T (patch (gridOf s) (cells (effect s (refine n) .entries)) q)
+  refine-stays q t = let (p, x, r) = refinable s v n ok in effect-stays s v n p x r q t
+
   -- the kids have what the refined cell hands down, and every other place has what it had
   pub refine-contents : (q : Place) → contents (effect s (refine n) .entries) q ≡ cond (any (same q) (kids (placeAt (s .entries) n))) (Option·map kidCell (contents (s .entries) (placeAt (s .entries) n))) (contents (s .entries) q)
   refine-contents q = let (p, x, r) = refinable s v n ok in effect-contents s v n p x r q

@@ -1,0 +1,123 @@
+-- An accepted request: it keeps the state valid, changes the cells by its set rule, and keeps the numbers of the patches that stay.
+-- Assumes nothing.
+use Prim.Native.Nat.{ℕ, zero, suc, _+_, _%_}
+use native.Mathlib.Omega.{arith}
+use mathlib.Core.Path.{_≡_, refl, sym, ap, _∙_, subst, fun-ext}
+use mathlib.Core.Logic.{_≢_}
+use mathlib.Core.Bool.{Bool, true, false, cond}
+use mathlib.Core.Option.{Option, none, some}
+use mathlib.Core.List.{List, [], _∷_}
+use lib.Dec.{T, eqb}
+use lib.ListN.{length}
+use borrow.Author.Tests.{ne-eqb}
+use Rattle.mesh.specs.Place.{Place, same}
+use Rattle.mesh.specs.Mesh.{patch}
+use Rattle.mesh.specs.Tools.{any}
+use Rattle.mesh.specs.State.{State, Header, Entry, free, Cell, Value, blank, measured, carried, placeOf, entry, cells, number, gridOf, capacity}
+use Rattle.mesh.specs.Valid.{Valid, ValueRule}
+use Rattle.mesh.specs.Refusal.{refusal}
+use Rattle.mesh.specs.Request.{Request, refine, sentence, remove, kill, setValue, checks, effect, marked, Result, refused, accepted, request}
+use Rattle.geometry.proofs.Bools.{yes-is}
+use Rattle.numbering.proofs.Numbers.{contents, valid-numbered, number-place}
+use Rattle.numbering.proofs.Keeping.{Kept}
+use Rattle.numbering.proofs.Marking.{sentence-kept, setValue-kept}
+use Rattle.numbering.proofs.Taking.{remove-kept, kill-kept}
+use Rattle.numbering.proofs.Refining.{refine-valid, refine-contents, refine-number, refine-frame, refine-stays}
+use Rattle.laws.specs.Deeds.{deedOf, setRule}
+
+-- ---- the mark plays no part
+
+rule-marked : (s : State) (p : Place) (w : Value) → ValueRule s p w → ValueRule (marked s) p w
+unfolding marked
+rule-marked s p blank r = r
+rule-marked s p (measured x) r = r
+rule-marked s p (carried x) r = r
+
+marked-valid : (s : State) → Valid s → Valid (marked s)
+unfolding marked
+marked-valid s v = record {
+  sizes = v .sizes;
+  rectangle = v .rectangle;
+  zeroth = v .zeroth;
+  others = v .others;
+  mesh = v .mesh;
+  each = v .each;
+  every = v .every;
+  once = v .once;
+  first-root = v .first-root;
+  sentences = v .sentences;
+  values = λ n p x e. rule-marked s p (x .value) (v .values n p x e);
+}
+
+-- ---- what an accepted request leaves
+
+pub accepted-is : (s : State) (r : Request) (t : State) → request s r ≡ accepted t → (refusal (checks s r) ≡ 0) × (t ≡ marked (effect s r))
+unfolding request
+accepted-is s r t h = go (refusal (checks s r)) refl
+  where
+    go : (k : ℕ) → refusal (checks s r) ≡ k → (refusal (checks s r) ≡ 0) × (t ≡ marked (effect s r))
+    go zero e = let x : accepted (marked (effect s r)) ≡ accepted t = rw e at h in (e, cc)
+    go (suc k) e = absurd (let x : refused (suc k) ≡ accepted t = rw (e, ne-eqb (suc k) 0 (λ y. omega arith)) at h in let z : _≡_ {A = ℕ} 0 1 = cc in omega arith)
+
+-- what an accepted request does to a state s, in which the cells at ps become x
+pub record Done (s : State) (r : Request) (t : State) : Type 0 where
+  pub valid : Valid t
+  pub same-grid : gridOf t ≡ gridOf s
+  pub same-length : length (t .entries) ≡ length (s .entries)
+  pub next-mark : t .header .mark ≡ (s .header .mark + 1) % 65536
+  -- the mesh by the set rule alone
+  pub by-rule : contents (t .entries) ≡ setRule (deedOf (s .entries) r) (contents (s .entries))
+  -- a patch that stays keeps its number, and the number of one that goes is free
+  pub keeps : (q : Place) → number (s .entries) q ≢ 0 → T (patch (gridOf t) (cells (t .entries)) q) → number (t .entries) q ≡ number (s .entries) q
+  pub frees : (n : ℕ) (q : Place) → placeOf (entry (s .entries) n) ≡ some q → (T (patch (gridOf t) (cells (t .entries)) q) → ⊥) → entry (t .entries) n ≡ free
+
+-- the same of the state before the mark is raised
+record Effected (s : State) (r : Request) : Type 0 where
+  valid : Valid (effect s r)
+  same-header : effect s r .header ≡ s .header
+  same-length : length (effect s r .entries) ≡ length (s .entries)
+  by-rule : (q : Place) → contents (effect s r .entries) q ≡ setRule (deedOf (s .entries) r) (contents (s .entries)) q
+  keeps : (q : Place) → number (s .entries) q ≢ 0 → T (patch (gridOf s) (cells (effect s r .entries)) q) → number (effect s r .entries) q ≡ number (s .entries) q
+  frees : (n : ℕ) (q : Place) → placeOf (entry (s .entries) n) ≡ some q → (T (patch (gridOf s) (cells (effect s r .entries)) q) → ⊥) → entry (effect s r .entries) n ≡ free
+
+kept-effected : (s : State) (r : Request) (ps : List Place) (x : Option Cell) → ((q : Place) → setRule (deedOf (s .entries) r) (contents (s .entries)) q ≡ cond (any (same q) ps) x (contents (s .entries) q)) → Kept s ps x (effect s r) → Effected s r
+kept-effected s r ps x rule k = record {
+  valid = k .valid;
+  same-header = k .header-is;
+  same-length = k .length-is;
+  by-rule = λ q. k .contents-is q ∙ sym (rule q);
+  keeps = λ q h t. k .number-is q ∙ rw (yes-is (patch (gridOf s) (cells (effect s r .entries)) q) t);
+  frees = k .freed;
+}
+
+effected : (s : State) → Valid s → (r : Request) → refusal (checks s r) ≡ 0 → Effected s r
+unfolding setRule
+effected s v (refine n) ok = record {
+  valid = refine-valid s v n ok;
+  same-header = refine-frame s v n ok .0;
+  same-length = refine-frame s v n ok .1;
+  by-rule = refine-contents s v n ok;
+  keeps = λ q h t. refine-number s v n ok q h;
+  frees = λ m q h f. absurd (f (refine-stays s v n ok q (v .each m q h)));
+}
+effected s v (sentence n) ok = kept-effected s (sentence n) _ _ (λ q. refl) (sentence-kept s v n ok)
+effected s v (remove n) ok = kept-effected s (remove n) _ _ (λ q. refl) (remove-kept s v n ok)
+effected s v (kill n) ok = kept-effected s (kill n) _ _ (λ q. refl) (kill-kept s v n ok)
+effected s v (setValue n x) ok = kept-effected s (setValue n x) _ _ (λ q. refl) (setValue-kept s v n x ok)
+
+marked-done : (s : State) (r : Request) → Effected s r → Done s r (marked (effect s r))
+unfolding marked
+marked-done s r k = record {
+  valid = marked-valid (effect s r) (k .valid);
+  same-grid = ap (λ (x : Header). x .grid) (k .same-header);
+  same-length = k .same-length;
+  next-mark = ap (λ (x : Header). (x .mark + 1) % 65536) (k .same-header);
+  by-rule = fun-ext (k .by-rule);
+  keeps = λ q h t. k .keeps q h (rw (k .same-header) at t);
+  frees = λ n q h f. k .frees n q h (λ t. f (rw (k .same-header) t));
+}
+
+pub request-done : (s : State) → Valid s → (r : Request) (t : State) → request s r ≡ accepted t → Done s r t
+request-done s v r t h =
+    let (ok, e) = accepted-is s r t h in
+    subst (Done s r) (sym e) (marked-done s r (effected s v r ok))

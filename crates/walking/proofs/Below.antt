@@ -1,0 +1,78 @@
+-- The places under a place: those whose parent, so many times, it is. A patch has a patch at each place above it, and the root above all.
+-- Assumes nothing.
+use Prim.Native.Nat.{ℕ, zero, suc, _+_, _≤_}
+use native.Mathlib.Omega.{arith}
+use native.Mathlib.Decide.{decLe}
+use mathlib.Core.Path.{_≡_, refl, sym, ap, _∙_, subst}
+use mathlib.Core.Bool.{Bool}
+use mathlib.Core.Option.{some}
+use lib.Dec.{T}
+use Rattle.mesh.specs.Place.{Place, Grid, root, base, parent}
+use Rattle.mesh.specs.Mesh.{Mesh, patch}
+use Rattle.geometry.proofs.Kids.{up, up-is, up-depth, parent-up, parent-depth}
+use Rattle.geometry.proofs.Near.{corner-depth, touched-corner}
+use Rattle.geometry.proofs.Tree.{patch-touched, patch-up}
+
+-- the parent, so many times
+unfoldable pub upBy : ℕ → Place → Place
+upBy zero q = q
+upBy (suc m) q = up (upBy m q)
+
+by-depth : (m d : ℕ) (q : Place) → q .depth ≡ m + d → upBy m q .depth ≡ d
+unfolding upBy
+by-depth zero d q e = omega arith
+by-depth (suc m) d q e = let i = by-depth m (suc d) q (omega arith) in omega (arith, up-depth (upBy m q) (omega arith))
+
+-- q lies under p, so many levels down
+pub record Below (p : Place) (m : ℕ) (q : Place) : Type 0 where
+  pub deep : q .depth ≡ m + p .depth
+  pub lies : upBy m q ≡ p
+
+pub below-here : (p : Place) → Below p 0 p
+unfolding upBy
+below-here p = record { deep = omega arith; lies = refl }
+
+pub below-same : {p q : Place} → Below p 0 q → q ≡ p
+unfolding upBy
+below-same b = b .lies
+
+-- what lies under a kid lies under its parent, one more level down
+pub below-kid : {p r q : Place} {m : ℕ} → parent r ≡ some p → Below r m q → Below p (suc m) q
+unfolding upBy
+below-kid {p} {r} {q} {m} e b = record { deep = omega (arith, parent-depth r p e); lies = ap up (b .lies) ∙ up-is r p e }
+
+-- and what lies under a place and is not there lies under one of its kids
+pub below-which : {p q : Place} {m : ℕ} → Below p (suc m) q → (r : Place) × (parent r ≡ some p) × Below r m q
+unfolding upBy
+below-which {p} {q} {m} b =
+    let d : upBy m q .depth ≡ suc (p .depth) = by-depth m (suc (p .depth)) q (omega arith) in
+    let e : parent (upBy m q) ≡ some p = parent-up (upBy m q) (omega arith) ∙ ap some (b .lies) in
+    (upBy m q, e, record { deep = omega arith; lies = refl })
+
+-- under two places of one depth lies nothing
+pub below-one : {p r q : Place} {m n : ℕ} → p .depth ≡ r .depth → Below p m q → Below r n q → p ≡ r
+below-one {p} {r} {q} {m} {n} e a b =
+    let k : m ≡ n = omega arith in
+    sym (a .lies) ∙ ap (λ (i : ℕ). upBy i q) k ∙ b .lies
+
+module _ (g : Grid) (c : Place → Bool) (m : Mesh g c) where
+  -- "levels from 0 up to 12"
+  pub patch-depth : (q : Place) → T (patch g c q) → q .depth ≤ base g + 12
+  patch-depth q t = go (decLe (base g) (q .depth))
+    where
+      go : Dec (base g ≤ q .depth) → q .depth ≤ base g + 12
+      go (yes h) = let (r, k, u) = touched-corner g c q (patch-touched g c q h t) in omega (arith, corner-depth k, m .high r u)
+      go (no h) = omega arith
+
+  pub patch-above : (k : ℕ) {p q : Place} → Below p k q → T (patch g c q) → T (patch g c p)
+  patch-above zero {p} {q} b t = subst (λ (x : Place). T (patch g c x)) (below-same b) t
+  patch-above (suc k) {p} {q} b t =
+      let (r, e, a) = below-which b in
+      subst (λ (x : Place). T (patch g c x)) (up-is r p e) (patch-up g c m r (omega (arith, parent-depth r p e)) (patch-above k a t))
+
+  -- every patch lies under the root
+  pub root-above : ((p : Place) → p .depth ≡ 0 → T (patch g c p) → p ≡ root) → (q : Place) → T (patch g c q) → Below root (q .depth) q
+  root-above only q t =
+      let z : upBy (q .depth) q .depth ≡ 0 = by-depth (q .depth) 0 q (omega arith) in
+      let b : Below (upBy (q .depth) q) (q .depth) q = record { deep = omega arith; lies = refl } in
+      record { deep = omega arith; lies = only (upBy (q .depth) q) z (patch-above (q .depth) b t) }

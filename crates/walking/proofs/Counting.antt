@@ -1,0 +1,131 @@
+-- How often a test passes in a list: of lists put together, of the elements kept, and of lists of places.
+-- Assumes nothing.
+use Prim.Native.Nat.{ℕ, suc, _+_, _≤_, _<_}
+use native.Mathlib.Omega.{arith}
+use mathlib.Core.Path.{_≡_, refl, sym, _∙_, subst}
+use mathlib.Core.Logic.{_⊎_, inl, inr}
+use mathlib.Core.Bool.{Bool, true, false, _||_, cond}
+use mathlib.Core.List.{List, [], _∷_, _++_, map}
+use lib.Dec.{T}
+use lib.ListN.{length, getD}
+use Rattle.mesh.specs.Tools.{any, keep, count, flat}
+use Rattle.mesh.specs.Place.{Place, same}
+use Rattle.geometry.proofs.Bools.{is-yes, or-left, or-right, or-cases}
+use Rattle.geometry.proofs.Lists.{any-append, any-hit}
+use Rattle.geometry.proofs.Places.{In, in-cases, in-here, in-there, same-is}
+
+module _ {A : Type 0} (f : A → Bool) where
+  -- ---- one list
+
+  pub count-append : (xs ys : List A) → count f (xs ++ ys) ≡ count f xs + count f ys
+  count-append [] ys = omega arith
+  count-append (x ∷ xs) ys = rw (count-append xs ys) (let e : cond (f x) 1 0 + (count f xs + count f ys) ≡ cond (f x) 1 0 + count f xs + count f ys = omega arith in e)
+
+  pub count-none : (xs : List A) → (T (any f xs) → ⊥) → count f xs ≡ 0
+  count-none [] h = refl
+  count-none (x ∷ xs) h = go (f x) refl (count-none xs (λ t. h (or-right (f x) (any f xs) t)))
+    where
+      go : (b : Bool) → f x ≡ b → count f xs ≡ 0 → cond (f x) 1 0 + count f xs ≡ 0
+      go true e ih = absurd (h (or-left (f x) (any f xs) (is-yes (f x) e)))
+      go false e ih = rw (e, ih)
+
+  pub count-some : (xs : List A) → T (any f xs) → 0 < count f xs
+  count-some [] t = absurd t
+  count-some (x ∷ xs) t = go (f x) refl (count-some xs)
+    where
+      go : (b : Bool) → f x ≡ b → (T (any f xs) → 0 < count f xs) → 0 < cond (f x) 1 0 + count f xs
+      go true e ih = rw e (omega arith)
+      go false e ih = let l = ih (rw e at t) in rw e (omega arith)
+
+  pub some-count : (xs : List A) → 0 < count f xs → T (any f xs)
+  some-count xs h = go (any f xs) refl
+    where
+      go : (b : Bool) → any f xs ≡ b → T b
+      go true e = tt
+      go false e = omega (arith, count-none xs (λ t. let z : T false = rw e at t in z))
+
+  -- one place alone passes
+  pub count-one : (d : A) (xs : List A) → ((i j : ℕ) → i < length xs → j < length xs → T (f (getD xs i d)) → T (f (getD xs j d)) → i ≡ j) → count f xs ≤ 1
+  count-one d [] h = omega arith
+  count-one d (x ∷ xs) h = go (f x) refl (count-one d xs (λ i j l m t u. let e : suc i ≡ suc j = h (suc i) (suc j) (omega (arith, l)) (omega (arith, m)) t u in omega arith))
+    where
+      go : (b : Bool) → f x ≡ b → count f xs ≤ 1 → cond b 1 0 + count f xs ≤ 1
+      go true e ih =
+          let n = count-none xs (λ t. let (k, l, u) = any-hit f d xs t in let z : suc k ≡ 0 = h (suc k) 0 (omega (arith, l)) (omega arith) u (is-yes (f x) e) in omega arith) in
+          omega arith
+      go false e ih = omega arith
+
+  -- ---- the elements that another test keeps
+
+  -- a test that is no stricter takes nothing away
+  pub count-keep : (h : A → Bool) → ((x : A) → T (f x) → T (h x)) → (xs : List A) → count f (keep h xs) ≡ count f xs
+  count-keep h w [] = refl
+  count-keep h w (x ∷ xs) = go (h x) (f x) refl refl (count-keep h w xs)
+    where
+      go : (a b : Bool) → h x ≡ a → f x ≡ b → count f (keep h xs) ≡ count f xs → count f (keep h (x ∷ xs)) ≡ cond (f x) 1 0 + count f xs
+      go true b y z ih = rw (y, ih)
+      go false true y z ih = absurd (let t : T (h x) = w x (is-yes (f x) z) in let u : T false = rw y at t in u)
+      go false false y z ih = rw (y, z) (omega arith)
+
+  pub keep-length : (xs : List A) → length (keep f xs) ≡ count f xs
+  keep-length [] = refl
+  keep-length (x ∷ xs) = go (f x) refl (keep-length xs)
+    where
+      go : (b : Bool) → f x ≡ b → length (keep f xs) ≡ count f xs → length (keep f (x ∷ xs)) ≡ cond (f x) 1 0 + count f xs
+      go true e ih = rw (e, ih) (omega arith)
+      go false e ih = rw (e, ih) (omega arith)
+
+-- ---- which places a list made of another has
+
+pub in-keep : (f : Place → Bool) (q : Place) (ps : List Place) → In q (keep f ps) → In q ps × T (f q)
+in-keep f q [] t = absurd t
+in-keep f q (p ∷ ps) t = go (f p) refl (in-keep f q ps)
+  where
+    more : In q ps × T (f q) → In q (p ∷ ps) × T (f q)
+    more h = (in-there q p ps (h .0), h .1)
+
+    hit : f p ≡ true → (In q (keep f ps) → In q ps × T (f q)) → (q ≡ p) ⊎ In q (keep f ps) → In q (p ∷ ps) × T (f q)
+    hit e ih (inl h) = (in-here q p ps h, subst (λ (x : Place). T (f x)) (sym h) (is-yes (f p) e))
+    hit e ih (inr a) = more (ih a)
+
+    go : (b : Bool) → f p ≡ b → (In q (keep f ps) → In q ps × T (f q)) → In q (p ∷ ps) × T (f q)
+    go true e ih = hit e ih (in-cases q p (keep f ps) (rw e at t))
+    go false e ih = more (ih (rw e at t))
+
+pub keep-in : (f : Place → Bool) (q : Place) (ps : List Place) → In q ps → T (f q) → In q (keep f ps)
+keep-in f q ps i t =
+    some-count (same q) (keep f ps) (rw (count-keep (same q) f (λ x e. subst (λ (y : Place). T (f y)) (same-is q x e) t) ps) (count-some (same q) ps i))
+
+pub in-map : {A : Type 0} (h : A → Place) (q : Place) (xs : List A) → In q (map h xs) → (x : A) × (q ≡ h x)
+in-map h q [] t = absurd t
+in-map h q (x ∷ xs) t = go (in-cases q (h x) (map h xs) t) (in-map h q xs)
+  where
+    go : (q ≡ h x) ⊎ In q (map h xs) → (In q (map h xs) → (y : _) × (q ≡ h y)) → (y : _) × (q ≡ h y)
+    go (inl e) ih = (x, e)
+    go (inr a) ih = ih a
+
+-- ---- parts put together, a part for each place of a list
+
+module _ {A : Type 0} (f : A → Bool) (part : Place → List A) where
+  pub any-parts : (ps : List Place) → T (any f (flat (map part ps))) → (r : Place) × In r ps × T (any f (part r))
+  any-parts [] t = absurd t
+  any-parts (p ∷ ps) t = go (or-cases (any f (part p)) (any f (flat (map part ps))) (rw (any-append f (part p) (flat (map part ps))) at t)) (any-parts ps)
+    where
+      go : T (any f (part p)) ⊎ T (any f (flat (map part ps))) → (T (any f (flat (map part ps))) → (r : Place) × In r ps × T (any f (part r))) → (r : Place) × In r (p ∷ ps) × T (any f (part r))
+      go (inl a) ih = (p, in-here p p ps refl, a)
+      go (inr a) ih = let (r, i, u) = ih a in (r, in-there r p ps i, u)
+
+  pub parts-any : (r : Place) (ps : List Place) → In r ps → T (any f (part r)) → T (any f (flat (map part ps)))
+  parts-any r [] i t = absurd i
+  parts-any r (p ∷ ps) i t = rw (any-append f (part p) (flat (map part ps))) (go (in-cases r p ps i) (λ a. parts-any r ps a t))
+    where
+      go : (r ≡ p) ⊎ In r ps → (In r ps → T (any f (flat (map part ps)))) → T (any f (part p) || any f (flat (map part ps)))
+      go (inl e) ih = or-left (any f (part p)) (any f (flat (map part ps))) (subst (λ (x : Place). T (any f (part x))) e t)
+      go (inr a) ih = or-right (any f (part p)) (any f (flat (map part ps))) (ih a)
+
+  -- where one alone of the places has what is counted in its part, and has it once, it is counted as often as that place stands in the list
+  pub count-parts : (q : Place) (ps : List Place) → ((r : Place) → In r ps → count f (part r) ≡ cond (same q r) 1 0) → count f (flat (map part ps)) ≡ count (same q) ps
+  count-parts q [] h = refl
+  count-parts q (p ∷ ps) h =
+      count-append f (part p) (flat (map part ps))
+      ∙ rw (h p (in-here p p ps refl), count-parts q ps (λ r i. h r (in-there r p ps i)))

@@ -1,0 +1,9 @@
+-- The laws of walks and counts, bottom up.
+pub mod Counting
+pub mod Below
+pub mod Walks
+pub mod Orders
+pub mod Scans
+pub mod Sets
+pub mod Points
+pub mod Counts

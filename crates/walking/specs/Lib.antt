@@ -1,0 +1,2 @@
+-- What the laws of this crate count.
+pub mod Points

@@ -1,0 +1,657 @@
+"""Seeded random cases with the answers of the reference.
+
+    python3 generate.py KIND SEED COUNT FOLDER
+
+KIND is builds, tapes, damaged, scans, lookups, pages or programs.  The same
+kind, seed and count give the same files.
+
+Kind programs writes NNNN.in and NNNN.out, an input of the program and what it
+prints.  Every other kind writes one file KIND-SEED-NNNN.case for each case: one
+call on lent lists, and what it must answer.  All its tokens are decimal
+numbers separated by single blanks, a minus sign only before table words and
+levels.  A list is its length, then its items, on one line.
+
+    line 1   call: 1 build, 2 tape, 3 check, 4 scan, 5 lookup, 6 page
+    line 2   capacity
+    line 3   header: columns rows mark
+    line 4   table: a list of words, signed 32-bit
+    line 5   values: a list of 64-bit patterns, unsigned
+    line 6   arguments
+    line 7   answer
+    line 8+  what was changed
+
+    call     arguments                           answer
+    build    columns rows                        refusal count
+    tape     list of bytes                       done refusal offset
+    check    0                                   refusal
+    scan     start order(4) kind from to         refusal count
+             output-length filler
+    lookup   count, then count times             count, then count times
+             speed load                          refusal number status bits
+    page     output-length filler                refusal count
+
+A refusal of 0 is none.  For build and tape lines 8, 9 and 10 are header, table
+and values after the call.  For scan and page line 8 is the output after the
+call, a list of numbers or of bytes; before it every place holds the filler.
+A lookup has status 0 blank, 1 measured, 2 carried.  The calls check, scan,
+lookup and page leave header, table and values as they were.
+"""
+
+import argparse
+import pathlib
+import random
+import struct
+
+import reference as r
+
+BUILD, TAPE, CHECK, SCAN, LOOKUP, PAGE = range(1, 7)
+INT_MIN, INT_MAX = -(2**31), 2**31 - 1
+EXTREMES = (INT_MIN, -65536, -1, 0, 1, 2, 12, 13, 4095, 8192, 65535, 65536, INT_MAX)
+
+PLAIN_VALUES = (0, 1 << 63, 1, 0x000FFFFFFFFFFFFF, 0x8000000000000001, 0x7FEFFFFFFFFFFFFF)
+WRONG_VALUES = (
+    0x7FF0000000000000,
+    0xFFF0000000000000,
+    0x7FF0000000000001,
+    0x7FF8000000000000,
+    0xFFF8000000000000,
+    0x7FFFFFFFFFFFFFFF,
+    0xFFFFFFFFFFFFFFFF,
+)
+
+
+def chance(rng, one_in):
+    return rng.randrange(one_in) == 0
+
+
+def finite_value(rng):
+    if chance(rng, 3):
+        return rng.choice(PLAIN_VALUES)
+    return int.from_bytes(struct.pack(">d", rng.uniform(-1000, 1000)), "big")
+
+
+def some_mark(rng):
+    return rng.choice((0, 1, 65535, rng.randint(65500, 65535), rng.randint(0, 65535)))
+
+
+# ------------------------------------------------------------ requests
+
+
+def encode(kind, number, bits=0):
+    end = bits.to_bytes(8, "big") if kind == r.SET_VALUE else b""
+    return bytes([kind]) + number.to_bytes(2, "big") + end
+
+
+def leaves(grid):
+    return sorted(cell for cell in grid.cells if grid.is_leaf(cell))
+
+
+def families(grid):
+    """The cells whose four kids are leaves."""
+    above = {r.parent(leaf) for leaf in leaves(grid) if leaf[0] > 0}
+    return sorted(cell for cell in above if all(map(grid.is_leaf, r.kids(cell))))
+
+
+def choose_refine(rng, grid, deep):
+    found = [leaf for leaf in leaves(grid) if leaf not in grid.sentenced and leaf[0] < 12]
+    if deep and found:
+        found = [leaf for leaf in found if leaf[0] == found[-1][0]]
+    return [(r.REFINE, rng.choice(found))] if found else []
+
+
+def choose_removal(rng, grid):
+    """Sentence the four kids of a cell in some order, then mostly remove them."""
+    found = families(grid)
+    if not found:
+        return []
+    cell = rng.choice(found)
+    four = r.kids(cell)
+    rng.shuffle(four)
+    chosen = [(r.SENTENCE, one) for one in four if one not in grid.sentenced]
+    return chosen + ([] if chance(rng, 6) else [(r.REMOVE, cell)])
+
+
+def choose_kill(rng, grid):
+    found = [leaf for leaf in leaves(grid) if leaf[0] == 0]
+    several = sum(cell[0] == 0 for cell in grid.cells) > 1
+    return [(r.KILL, rng.choice(found))] if found and several else []
+
+
+def choose_sentence(rng, grid):
+    found = [leaf for leaf in leaves(grid) if leaf[0] > 0]
+    return [(r.SENTENCE, rng.choice(found))] if found else []
+
+
+def choose(rng, grid, deep):
+    """A few requests that suit the grid, as (kind, cell)."""
+    roll = rng.randrange(20)
+    if roll < 8:
+        return choose_refine(rng, grid, deep)
+    if roll < (9 if deep else 13):
+        return choose_removal(rng, grid)
+    if roll < 14:
+        return choose_kill(rng, grid)
+    if roll < 16:
+        return choose_sentence(rng, grid)
+    return [(r.SET_VALUE, rng.choice(leaves(grid)))]
+
+
+def suitable(rng, grid, count, deep=False):
+    """Carry out about `count` accepted requests on a grid; their bytes."""
+    requests = []
+    for _ in range(3 * count):
+        for kind, cell in choose(rng, grid, deep):
+            number, bits = grid.numbers[cell], finite_value(rng)
+            if r.step(grid, kind, number, bits) == 0:
+                requests.append(encode(kind, number, bits))
+        if len(requests) >= count:
+            break
+    return b"".join(requests)
+
+
+def some_number(rng, grid):
+    used = sorted(grid.numbers.values())
+    wild = (0, grid.capacity, grid.capacity + 1, 65535, rng.randint(0, grid.capacity + 9))
+    cells = sorted(grid.numbers[cell] for cell in grid.cells)
+    return rng.choice((rng.choice(used), rng.choice(cells), rng.choice(cells), rng.choice(wild)))
+
+
+def nearly(rng, grid):
+    """A whole request that is refused late in its list: 8, 9, 10, 11 or 14."""
+    refined = sorted(cell for cell in grid.cells if grid.has_kids(cell))
+    found = [(rng.choice((1, 2, 4, 5)), cell) for cell in refined]
+    found += [(r.REMOVE, cell) for cell in refined]
+    found += [(r.REFINE, cell) for cell in leaves(grid) if cell[0] == 12]
+    found += [(r.REFINE, cell) for cell in leaves(grid) if cell in grid.sentenced]
+    kind, cell = rng.choice(found or [(r.REFINE, leaves(grid)[0])])
+    return encode(kind, grid.numbers[cell], finite_value(rng))
+
+
+def wild_request(rng, grid):
+    """One request that is often refused, for whatever reason."""
+    if chance(rng, 3):
+        return nearly(rng, grid)
+    roll = rng.randrange(10)
+    kind, number = rng.randint(1, 5), some_number(rng, grid)
+    bits = rng.choice(WRONG_VALUES) if chance(rng, 2) else finite_value(rng)
+    whole = encode(kind, number, bits)
+    if roll == 0:
+        return bytes([rng.choice((0, 6, 7, 255, rng.randint(6, 255)))])
+    if roll == 1:
+        return whole[: rng.randint(1, len(whole) - 1)]
+    return whole
+
+
+def some_tape(rng, grid, most):
+    """Accepted requests, and often refused or wild ones behind them."""
+    result = suitable(rng, grid, rng.randint(0, most), chance(rng, 4))
+    for _ in range(rng.choice((0, 0, 1, 2, 5))):
+        wild = wild_request(rng, grid)
+        if not r.run(grid, wild).refusal or chance(rng, 2):
+            result += wild
+    if chance(rng, 4):
+        result += suitable(rng, grid, 3)
+    if chance(rng, 8):
+        result = result[: rng.randint(0, len(result))]
+    return result
+
+
+# ------------------------------------------------------------ grids
+
+
+def renumber(rng, grid):
+    """Another numbering of the same mesh; the root stays 1."""
+    top = r.root(grid.header)
+    others = sorted(patch for patch in grid.numbers if patch != top)
+    numbers = rng.sample(range(2, grid.capacity + 1), len(others))
+    grid.numbers = {top: 1, **dict(zip(others, numbers))}
+
+
+def some_capacity(rng, need):
+    tight = need + rng.randint(0, 30)
+    return max(5, min(200, rng.choice((need, need + 9, tight, rng.randint(need, 200), 200))))
+
+
+def some_size(rng):
+    most = rng.choice((1, 2, 3, 8))
+    return rng.randint(1, most), rng.randint(1, most)
+
+
+def go_down(rng, grid):
+    """Refine a leaf, then one of its kids, and so on to level 12 if numbers last."""
+    cell = rng.choice(leaves(grid))
+    while r.step(grid, r.REFINE, grid.numbers[cell]) == 0:
+        cell = rng.choice(r.kids(cell))
+
+
+def some_grid(rng):
+    """A sound grid after some requests, with any mark, often renumbered."""
+    columns, rows = some_size(rng)
+    need = len(r.built(5, columns, rows).numbers)
+    grid = r.built(some_capacity(rng, need), columns, rows)
+    suitable(rng, grid, rng.choice((0, 5, 20, 60)), chance(rng, 4))
+    if chance(rng, 6):
+        go_down(rng, grid)
+    if chance(rng, 3):
+        renumber(rng, grid)
+    grid.header = grid.header._replace(mark=some_mark(rng))
+    return grid
+
+
+def lend(grid):
+    """Capacity, header, table and values of a grid, as a list to be damaged."""
+    return [grid.capacity, *r.drawn(grid)]
+
+
+# ------------------------------------------------------------ damage
+
+
+def some_word(rng):
+    return rng.choice((rng.choice(EXTREMES), rng.randint(-3, 210), rng.randint(INT_MIN, INT_MAX)))
+
+
+def signed(word):
+    return (word + 2**31) % 2**32 - 2**31
+
+
+def damage_word(rng, grid, lists):
+    table = lists[2]
+    place = rng.randrange(len(table))
+    old = table[place]
+    change = (some_word(rng), old ^ 1 << rng.randrange(14), old + 1, old - 1, old ^ 1 << 31)
+    table[place] = signed(rng.choice(change))
+
+
+def damage_used_word(rng, grid, lists):
+    """A word in use, exchanged for another number that is in use."""
+    number = rng.choice(sorted(grid.numbers.values()))
+    other = rng.choice(sorted(grid.numbers.values()))
+    place = r.WORDS * number + rng.randrange(r.WORDS)
+    lists[2][place] = rng.choice((0, other, lists[2][place] ^ 1))
+
+
+def damage_flag(rng, grid, lists):
+    number = rng.choice(sorted(grid.numbers.values()))
+    lists[2][r.WORDS * number + r.FLAGS] ^= 1 << rng.randrange(14)
+
+
+def set_row(table, number, words):
+    table[r.WORDS * number : r.WORDS * (number + 1)] = words
+
+
+def get_row(table, number):
+    return table[r.WORDS * number : r.WORDS * (number + 1)]
+
+
+def damage_row(rng, grid, lists):
+    table, capacity = lists[2], grid.capacity
+    wild = [some_word(rng) for _ in range(r.WORDS)]
+    copy = get_row(table, rng.randint(0, capacity))
+    words = rng.choice((list(r.NIL_ROW), list(r.FREE_ROW), wild, copy))
+    set_row(table, rng.randint(0, capacity), words)
+
+
+def damage_by_swapped_rows(rng, grid, lists):
+    table = lists[2]
+    one, other = rng.randint(0, grid.capacity), rng.choice(sorted(grid.numbers.values()))
+    first, second = get_row(table, one), get_row(table, other)
+    set_row(table, one, second)
+    set_row(table, other, first)
+
+
+def damage_by_swapped_links(rng, grid, lists):
+    """Two numbers exchanged in the links alone."""
+    table = lists[2]
+    one, other = rng.sample(sorted(grid.numbers.values()), 2)
+    exchange = {one: other, other: one}
+    for place in range(len(table)):
+        if place % r.WORDS < r.LEVEL:
+            table[place] = exchange.get(table[place], table[place])
+
+
+def damage_by_swapped_numbers(rng, grid, lists):
+    """Two numbers exchanged everywhere: sound, unless one is the root's."""
+    one, other = rng.sample(range(1, grid.capacity + 1), 2)
+    one = 1 if chance(rng, 4) else one
+    exchange = {one: other, other: one}
+    grid.numbers = {patch: exchange.get(n, n) for patch, n in grid.numbers.items()}
+    lists[:] = lend(grid)
+
+
+def damage_value(rng, grid, lists):
+    values = lists[3]
+    used = rng.choice(sorted(grid.numbers.values()))
+    place = rng.choice((0, rng.randrange(len(values)), used, used))
+    flipped = values[place] ^ 1 << rng.randrange(64)
+    plain = (0, 1 << 63, finite_value(rng))
+    values[place] = rng.choice((flipped, flipped, rng.choice(WRONG_VALUES), rng.choice(plain)))
+
+
+def damage_status(rng, grid, lists):
+    number = rng.choice(sorted(grid.numbers.values()))
+    lists[2][r.WORDS * number + r.STATUS] = rng.choice((0, 1, 2, 3, -1))
+
+
+def damage_header(rng, grid, lists):
+    """Columns and rows; within the same bit length a grid may stay sound."""
+    columns, rows, mark = lists[1]
+    wild = (0, 1, 32, 33, 2**32 - 1, rng.randint(1, 9))
+    if chance(rng, 2):
+        columns = rng.choice((columns + 1, max(0, columns - 1), rows, rng.choice(wild)))
+    else:
+        rows = rng.choice((rows + 1, max(0, rows - 1), columns, rng.choice(wild)))
+    lists[1] = r.Header(columns, rows, some_mark(rng))
+
+
+def damage_length(rng, grid, lists):
+    which = rng.choice((2, 3))
+    if chance(rng, 2):
+        lists[which] = lists[which][: rng.randint(0, len(lists[which]))]
+    else:
+        lists[which] = lists[which] + [0] * rng.randint(1, 30)
+
+
+def damage_capacity(rng, grid, lists):
+    lists[0] = rng.choice((0, 4, 5, grid.capacity - 1, grid.capacity + 1, 4095, 4096, 2**32 - 1))
+
+
+def garbage(rng, grid, lists):
+    """Random words of every length."""
+    capacity = rng.choice((0, 4, 5, 5, 6, 7, 20))
+    right = r.WORDS * (capacity + 1)
+    length = rng.choice((right, right, right + rng.randint(-3, 3), rng.randint(0, 300)))
+    count = rng.choice((capacity + 1, capacity + 1, rng.randint(0, 22)))
+    lists[0] = capacity
+    lists[1] = r.Header(rng.randint(0, 34), rng.randint(0, 34), some_mark(rng))
+    lists[2] = [some_word(rng) for _ in range(max(0, length))]
+    lists[3] = [rng.getrandbits(64) * rng.randrange(2) for _ in range(count)]
+
+
+def fit(grid):
+    """Number exactly the patches of the cells again, as far as numbers last."""
+    present = r.patches(grid.cells, -r.root(grid.header)[0])
+    grid.numbers = {patch: n for patch, n in grid.numbers.items() if patch in present}
+    new = sorted(present - set(grid.numbers))
+    grid.numbers.update(zip(new, grid.free_numbers()))
+
+
+def spoil_cells(rng, grid):
+    """Cells that are no mesh: a lost cell, or one outside, too deep or orphaned."""
+    cells = sorted(grid.cells)
+    level, i, j = rng.choice(cells)
+    columns, rows, _ = grid.header
+    outside = [(0, columns, 0), (0, 0, rows), (0, -1, 0), (0, 64, 64), (0, columns + 3, rows)]
+    orphan = [(level + 2, 4 * i, 4 * j), (level + 1, 2 * i + 1, 2 * j), (13, i, j), (1, 200, 3)]
+    roll = rng.randrange(5)
+    if roll == 0:
+        grid.cells.discard((level, i, j))
+    elif roll == 1:
+        grid.cells -= {cell for cell in cells if cell[0] == 0}
+    elif roll == 2:
+        grid.cells.add(rng.choice(outside))
+    else:
+        grid.cells.add(rng.choice(orphan))
+    if not chance(rng, 4):
+        fit(grid)
+
+
+def too_deep(grid):
+    """A column of refinements down to level 13."""
+    cell = (0, 0, 0)
+    for _ in range(13):
+        grid.cells.update(r.kids(cell))
+        cell = r.kid(cell, r.SW)
+    fit(grid)
+
+
+def spoil_marks(rng, grid):
+    """Sentenced or valued where 01 forbids it, or rightly."""
+    patch = rng.choice(sorted(grid.numbers if chance(rng, 3) else grid.cells))
+    bits = rng.choice((finite_value(rng), rng.choice(WRONG_VALUES), 0))
+    roll = rng.randrange(4)
+    if roll == 0:
+        grid.sentenced[patch] = True
+    elif roll == 1:
+        grid.values.pop(patch, None)
+    else:
+        grid.values[patch] = (rng.choice((0, 1, 2, 2)), bits)
+
+
+def spoil_patches(rng, grid):
+    """A patch too many or too few: a ghost that was kept, a thin patch lost."""
+    free = grid.free_numbers()
+    level, i, j = rng.choice(sorted(grid.numbers))
+    near = [(level, i + 1, j), (level, i, j + 1), (level + 1, 2 * i, 2 * j), (level - 1, i, j)]
+    if free and chance(rng, 2):
+        grid.numbers.setdefault(rng.choice(near), rng.choice(free))
+    else:
+        del grid.numbers[(level, i, j)]
+
+
+def damage_picture(rng, grid, lists):
+    """The faithful picture of something that is no mesh, or nearly so."""
+    roll = rng.randrange(8)
+    if roll < 3:
+        spoil_cells(rng, grid)
+    elif roll < 5:
+        spoil_marks(rng, grid)
+    elif roll < 7:
+        spoil_patches(rng, grid)
+    else:
+        too_deep(grid)
+    lists[:] = lend(grid)
+
+
+DAMAGES = (
+    damage_word,
+    damage_used_word,
+    damage_flag,
+    damage_row,
+    damage_by_swapped_rows,
+    damage_by_swapped_links,
+    damage_by_swapped_numbers,
+    damage_value,
+    damage_status,
+    damage_header,
+    damage_length,
+    damage_capacity,
+    garbage,
+    damage_picture,
+    damage_picture,
+)
+
+
+# ------------------------------------------------------------ cases
+
+
+def listing(items):
+    return [len(items), *items]
+
+
+def lines_of(call, lists, arguments, answer, *changed):
+    capacity, header, table, values = lists
+    lines = [[call], [capacity], header, listing(table), listing(values), arguments, answer]
+    return "".join(" ".join(map(str, line)) + "\n" for line in [*lines, *changed])
+
+
+def build_case(rng):
+    columns, rows = some_size(rng)
+    if chance(rng, 8):
+        columns = rng.choice((0, 1, 32, 33, 255, 2**32 - 1))
+    if chance(rng, 8):
+        rows = rng.choice((0, 1, 32, 33, 255, 2**32 - 1))
+    right = not r.refuses_size(columns, rows)
+    need = len(r.built(5, columns, rows).numbers) if right else 5
+    least = max(5, need)
+    wild = 4096 if chance(rng, 10) else rng.choice((0, 4, 5))
+    capacity = rng.choice((least, least, least - 1, least + rng.randint(0, 20), wild))
+    words = r.WORDS * (capacity + 1) + (rng.randint(-1, 1) if chance(rng, 10) else 0)
+    count = capacity + 1 + (rng.randint(-1, 1) if chance(rng, 10) else 0)
+    table = [some_word(rng) for _ in range(words)]
+    lists = [capacity, r.Header(5, 6, 7), table, [rng.getrandbits(64) for _ in range(count)]]
+    answer, header, table, values = r.build(*lists, columns, rows)
+    changed = header, listing(table), listing(values)
+    return lines_of(BUILD, lists, [columns, rows], answer, *changed)
+
+
+def tape_lines(lists, requests):
+    answer, header, table, values = r.tape(*lists, requests)
+    changed = header, listing(table), listing(values)
+    return lines_of(TAPE, lists, listing(requests), answer, *changed)
+
+
+def tape_case(rng):
+    grid = some_grid(rng)
+    lists = lend(grid)
+    return tape_lines(lists, some_tape(rng, grid, rng.choice((3, 20, 80))))
+
+
+def check_lines(lists):
+    return lines_of(CHECK, lists, [0], [r.check(*lists)])
+
+
+def damaged_case(rng):
+    """Mostly the checker, sometimes another call on the same lists."""
+    grid = some_grid(rng)
+    lists = lend(grid)
+    if not chance(rng, 20):
+        rng.choice(DAMAGES)(rng, grid, lists)
+    if not chance(rng, 4):
+        return check_lines(lists)
+    roll = rng.randrange(4)
+    if roll == 0:
+        return tape_lines(lists, encode(rng.randint(1, 5), rng.randint(0, 12)) * 2)
+    if roll == 1:
+        return scan_lines(lists, (1, (3, 4, 2, 1), rng.randint(1, 6), -1, 12), 300)
+    if roll == 2:
+        return lookup_lines(lists, [(rng.randint(0, 8192), rng.randint(0, 8192))])
+    return page_lines(lists, 12000)
+
+
+def scan_lines(lists, arguments, length, filler=65535):
+    start, order, kind, from_level, to_level = arguments
+    answer = r.scan(*lists, *arguments, [filler] * length)[0]
+    told = [start, *order, kind, from_level, to_level, length, filler]
+    return lines_of(SCAN, lists, told, answer[:2], listing(answer.output))
+
+
+def some_order(rng):
+    order = rng.sample((r.NE, r.SE, r.SW, r.NW), 4)
+    if chance(rng, 12):
+        order[rng.randrange(4)] = rng.choice((0, 1, 2, 3, 4, 5, 255))
+    return order
+
+
+def some_levels(rng, level):
+    """From-level and to-level, mostly in order and not below the start's level."""
+    first = rng.choice((level, rng.randint(level, 13), rng.randint(level, level + 3)))
+    last = rng.choice((first, max(first, 12), first + rng.randint(0, 4), INT_MAX))
+    if chance(rng, 20):
+        first = rng.choice((INT_MIN, INT_MAX, level - 1, rng.randint(-7, 14)))
+    if chance(rng, 20):
+        last = rng.choice((INT_MIN, INT_MAX, first - 1 if first > INT_MIN else INT_MAX))
+    return first, last
+
+
+def scan_case(rng):
+    grid = some_grid(rng)
+    top = chance(rng, 2)
+    start = 1 if top else some_number(rng, grid)
+    kind = rng.choice((0, 7, 255)) if chance(rng, 20) else rng.randint(1, 6)
+    level = grid.places().get(start, (0, 0, 0))[0]
+    arguments = (start, some_order(rng), kind, *some_levels(rng, level))
+    lists = lend(grid)
+    count = r.scan(*lists, *arguments, [0] * 250)[0].count
+    length = max(0, rng.choice((count, count, count - 1, count + 1, count + 7, 250, 0)))
+    return scan_lines(lists, arguments, length, rng.choice((0, 65535, 7)))
+
+
+def lookup_lines(lists, points):
+    answers = [word for point in points for word in r.lookup(*lists, *point)[0]]
+    told = [word for point in points for word in point]
+    return lines_of(LOOKUP, lists, [len(points), *told], [len(points), *answers])
+
+
+def some_point(rng, grid):
+    """Inside, on a corner or edge of a cell, just beside it, or far out."""
+    roll = rng.randrange(10)
+    columns, rows, _ = grid.header
+    if roll == 0:
+        far = (0, 4095, 4096, 32 * 4096, 2**31, 2**32 - 1)
+        return rng.choice(far), rng.choice(far)
+    if roll < 4:
+        return rng.randrange(4096 * (columns + 1)), rng.randrange(4096 * (rows + 1))
+    level, i, j = rng.choice(sorted(grid.cells))
+    size = 4096 >> level
+    shift = (0, -1, 1, size // 2, size - 1, size)
+    speed, load = i * size + rng.choice(shift), j * size + rng.choice(shift)
+    return max(0, speed), max(0, load)
+
+
+def lookup_case(rng):
+    grid = some_grid(rng)
+    return lookup_lines(lend(grid), [some_point(rng, grid) for _ in range(20)])
+
+
+def page_lines(lists, length, filler=46):
+    answer = r.page(*lists, bytes([filler]) * length)[0]
+    return lines_of(PAGE, lists, [length, filler], answer[:2], listing(answer.output))
+
+
+def page_case(rng):
+    grid = some_grid(rng)
+    count = len(r.page_text(grid))
+    length = rng.choice((count, count, count - 1, count + 1, count + 50, 0))
+    return page_lines(lend(grid), length, rng.choice((0, 46, 255)))
+
+
+def program_case(rng):
+    """An input of the program."""
+    columns, rows = some_size(rng)
+    head = bytes([7, columns, rows])
+    if chance(rng, 10):
+        wild = (b"", b"\x07", b"\x07\x01", b"\x06\x01\x01", b"\x07\x00\x01", b"\x07\x01\x21")
+        head = rng.choice(wild + (b"\x07\x20\x20", b"\x07\x1a\x1f"))
+        return head + rng.randbytes(rng.choice((0, 5))) * (len(head) == 3)
+    if chance(rng, 40):
+        return head + encode(r.SET_VALUE, 1) * 6000
+    grid = r.built(r.PROGRAM_CAPACITY, columns, rows)
+    return head + some_tape(rng, grid, rng.choice((10, 60, 200)))
+
+
+CASES = {
+    "builds": build_case,
+    "tapes": tape_case,
+    "damaged": damaged_case,
+    "scans": scan_case,
+    "lookups": lookup_case,
+    "pages": page_case,
+}
+
+
+def write_case(kind, seed, place, folder):
+    """Each case has its own seed, so that one can be made alone."""
+    rng = random.Random(f"{kind} {seed} {place}")
+    if kind == "programs":
+        data = program_case(rng)
+        (folder / f"{place:04}.in").write_bytes(data)
+        (folder / f"{place:04}.out").write_bytes(r.program(data))
+    else:
+        name = f"{kind}-{seed}-{place:04}.case"
+        (folder / name).write_text(CASES[kind](rng), encoding="ascii")
+
+
+def main():
+    parser = argparse.ArgumentParser(description="Seeded random cases of 01.")
+    parser.add_argument("kind", choices=[*CASES, "programs"])
+    parser.add_argument("seed", type=int)
+    parser.add_argument("count", type=int)
+    parser.add_argument("folder", type=pathlib.Path)
+    told = parser.parse_args()
+    told.folder.mkdir(parents=True, exist_ok=True)
+    for place in range(told.count):
+        write_case(told.kind, told.seed, place, told.folder)
+
+
+if __name__ == "__main__":
+    main()
