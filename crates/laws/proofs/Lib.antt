@@ -2,3 +2,4 @@
 pub mod Lookups
 pub mod Refusals
 pub mod Requests
+pub mod Tapes

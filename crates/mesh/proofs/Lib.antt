@@ -2,3 +2,4 @@
 pub mod References
 pub mod Winds
 pub mod Depth
+pub mod Runs

@@ -12,6 +12,7 @@ use Rattle.mesh.specs.Mesh.{Mesh, patch}
 use Rattle.geometry.proofs.Kids.{up, up-is, up-depth, parent-up, parent-depth}
 use Rattle.geometry.proofs.Near.{corner-depth, touched-corner}
 use Rattle.geometry.proofs.Tree.{patch-touched, patch-up}
+use Rattle.geometry.proofs.Base.{Rectangle, depth-zero-root}
 
 -- the parent, so many times
 unfoldable pub upBy : ℕ → Place → Place
@@ -71,8 +72,8 @@ module _ (g : Grid) (c : Place → Bool) (m : Mesh g c) where
       subst (λ (x : Place). T (patch g c x)) (up-is r p e) (patch-up g c m r (omega (arith, parent-depth r p e)) (patch-above k a t))
 
   -- every patch lies under the root
-  pub root-above : ((p : Place) → p .depth ≡ 0 → T (patch g c p) → p ≡ root) → (q : Place) → T (patch g c q) → Below root (q .depth) q
-  root-above only q t =
+  pub root-above : Rectangle g → (q : Place) → T (patch g c q) → Below root (q .depth) q
+  root-above in-range q t =
       let z : upBy (q .depth) q .depth ≡ 0 = by-depth (q .depth) 0 q (omega arith) in
       let b : Below (upBy (q .depth) q) (q .depth) q = record { deep = omega arith; lies = refl } in
-      record { deep = omega arith; lies = only (upBy (q .depth) q) z (patch-above (q .depth) b t) }
+      record { deep = omega arith; lies = depth-zero-root g c m in-range (upBy (q .depth) q) z (patch-above (q .depth) b t) }

@@ -1,17 +1,17 @@
 -- A scan from the root through all levels meets each patch of its kind once, and nothing else, in whatever order it takes the kids.
 -- Assumes nothing.
-use Prim.Native.Nat.{ℕ, suc, _+_, _-_, _≤_}
+use Prim.Native.Nat.{ℕ, zero, suc, _+_, _-_, _≤_}
 use native.Mathlib.Omega.{arith}
 use mathlib.Core.Path.{_≡_, refl, ap, _∙_}
 use mathlib.Core.Bool.{Bool, true, false, _&&_, cond, and-true}
 use mathlib.Core.List.{List, map}
 use lib.Dec.{T, eqb, ltb, ltb→lt, nltb→le, leb→le, le→leb}
 use lib.IntN.{ℤ, pos, negsuc, subℕ, _-ℤ_, natAbs}
+use borrow.Author.Tests.{lt-ltb}
 use lib.Signed.{leZ}
 use Rattle.mesh.specs.Tools.{count, orElse}
-use Rattle.mesh.specs.Place.{Place, root, base, level}
-use Rattle.mesh.specs.Mesh.{patch}
-use Rattle.mesh.specs.State.{State, isUsed, entry, cells, placeAt, gridOf}
+use Rattle.mesh.specs.Place.{root, base, level}
+use Rattle.mesh.specs.State.{State, isUsed, entry, placeAt, gridOf}
 use Rattle.mesh.specs.Valid.{Valid}
 use Rattle.mesh.specs.Scan.{listed, windOf, permutation, scan}
 use Rattle.geometry.proofs.Bools.{yes-is, is-yes, is-no}
@@ -30,13 +30,22 @@ root-lowest b d z t = go (ltb 0 b) (ltb d b) refl refl z t
     go false false e f (pos a) t = le→leb a (d - b) (omega (arith, leb→le a (0 - b) t))
     go false false e f (negsuc a) t = tt
 
-module _ (s : State) (v : Valid s) (only : (p : Place) → p .depth ≡ 0 → T (patch (gridOf s) (cells (s .entries)) p) → p ≡ root) (o : List ℕ) (t : T (permutation o)) (from to : ℤ) (all : base (gridOf s) + 12 ≤ natAbs (to -ℤ level (gridOf s) root)) where
+-- from the root down to level 12 there are as many levels as cells can be deep
+all-levels : (d : ℕ) (to : ℤ) → T (leZ (pos 12) to) → d + 12 ≤ natAbs (to -ℤ subℕ 0 d)
+all-levels d (negsuc k) t = absurd t
+all-levels d (pos k) t = go d
+  where
+    go : (d : ℕ) → d + 12 ≤ natAbs (pos k -ℤ subℕ 0 d)
+    go zero = let h : 0 + 12 ≤ k + 0 = omega (arith, leb→le 12 k t) in h
+    go (suc d) = rw (lt-ltb 0 (suc d) (omega arith)) (let h : suc d + 12 ≤ k + suc (suc d - 1) = omega (arith, leb→le 12 k t) in h)
+
+module _ (s : State) (v : Valid s) (o : List ℕ) (t : T (permutation o)) (from to : ℤ) (all : T (leZ (pos 12) to)) where
   -- of any kind, from any level: the patches listed are those of the kind on the levels from there up
   pub scan-each : (j k : ℕ) → count (eqb k) (scan s 1 o j from to) ≡ cond (isUsed (entry (s .entries) k) && (leZ from (level (gridOf s) (placeAt (s .entries) k)) && listed s j (placeAt (s .entries) k))) 1 0
-  unfolding scan
+  unfolding scan level
   scan-each j k =
       let e : placeAt (s .entries) 1 ≡ root = ap (orElse root (λ p. p)) (v .first-root) in
-      rw e (walk-all s v only (λ q. leZ from (level (gridOf s) q) && listed s j q) (map windOf o) (permutation-order o t) (natAbs (to -ℤ level (gridOf s) root)) all k)
+      rw e (walk-all s v (λ q. leZ from (level (gridOf s) q) && listed s j q) (map windOf o) (permutation-order o t) (natAbs (to -ℤ level (gridOf s) root)) (all-levels (base (gridOf s)) to all) k)
 
   -- of the patches, from the root's level: each number in use
   pub scan-all : T (leZ from (level (gridOf s) root)) → (k : ℕ) → count (eqb k) (scan s 1 o 1 from to) ≡ cond (isUsed (entry (s .entries) k)) 1 0

@@ -157,7 +157,7 @@ module _ (es : List Entry) (f : Place → Bool) (ws : List Wind) where
 
 -- ---- all the patches
 
-module _ (s : State) (v : Valid s) (only : (p : Place) → p .depth ≡ 0 → T (patch (gridOf s) (cells (s .entries)) p) → p ≡ root) where
+module _ (s : State) (v : Valid s) where
   -- a walk from the root through all levels meets each patch that it lists once, and nothing else
   pub walk-all : (f : Place → Bool) (ws : List Wind) → Order ws → (n : ℕ) → base (gridOf s) + 12 ≤ n → (k : ℕ) → count (eqb k) (walk (s .entries) f ws n root) ≡ cond (isUsed (entry (s .entries) k) && f (placeAt (s .entries) k)) 1 0
   walk-all f ws ord n h k = go (placeOf (entry (s .entries) k)) refl
@@ -175,7 +175,7 @@ module _ (s : State) (v : Valid s) (only : (p : Place) → p .depth ≡ 0 → T 
       here q true e y =
           let t = v .each k q e in
           let l = patch-depth (gridOf s) (cells (s .entries)) (v .mesh) q t in
-          rw (← place-number (s .entries) u k q e) (walk-once (s .entries) f ws ord q (is-yes (f q) y) (stands-above q t) n (q .depth) root (omega arith) (root-above (gridOf s) (cells (s .entries)) (v .mesh) only q t))
+          rw (← place-number (s .entries) u k q e) (walk-once (s .entries) f ws ord q (is-yes (f q) y) (stands-above q t) n (q .depth) root (omega arith) (root-above (gridOf s) (cells (s .entries)) (v .mesh) (v .rectangle) q t))
       here q false e y =
           count-none (eqb k) (walk (s .entries) f ws n root) (λ t.
           let m = met t in
