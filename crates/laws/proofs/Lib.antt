@@ -3,3 +3,5 @@ pub mod Lookups
 pub mod Refusals
 pub mod Requests
 pub mod Tapes
+pub mod Calls
+pub mod Demand

@@ -1,0 +1,116 @@
+-- The calls on the picture of a valid state: no first check refuses, and the state that is decoded is that state. So a build and any list of
+-- tapes lend on the picture of the state that the rules give.
+-- Assumes nothing.
+use Prim.Native.Nat.{ℕ, zero, suc, _+_, _*_, _≤_, _<_}
+use native.Mathlib.Nat.{mul-comm}
+use native.Mathlib.Omega.{arith}
+use mathlib.Core.Path.{_≡_, refl, sym, ap, _∙_, subst}
+use mathlib.Core.Logic.{_≢_}
+use mathlib.Core.Bool.{Bool, true, false, not, _&&_, _||_}
+use mathlib.Core.List.{List, [], _∷_}
+use lib.Dec.{T, eqb, leb, ltb}
+use lib.ListN.{length}
+use borrow.Author.Tests.{eq-eqb, le-leb, leb-true, ltb-false, not-false}
+use Rattle.mesh.specs.Place.{Grid}
+use Rattle.mesh.specs.State.{State, capacity, gridOf, inUse}
+use Rattle.mesh.specs.Valid.{Valid}
+use Rattle.mesh.specs.Picture.{rowWords, table, amounts}
+use Rattle.mesh.specs.Decode.{decode}
+use Rattle.mesh.specs.Test.{sound}
+use Rattle.mesh.specs.Refusal.{Check, _if_, refusal}
+use Rattle.mesh.specs.Build.{numbered, built}
+use Rattle.mesh.specs.Tape.{run}
+use Rattle.mesh.specs.Call.{Lent, picture, stateOf, outside, no1, no2, no3, lentChecks, unless, Built, buildChecks, buildCall, Taped, tapeCall}
+use Rattle.geometry.proofs.Bools.{yes-is}
+use Rattle.geometry.proofs.Base.{Rectangle}
+use Rattle.numbering.proofs.Checks.{passes}
+use Rattle.numbering.proofs.Building.{built-valid, built-capacity}
+use Rattle.pictures.proofs.Rows.{table-length, amounts-length}
+use Rattle.pictures.proofs.Decoding.{decode-back}
+use Rattle.pictures.proofs.Soundness.{picture-sound, sound-test}
+use Rattle.laws.specs.Deeds.{after, deeds}
+use Rattle.laws.proofs.Refusals.{unless-accepted, unless-refused}
+use Rattle.laws.proofs.Tapes.{Led, run-led}
+
+-- ---- ranges
+
+in-side : (low high n : ℕ) → low ≤ n → n ≤ high → outside low high n ≡ false
+in-side low high n a b = rw (le-leb low n a, le-leb n high b)
+
+both-true : (a b : Bool) → not (a && b) ≡ false → (a ≡ true) × (b ≡ true)
+both-true true true e = (refl, refl)
+both-true true false e = absurd (let z : _≡_ {A = ℕ} 0 1 = cc in omega arith)
+both-true false b e = absurd (let z : _≡_ {A = ℕ} 0 1 = cc in omega arith)
+
+side-in : (low high n : ℕ) → outside low high n ≡ false → (low ≤ n) × (n ≤ high)
+side-in low high n e = let (a, b) = both-true (leb low n) (leb n high) e in (leb-true low n a, leb-true n high b)
+
+neither : (a b : Bool) → (a || b) ≡ false → (a ≡ false) × (b ≡ false)
+neither true b e = absurd (let z : _≡_ {A = ℕ} 0 1 = cc in omega arith)
+neither false b e = (refl, e)
+
+-- ---- the first checks
+
+module _ (s : State) (v : Valid s) where
+  pub picture-state : stateOf (picture s) ≡ s
+  picture-state = decode-back s v
+
+  sizes-fit : (length (table s) ≡ rowWords * (capacity s + 1)) × (length (amounts s) ≡ capacity s + 1)
+  sizes-fit =
+      let long : length (s .entries) ≡ capacity s + 1 = omega (arith, v .sizes .0) in
+      (table-length s ∙ ap (λ (n : ℕ). n * rowWords) long ∙ mul-comm (capacity s + 1) rowWords, amounts-length s ∙ long)
+
+  pub picture-accepted : refusal (lentChecks (capacity s) (picture s)) ≡ 0
+  unfolding refusal lentChecks
+  picture-accepted =
+      rw (
+        eq-eqb (length (table s)) (rowWords * (capacity s + 1)) (sizes-fit .0),
+        eq-eqb (length (amounts s)) (capacity s + 1) (sizes-fit .1),
+        in-side 5 4095 (capacity s) (v .sizes .0) (v .sizes .1),
+        in-side 1 32 (gridOf s .columns) (v .rectangle .0) (v .rectangle .1),
+        in-side 1 32 (gridOf s .rows) (v .rectangle .2) (v .rectangle .3),
+        yes-is (sound (s .header) (table s) (amounts s)) (sound-test (s .header) (table s) (amounts s) (picture-sound v)),
+      )
+
+  -- a tape on the picture of a state runs on that state
+  pub tape-runs : (cap : ℕ) → capacity s ≡ cap → (bytes : List ℕ) → tapeCall cap (picture s) bytes ≡ (let r = run s bytes in record { done = r .done; why = r .why; offset = r .offset; lent = picture (r .state) })
+  unfolding tapeCall
+  tape-runs cap c bytes =
+      unless-accepted _ _ (refusal (lentChecks cap (picture s))) (ap (λ (n : ℕ). refusal (lentChecks n (picture s))) (sym c) ∙ picture-accepted)
+      ∙ ap (λ (t : State). let r = run t bytes in record { done = r .done; why = r .why; offset = r .offset; lent = picture (r .state) }) picture-state
+
+-- ---- a build
+
+pub record Buildable (cap : ℕ) (g : Grid) : Type 0 where
+  pub sizes : (5 ≤ cap) × (cap ≤ 4095)
+  pub rectangle : Rectangle g
+  pub room : length (numbered g) ≤ cap
+
+pub build-checked : (cap : ℕ) (l : Lent) (g : Grid) → refusal (buildChecks cap l g) ≡ 0 → Buildable cap g
+unfolding buildChecks
+build-checked cap l g ok =
+    let (a₁, h₁) = passes 1 _ _ (λ z. omega arith) ok in
+    let (a₂, h₂) = passes 2 _ _ (λ z. omega arith) h₁ in
+    let (a₃, h₃) = passes 11 _ _ (λ z. omega arith) h₂ in
+    let (b, c) = neither (not (eqb (length (l .values)) (cap + 1))) (outside 5 4095 cap) (neither (not (eqb (length (l .words)) (rowWords * (cap + 1)))) _ a₁ .1) in
+    let (d, e) = neither (outside 1 32 (g .columns)) (outside 1 32 (g .rows)) a₂ in
+    let (p, q) = side-in 1 32 (g .columns) d in
+    let (u, w) = side-in 1 32 (g .rows) e in
+    record { sizes = side-in 5 4095 cap c; rectangle = (p, q, u, w); room = ltb-false cap (length (numbered g)) a₃ }
+
+pub build-valid : (cap : ℕ) (g : Grid) → Buildable cap g → Valid (built g cap) × (capacity (built g cap) ≡ cap)
+build-valid cap g b = (built-valid g cap (b .rectangle) (b .sizes .0) (b .sizes .1) (b .room), built-capacity g cap (b .room))
+
+-- ---- a build and any list of tapes
+
+unfoldable pub afterCalls : ℕ → Lent → List (List ℕ) → Lent
+afterCalls cap l [] = l
+afterCalls cap l (t ∷ ts) = afterCalls cap (tapeCall cap l t .lent) ts
+
+pub calls-picture : (ts : List (List ℕ)) (cap : ℕ) (s : State) → Valid s → capacity s ≡ cap → afterCalls cap (picture s) ts ≡ picture (after s ts)
+unfolding afterCalls after run
+calls-picture [] cap s v c = refl
+calls-picture (t ∷ ts) cap s v c =
+    let (led, n) = run-led t 0 s 0 0 v in
+    ap (λ (r : Taped). afterCalls cap (r .lent) ts) (tape-runs s v cap c t)
+    ∙ calls-picture ts cap (run s t .state) (led .valid) (omega (arith, led .same-length))

@@ -1,0 +1,98 @@
+-- Demand 3, for every accepted build and every list of tapes, refused requests among them: the theorem that the laws are for.
+-- Assumes nothing.
+use Prim.Native.Nat.{ℕ, zero, suc, _<_}
+use native.Mathlib.Omega.{arith}
+use mathlib.Core.Path.{_≡_, refl, sym, ap, _∙_, subst, fun-ext}
+use mathlib.Core.Logic.{_≢_, _↔_}
+use mathlib.Core.Bool.{Bool, true, false, cond}
+use mathlib.Core.Option.{Option, none, some}
+use mathlib.Core.List.{List}
+use lib.Dec.{T, eqb}
+use lib.ListN.{length, getD}
+use lib.IntN.{ℤ, pos}
+use lib.Signed.{leZ}
+use Rattle.mesh.specs.Tools.{count}
+use Rattle.mesh.specs.Place.{Place, Grid, Wind, compass, kidWinds, sideWinds, around, root, level}
+use Rattle.mesh.specs.Winds.{wordOfWind}
+use Rattle.mesh.specs.Mesh.{leaf}
+use Rattle.mesh.specs.State.{State, Header, placeOf, isUsed, entry, cells, number, inUse, gridOf}
+use Rattle.mesh.specs.Valid.{Valid}
+use Rattle.mesh.specs.Refusal.{refusal}
+use Rattle.mesh.specs.Build.{full, blankCell, built}
+use Rattle.mesh.specs.Scan.{permutation, scan}
+use Rattle.mesh.specs.Lookup.{holds, lookup}
+use Rattle.mesh.specs.Call.{Lent, picture, unless, Built, buildChecks, buildCall}
+use Rattle.geometry.proofs.Tiling.{groundOf, tiling-one}
+use Rattle.numbering.proofs.Numbers.{contents}
+use Rattle.numbering.proofs.Building.{built-contents}
+use Rattle.pictures.proofs.Links.{_of_, linkWord, link-place, links-return, parent-kid-return}
+use Rattle.walking.specs.Points.{total}
+use Rattle.walking.proofs.Scans.{scan-all}
+use Rattle.walking.proofs.Counts.{in-use-counts}
+use Rattle.laws.specs.Deeds.{Deed, Contents, setRules, after, deeds}
+use Rattle.laws.proofs.Refusals.{unless-accepted, unless-why}
+use Rattle.laws.proofs.Lookups.{lookup-leaf, lookup-none}
+use Rattle.laws.proofs.Tapes.{Led, raised, tapes-led}
+use Rattle.laws.proofs.Calls.{Buildable, build-checked, build-valid, afterCalls, calls-picture}
+
+-- every level-0 cell of the rectangle, blank
+abbrev pub fullContents : Grid → Contents
+fullContents g q = cond (full g q) (some blankCell) none
+
+-- what holds of a state s of the grid g that the deeds ds lead to
+pub record Demand3 (g : Grid) (ds : List Deed) (s : State) : Type 0 where
+  pub same-grid : gridOf s ≡ g
+  pub mark : s .header .mark ≡ raised (length ds) 0
+  -- one mesh under one numbering
+  pub valid : Valid s
+  -- "the mesh that the accepted requests give by the set rules alone"
+  pub by-set-rules : contents (s .entries) ≡ setRules ds (fullContents g)
+  -- "links exactly between adjacent patches": the word w of the row of n names m exactly if m stands at the w-th place around
+  pub linked : (n m w : ℕ) (p q : Place) → w < 9 → placeOf (entry (s .entries) n) ≡ some p → placeOf (entry (s .entries) m) ≡ some q
+      → (linkWord s n w ≡ pos m) ↔ (getD (around (gridOf s) (some p)) w none ≡ some q)
+  -- "and returned": by the opposite wind, and between parent and kid
+  pub returned : (w : Wind) → T (w of sideWinds) → (n m : ℕ) → m ≢ 0 → linkWord s n (wordOfWind w) ≡ pos m → linkWord s m (wordOfWind (compass w .opposite)) ≡ pos n
+  pub parents : (n m : ℕ)
+      → ((w : Wind) → T (w of kidWinds) → m ≢ 0 → linkWord s n (wordOfWind w) ≡ pos m → linkWord s m 0 ≡ pos n)
+      × (n ≢ 0 → linkWord s m 0 ≡ pos n → (w : Wind) × T (w of kidWinds) × (linkWord s n (wordOfWind w) ≡ pos m))
+  -- "every point of the remaining area in one leaf", which the lookup gives; no leaf holds any other point
+  pub tiled : (u v : ℕ) → T (cells (s .entries) (groundOf (gridOf s) u v))
+      → (p : Place) × T (leaf (gridOf s) (cells (s .entries)) p) × T (holds (gridOf s) p u v) × (lookup s u v ≡ number (s .entries) p) × (number (s .entries) p ≢ 0)
+  pub one-leaf : (u v : ℕ) (p q : Place) → T (leaf (gridOf s) (cells (s .entries)) p) → T (holds (gridOf s) p u v) → T (leaf (gridOf s) (cells (s .entries)) q) → T (holds (gridOf s) q u v) → p ≡ q
+  pub no-leaf : (u v : ℕ) → (T (cells (s .entries) (groundOf (gridOf s) u v)) → ⊥) → lookup s u v ≡ 0
+  -- "a walk meets each patch once": from the root over all levels, in any order of the kids
+  pub walked : (o : List ℕ) → T (permutation o) → (from to : ℤ) → T (leZ (pos 12) to) → T (leZ from (level (gridOf s) root))
+      → (k : ℕ) → count (eqb k) (scan s 1 o 1 from to) ≡ cond (isUsed (entry (s .entries) k)) 1 0
+  -- "the number in use is ghosts plus distinct corner points of each level"
+  pub counted : inUse (s .entries) ≡ total (gridOf s) (cells (s .entries))
+
+-- it holds of every valid state that the deeds lead to
+demanded : (g : Grid) (cap : ℕ) → Buildable cap g → (ds : List Deed) (s : State) → Led (built g cap) ds s → Demand3 g ds s
+unfolding built
+demanded g cap b ds s l = record {
+  same-grid = l .same-grid;
+  mark = l .mark;
+  valid = l .valid;
+  by-set-rules = l .by-rules ∙ ap (setRules ds) (fun-ext (built-contents g cap (b .rectangle)));
+  linked = link-place s (l .valid);
+  returned = links-return s (l .valid);
+  parents = parent-kid-return s (l .valid);
+  tiled = λ u v t. lookup-leaf (l .valid) u v t;
+  one-leaf = λ u v p q a h c k. tiling-one (l .valid .mesh) u v p q a h c k;
+  no-leaf = λ u v h. lookup-none (l .valid) u v h;
+  walked = λ o t from to a h k. scan-all s (l .valid) o t from to a h k;
+  counted = in-use-counts (l .valid);
+}
+
+-- for every accepted build and every list of tapes: what is lent is the picture of the state that the rules give, and demand 3 holds of it
+pub demand-3 : (cap : ℕ) (l : Lent) (g : Grid) → buildCall cap l g .why ≡ 0 → (ts : List (List ℕ))
+    → (afterCalls cap (buildCall cap l g .lent) ts ≡ picture (after (built g cap) ts)) × Demand3 g (deeds (built g cap) ts) (after (built g cap) ts)
+unfolding buildCall
+demand-3 cap l g ok ts =
+    let n : ℕ = refusal (buildChecks cap l g) in
+    let e : n ≡ 0 = unless-why (λ n. record { why = n; in-use = 0; lent = l }) (record { why = 0; in-use = inUse (built g cap .entries); lent = picture (built g cap) }) (λ (r : Built). r .why) (λ k. refl) n ok in
+    let b = build-checked cap l g e in
+    let (v, c) = build-valid cap g b in (
+      ap (λ (r : Built). afterCalls cap (r .lent) ts) (unless-accepted _ _ n e) ∙ calls-picture ts cap (built g cap) v c,
+      demanded g cap b (deeds (built g cap) ts) (after (built g cap) ts) (tapes-led ts (built g cap) v),
+    )
