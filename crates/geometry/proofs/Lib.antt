@@ -4,8 +4,10 @@ pub mod Lists
 pub mod Places
 pub mod Distinct
 pub mod Kids
+pub mod Digits
 pub mod Near
 pub mod Tree
+pub mod Walls
 pub mod Base
 pub mod Full
 pub mod Points

@@ -29,42 +29,12 @@ use Rattle.pictures.proofs.Links.{_of_, linkWord, link-place, links-return, par
 use Rattle.walking.specs.Points.{total}
 use Rattle.walking.proofs.Scans.{scan-all}
 use Rattle.walking.proofs.Counts.{in-use-counts}
-use Rattle.laws.specs.Deeds.{Deed, Contents, setRules, after, deeds}
+use Rattle.laws.specs.Deeds.{Deed, setRules, after, deeds}
+use Rattle.laws.specs.Demand.{Demand3}
 use Rattle.laws.proofs.Refusals.{unless-accepted, unless-why}
 use Rattle.laws.proofs.Lookups.{lookup-leaf, lookup-none}
-use Rattle.laws.proofs.Tapes.{Led, raised, tapes-led}
+use Rattle.laws.proofs.Tapes.{Led, tapes-led}
 use Rattle.laws.proofs.Calls.{Buildable, build-checked, build-valid, afterCalls, calls-picture}
-
--- every level-0 cell of the rectangle, blank
-abbrev pub fullContents : Grid → Contents
-fullContents g q = cond (full g q) (some blankCell) none
-
--- what holds of a state s of the grid g that the deeds ds lead to
-pub record Demand3 (g : Grid) (ds : List Deed) (s : State) : Type 0 where
-  pub same-grid : gridOf s ≡ g
-  pub mark : s .header .mark ≡ raised (length ds) 0
-  -- one mesh under one numbering
-  pub valid : Valid s
-  -- "the mesh that the accepted requests give by the set rules alone"
-  pub by-set-rules : contents (s .entries) ≡ setRules ds (fullContents g)
-  -- "links exactly between adjacent patches": the word w of the row of n names m exactly if m stands at the w-th place around
-  pub linked : (n m w : ℕ) (p q : Place) → w < 9 → placeOf (entry (s .entries) n) ≡ some p → placeOf (entry (s .entries) m) ≡ some q
-      → (linkWord s n w ≡ pos m) ↔ (getD (around (gridOf s) (some p)) w none ≡ some q)
-  -- "and returned": by the opposite wind, and between parent and kid
-  pub returned : (w : Wind) → T (w of sideWinds) → (n m : ℕ) → m ≢ 0 → linkWord s n (wordOfWind w) ≡ pos m → linkWord s m (wordOfWind (compass w .opposite)) ≡ pos n
-  pub parents : (n m : ℕ)
-      → ((w : Wind) → T (w of kidWinds) → m ≢ 0 → linkWord s n (wordOfWind w) ≡ pos m → linkWord s m 0 ≡ pos n)
-      × (n ≢ 0 → linkWord s m 0 ≡ pos n → (w : Wind) × T (w of kidWinds) × (linkWord s n (wordOfWind w) ≡ pos m))
-  -- "every point of the remaining area in one leaf", which the lookup gives; no leaf holds any other point
-  pub tiled : (u v : ℕ) → T (cells (s .entries) (groundOf (gridOf s) u v))
-      → (p : Place) × T (leaf (gridOf s) (cells (s .entries)) p) × T (holds (gridOf s) p u v) × (lookup s u v ≡ number (s .entries) p) × (number (s .entries) p ≢ 0)
-  pub one-leaf : (u v : ℕ) (p q : Place) → T (leaf (gridOf s) (cells (s .entries)) p) → T (holds (gridOf s) p u v) → T (leaf (gridOf s) (cells (s .entries)) q) → T (holds (gridOf s) q u v) → p ≡ q
-  pub no-leaf : (u v : ℕ) → (T (cells (s .entries) (groundOf (gridOf s) u v)) → ⊥) → lookup s u v ≡ 0
-  -- "a walk meets each patch once": from the root over all levels, in any order of the kids
-  pub walked : (o : List ℕ) → T (permutation o) → (from to : ℤ) → T (leZ (pos 12) to) → T (leZ from (level (gridOf s) root))
-      → (k : ℕ) → count (eqb k) (scan s 1 o 1 from to) ≡ cond (isUsed (entry (s .entries) k)) 1 0
-  -- "the number in use is ghosts plus distinct corner points of each level"
-  pub counted : inUse (s .entries) ≡ total (gridOf s) (cells (s .entries))
 
 -- it holds of every valid state that the deeds lead to
 demanded : (g : Grid) (cap : ℕ) → Buildable cap g → (ds : List Deed) (s : State) → Led (built g cap) ds s → Demand3 g ds s

@@ -17,14 +17,10 @@ use Rattle.mesh.specs.Tape.{Kind, kind, Step, stop, next, answered, stepBy, Run
 use Rattle.mesh.proofs.Runs.{run-stop, run-next}
 use Rattle.numbering.proofs.Numbers.{contents}
 use Rattle.laws.specs.Deeds.{Deed, deedOf, setRule, setRules, askedBy, deedsFrom, after, deeds}
+use Rattle.laws.specs.Demand.{raised}
 use Rattle.laws.proofs.Requests.{Done, request-done}
 
 -- ---- from a state by some deeds to another
-
--- the mark after so many accepted requests
-abbrev pub raised : ℕ → ℕ → ℕ
-raised zero m = m
-raised (suc n) m = raised n ((m + 1) % 65536)
 
 pub record Led (s : State) (ds : List Deed) (t : State) : Type 0 where
   pub valid : Valid t

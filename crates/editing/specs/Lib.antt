@@ -1,0 +1,4 @@
+-- The steps of a request on a table, and the tables between two steps.
+pub mod Linked
+pub mod Steps
+pub mod Anew

@@ -1,0 +1,148 @@
+-- A step to a side by the last digits of the indices: it stays among the parent's kids, or it leads to a kid of the parent's neighbour on that
+-- side, and in both cases the digits alone say to which kid.
+-- Assumes nothing.
+use Prim.Native.Nat.{ℕ, zero, suc, pred, _+_, _*_, _/_, _%_, _≤_, _<_}
+use native.Mathlib.Omega.{arith}
+use mathlib.Core.Path.{_≡_, refl, sym, ap, _∙_}
+use mathlib.Core.Bool.{Bool, true, false, _&&_, cond}
+use mathlib.Core.Option.{Option, none, some, Option·map, Option·some-injective}
+use lib.Dec.{T, eqb, leb}
+use Rattle.mesh.specs.Tools.{any}
+use Rattle.mesh.specs.Place.{Place, Grid, at, before, toNorth, toEast, toSouth, toWest, step, kid, parent, compass, sideWinds, Wind, NE, SE, SW, NW, N, E, S, W}
+use Rattle.mesh.specs.Winds.{wordOfWind}
+use Rattle.geometry.proofs.Places.{place-path, before-is, mapped}
+use Rattle.geometry.proofs.Kids.{up, parent-up, up-is, parent-depth}
+
+-- ---- a kid by its digits
+
+-- the kid whose column ends in the digit l and whose row ends in the digit m
+unfoldable pub kidBy : ℕ → ℕ → Place → Place
+kidBy l m p = at (suc (p .depth)) (2 * p .col + l) (2 * p .row + m)
+
+pub kid-by : (w : Wind) (p : Place) → kid w p ≡ kidBy (compass w .east / 2) (compass w .north / 2) p
+unfolding kid kidBy
+kid-by w p = refl
+
+pub kid-by-parent : (l m : ℕ) (p : Place) → l ≤ 1 → m ≤ 1 → parent (kidBy l m p) ≡ some p
+unfolding kidBy parent
+kid-by-parent l m p a b =
+    let x : (2 * p .col + l) / 2 ≡ p .col = omega arith in
+    let y : (2 * p .row + m) / 2 ≡ p .row = omega arith in
+    ap some (place-path (at (p .depth) ((2 * p .col + l) / 2) ((2 * p .row + m) / 2)) p refl x y)
+
+pub kid-by-digits : (l m : ℕ) (p : Place) → l ≤ 1 → m ≤ 1 → (kidBy l m p .col % 2 ≡ l) × (kidBy l m p .row % 2 ≡ m)
+unfolding kidBy
+kid-by-digits l m p a b =
+    let x : (2 * p .col + l) % 2 ≡ l = omega arith in
+    let y : (2 * p .row + m) % 2 ≡ m = omega arith in
+    (x, y)
+
+-- every place but the root is the kid that its digits say
+pub by-digits : (p : Place) → 0 < p .depth → p ≡ kidBy (p .col % 2) (p .row % 2) (up p)
+unfolding kidBy up
+by-digits p h = place-path p (at (suc (pred (p .depth))) (2 * (p .col / 2) + p .col % 2) (2 * (p .row / 2) + p .row % 2)) (omega arith) (omega arith) (omega arith)
+
+pub parent-by : (q p : Place) → parent q ≡ some p → q ≡ kidBy (q .col % 2) (q .row % 2) p
+parent-by q p e = by-digits q (omega (arith, parent-depth q p e)) ∙ ap (kidBy (q .col % 2) (q .row % 2)) (up-is q p e)
+
+-- ---- a step by digits
+
+-- a wind of the four sides
+abbrev pub aside : Wind → Bool
+aside w = any (λ x. eqb (wordOfWind x) (wordOfWind w)) sideWinds
+
+-- a digit moved by an offset (one too large) is still one of the same two
+abbrev pub within : ℕ → Bool
+within a = leb 1 a && leb a 2
+
+-- the digits moved by the offsets of a wind
+abbrev pub colMoved : Wind → Place → ℕ
+colMoved w p = p .col % 2 + compass w .east
+
+abbrev pub rowMoved : Wind → Place → ℕ
+rowMoved w p = p .row % 2 + compass w .north
+
+-- the step stays among the parent's kids
+abbrev pub stays : Wind → Place → Bool
+stays w p = within (colMoved w p) && within (rowMoved w p)
+
+-- by the two values of a digit
+pub digit : {A : Type 0} (n : ℕ) → (n % 2 ≡ 0 → A) → (n % 2 ≡ 1 → A) → A
+digit {A = A} n a b = go (n % 2) refl
+  where
+    go : (d : ℕ) → n % 2 ≡ d → A
+    go zero e = a e
+    go (suc zero) e = b e
+    go (suc (suc d)) e = absurd (omega arith)
+
+pub within-still : (n : ℕ) → within (n % 2 + 1) ≡ true
+within-still n = digit n (λ e. rw e) (λ e. rw e)
+
+is-kid : (e i j x y l m : ℕ) → 0 < e → i ≡ 2 * x + l → j ≡ 2 * y + m → some (at e i j) ≡ some (kidBy l m (at (pred e) x y))
+unfolding kidBy
+is-kid e i j x y l m h a b = ap some (place-path (at e i j) (at (suc (pred e)) (2 * x + l) (2 * y + m)) (omega arith) a b)
+
+module _ (g : Grid) where
+  -- where a step leads, from the parent or from where the same step leads from the parent
+  abbrev ByDigits : Wind → Place → Type 0
+  ByDigits w p = step g w p ≡ Option·map (kidBy ((colMoved w p + 1) % 2) ((rowMoved w p + 1) % 2)) (cond (stays w p) (some (up p)) (step g w (up p)))
+
+  north-digits : (d i j : ℕ) → 0 < d → ByDigits N (at d i j)
+  unfolding step toNorth up
+  north-digits d i j h =
+      digit j (λ e. rw (within-still i, e) (is-kid d i (suc j) (i / 2) (j / 2) ((i % 2 + 1 + 1) % 2) 1 h (omega arith) (omega arith)))
+      (λ e. rw (within-still i, e) (is-kid d i (suc j) (i / 2) (suc (j / 2)) ((i % 2 + 1 + 1) % 2) 0 h (omega arith) (omega arith)))
+
+  east-digits : (d i j : ℕ) → 0 < d → ByDigits E (at d i j)
+  unfolding step toEast up
+  east-digits d i j h =
+      digit i (λ e. rw (within-still j, e) (is-kid d (suc i) j (i / 2) (j / 2) 1 ((j % 2 + 1 + 1) % 2) h (omega arith) (omega arith)))
+      (λ e. rw (within-still j, e) (is-kid d (suc i) j (suc (i / 2)) (j / 2) 0 ((j % 2 + 1 + 1) % 2) h (omega arith) (omega arith)))
+
+  south-digits : (d i j : ℕ) → 0 < d → ByDigits S (at d i j)
+  unfolding step toSouth up
+  south-digits d i zero h = rw (within-still i)
+  south-digits d i (suc j) h =
+      digit (suc j) (λ e.
+      let k : suc j / 2 ≡ suc (j / 2) = omega arith in
+      rw (within-still i, e, k) (is-kid d i j (i / 2) (j / 2) ((i % 2 + 1 + 1) % 2) 1 h (omega arith) (omega arith)))
+      (λ e. rw (within-still i, e) (is-kid d i j (i / 2) (suc j / 2) ((i % 2 + 1 + 1) % 2) 0 h (omega arith) (omega arith)))
+
+  west-digits : (d i j : ℕ) → 0 < d → ByDigits W (at d i j)
+  unfolding step toWest up
+  west-digits d zero j h = refl
+  west-digits d (suc i) j h =
+      digit (suc i) (λ e.
+      let k : suc i / 2 ≡ suc (i / 2) = omega arith in
+      rw (within-still j, e, k) (is-kid d i j (i / 2) (j / 2) 1 ((j % 2 + 1 + 1) % 2) h (omega arith) (omega arith)))
+      (λ e. rw (within-still j, e) (is-kid d i j (suc i / 2) (j / 2) 0 ((j % 2 + 1 + 1) % 2) h (omega arith) (omega arith)))
+
+  pub step-digits : (w : Wind) → T (aside w) → (p : Place) → 0 < p .depth
+      → step g w p ≡ Option·map (kidBy ((colMoved w p + 1) % 2) ((rowMoved w p + 1) % 2)) (cond (stays w p) (some (up p)) (step g w (up p)))
+  step-digits N t p h = north-digits (p .depth) (p .col) (p .row) h
+  step-digits E t p h = east-digits (p .depth) (p .col) (p .row) h
+  step-digits S t p h = south-digits (p .depth) (p .col) (p .row) h
+  step-digits W t p h = west-digits (p .depth) (p .col) (p .row) h
+  step-digits NE t p h = absurd t
+  step-digits SE t p h = absurd t
+  step-digits SW t p h = absurd t
+  step-digits NW t p h = absurd t
+
+  -- the parent's place of where a step leads
+  pub step-up : (w : Wind) → T (aside w) → (p : Place) → 0 < p .depth → Option·map up (step g w p) ≡ cond (stays w p) (some (up p)) (step g w (up p))
+  step-up w t p h = rw (step-digits w t p h) (back ((colMoved w p + 1) % 2) ((rowMoved w p + 1) % 2) (omega arith) (omega arith) (cond (stays w p) (some (up p)) (step g w (up p))))
+    where
+      back : (l m : ℕ) → l ≤ 1 → m ≤ 1 → (o : Option Place) → Option·map up (Option·map (kidBy l m) o) ≡ o
+      back l m a b none = refl
+      back l m a b (some q) = ap some (up-is (kidBy l m q) q (kid-by-parent l m q a b))
+
+  pub step-depth : (w : Wind) → T (aside w) → (p q : Place) → step g w p ≡ some q → q .depth ≡ p .depth
+  unfolding step toNorth toEast toSouth toWest
+  step-depth N t p q e = rw (← Option·some-injective _ _ e)
+  step-depth E t p q e = rw (← Option·some-injective _ _ e)
+  step-depth S t p q e = let (j, b, f) = mapped (λ j. at (p .depth) (p .col) j) q (before (p .row)) e in rw (← f)
+  step-depth W t p q e = let (i, b, f) = mapped (λ i. at (p .depth) i (p .row)) q (before (p .col)) e in rw (← f)
+  step-depth NE t p q e = absurd t
+  step-depth SE t p q e = absurd t
+  step-depth SW t p q e = absurd t
+  step-depth NW t p q e = absurd t

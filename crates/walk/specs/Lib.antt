@@ -1,0 +1,2 @@
+-- Scan and lookup, row by row.
+pub mod Rows

@@ -1,0 +1,46 @@
+-- Scan and lookup as the code meets the rows: down kid by kid, one level less left at each step.
+-- Assumes nothing.
+use Prim.Native.Nat.{ℕ, zero, suc, _+_, _*_, _/_, _%_, _^_}
+use mathlib.Core.Bool.{Bool, _&&_, _||_, cond}
+use mathlib.Core.List.{List, [], _∷_, _++_, map}
+use lib.Dec.{eqb, leb, ltb}
+use lib.ListN.{getD}
+use lib.IntN.{ℤ, pos}
+use lib.Signed.{leZ}
+use Rattle.mesh.specs.Tools.{flat}
+use Rattle.mesh.specs.Picture.{rowWords}
+use Rattle.table.specs.Words.{linkOf, flagOf, depthOf}
+use Rattle.table.specs.Worked.{kidWord}
+
+module _ (t : List ℤ) (cap d : ℕ) where
+  -- a cell has kids exactly if its NE kid word is not 0
+  unfoldable pub leafRow : ℕ → Bool
+  leafRow n = flagOf t 0 n && eqb (linkOf t cap n 1) 0
+
+  -- "1 patches, 2 cells, 3 leaves, 4 H-walls, 5 V-walls, 6 points (levels 0 up)"
+  unfoldable pub listedRow : ℕ → ℕ → Bool
+  listedRow k n =
+      eqb k 1 ||
+      ((eqb k 2 && flagOf t 0 n) ||
+      ((eqb k 3 && leafRow n) ||
+      ((eqb k 4 && flagOf t 1 n) ||
+      ((eqb k 5 && flagOf t 2 n) ||
+      (eqb k 6 && leb d (depthOf t d n))))))
+
+  -- "for levels from-level to to-level": the row's level is not below from
+  unfoldable pub fromLevel : ℤ → ℕ → Bool
+  fromLevel from n = leZ from (getD t (n * rowWords + 9) (pos 0))
+
+  -- the rows from n on that f lists, so many levels down, each before its kids, kids by their words in the given order
+  unfoldable pub rowWalk : (ℕ → Bool) → List ℕ → ℕ → ℕ → List ℕ
+  rowWalk f o zero n = cond (eqb n 0) [] (cond (f n) (n ∷ []) [])
+  rowWalk f o (suc l) n = cond (eqb n 0) [] (cond (f n) (n ∷ []) [] ++ flat (map (λ w. rowWalk f o l (linkOf t cap n w)) o))
+
+  -- the leaf that holds a point, by the digits of its coordinates, so many levels down from the row n; 0 where there is none
+  unfoldable pub rowFind : ℕ → ℕ → ℕ → ℕ → ℕ
+  rowFind u v zero n = cond (leafRow n) n 0
+  rowFind u v (suc l) n = cond (leafRow n) n (cond (eqb n 0) 0 (rowFind u v l (linkOf t cap n (kidWord (u / 2 ^ l % 2) (v / 2 ^ l % 2)))))
+
+  -- from the root, which is as wide as 2 ^ (d + 12)
+  unfoldable pub rowLookup : ℕ → ℕ → ℕ
+  rowLookup u v = cond (ltb u (2 ^ (d + 12)) && ltb v (2 ^ (d + 12))) (rowFind u v (d + 12) 1) 0

@@ -1,0 +1,1 @@
+// Scan and lookup over the rows of a table.
