@@ -14,7 +14,7 @@ import tempfile
 import generate
 import reference as r
 
-VECTORS = pathlib.Path("/work/shared/vectors/base")
+VECTORS = pathlib.Path(__file__).parent / "vectors"
 OUTCOMES = {"passed": 0, "failed": 0}
 
 
