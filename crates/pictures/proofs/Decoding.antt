@@ -28,11 +28,11 @@ use Rattle.pictures.proofs.Rows.{row-length}
 
 -- ---- numbers
 
-low-digit : (b : Bool) (n : ℕ) → eqb ((cond b 1 0 + 2 * n) % 2) 1 ≡ b
+pub low-digit : (b : Bool) (n : ℕ) → eqb ((cond b 1 0 + 2 * n) % 2) 1 ≡ b
 low-digit true n = eq-eqb ((1 + 2 * n) % 2) 1 (omega arith)
 low-digit false n = ne-eqb ((0 + 2 * n) % 2) 1 (λ h. omega arith)
 
-high-digits : (b : Bool) (n : ℕ) → (cond b 1 0 + 2 * n) / 2 ≡ n
+pub high-digits : (b : Bool) (n : ℕ) → (cond b 1 0 + 2 * n) / 2 ≡ n
 high-digits true n = let h : (1 + 2 * n) / 2 ≡ n = omega arith in h
 high-digits false n = let h : (0 + 2 * n) / 2 ≡ n = omega arith in h
 

@@ -5,3 +5,6 @@ pub mod Equal
 pub mod Testing
 pub mod Soundness
 pub mod Links
+pub mod Pictured
+pub mod Linked
+pub mod Flagged

@@ -32,7 +32,7 @@ infix 20 _of_
 abbrev pub _of_ : Wind → List Wind → Bool
 w of ws = any (λ x. eqb (wordOfWind x) (wordOfWind w)) ws
 
-wind-lt : (w : Wind) → wordOfWind w < 9
+pub wind-lt : (w : Wind) → wordOfWind w < 9
 wind-lt NE = lit< tt
 wind-lt SE = lit< tt
 wind-lt SW = lit< tt

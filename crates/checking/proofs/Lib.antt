@@ -1,0 +1,2 @@
+-- The law of the checker, both ways.
+pub mod Passing
