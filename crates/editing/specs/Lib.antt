@@ -2,3 +2,4 @@
 pub mod Linked
 pub mod Steps
 pub mod Anew
+pub mod Tables

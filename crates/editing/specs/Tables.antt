@@ -1,0 +1,193 @@
+-- What an accepted refinement, removal or kill does to the words of a table, step by step and only near the cell.
+-- Assumes nothing.
+use Prim.Native.Nat.{ℕ, zero, suc, _+_, _-_}
+use mathlib.Core.Bool.{Bool, not, _&&_, _||_, cond}
+use mathlib.Core.List.{List, [], _∷_, _++_}
+use lib.Dec.{eqb}
+use lib.ListN.{set, getD}
+use lib.IntN.{ℤ}
+use lib.Ieee.{Float}
+use Rattle.mesh.specs.State.{plusZero}
+use Rattle.table.specs.Words.{wordOf, linkOf}
+use Rattle.table.specs.Worked.{kidWord, cellIn}
+use Rattle.editing.specs.Steps.{putWord, putUnlessNil, linkIn, takeOut}
+use Rattle.editing.specs.Anew.{refreshed}
+
+-- ---- free numbers
+
+-- the smallest free number from k on, among the next n; 0 if there is none
+unfoldable pub freeFrom : List ℤ → ℕ → ℕ → ℕ
+freeFrom t zero k = 0
+freeFrom t (suc n) k = cond (eqb (wordOf t k 12) 8192) k (freeFrom t n (k + 1))
+
+-- a table, and a number below which none is free
+pub record Lending : Type 0 where
+  pub words : List ℤ
+  pub low : ℕ
+
+-- ---- rows near a cell
+
+-- a kid's place: the parent's row, and the digits of the kid
+pub record Spot : Type 0 where
+  pub row : ℕ
+  pub l : ℕ
+  pub m : ℕ
+
+abbrev pub spot : ℕ → ℕ → ℕ → Spot
+spot n l m = record { row = n; l = l; m = m }
+
+module _ (t : List ℤ) (cap : ℕ) where
+  abbrev pub kidAt : Spot → ℕ
+  kidAt x = linkOf t cap (x .row) (kidWord (x .l) (x .m))
+
+  -- the four kids: SW, SE, NW, NE
+  abbrev pub kidSpots : ℕ → List Spot
+  kidSpots n = spot n 0 0 ∷ spot n 1 0 ∷ spot n 0 1 ∷ spot n 1 1 ∷ []
+
+  -- "of the patch north SW, SE; of the patch east NW, SW; of the patch north-east SW"
+  unfoldable pub wantedSpots : ℕ → List Spot
+  wantedSpots n =
+      let north = linkOf t cap n 5 in
+      let east = linkOf t cap n 6 in
+      kidSpots n ++ (spot north 0 0 ∷ spot north 1 0 ∷ spot east 0 1 ∷ spot east 0 0 ∷ spot (linkOf t cap east 5) 0 0 ∷ [])
+
+  -- the cells that share a wall with a kid from the south or the west
+  unfoldable pub outsideSpots : ℕ → List Spot
+  outsideSpots n =
+      let south = linkOf t cap n 7 in
+      let west = linkOf t cap n 8 in
+      spot south 0 1 ∷ spot south 1 1 ∷ spot west 1 0 ∷ spot west 1 1 ∷ []
+
+-- ---- steps over a list of rows
+
+-- the row's flags anew, unless it is 0
+abbrev pub refreshUnlessNil : List ℤ → ℕ → ℕ → ℕ → List ℤ
+refreshUnlessNil t cap d n = cond (eqb n 0) t (refreshed t cap d n)
+
+unfoldable pub refreshAt : List Spot → List ℤ → ℕ → ℕ → List ℤ
+refreshAt [] t cap d = t
+refreshAt (x ∷ xs) t cap d = refreshAt xs (refreshUnlessNil t cap d (kidAt t cap x)) cap d
+
+-- the flags' word and the status word of each of these kids
+unfoldable pub putCells : List Spot → List ℤ → ℕ → ℕ → ℕ → List ℤ
+putCells [] t cap f st = t
+putCells (x ∷ xs) t cap f st = let k = kidAt t cap x in putCells xs (putUnlessNil (putUnlessNil t k 12 f) k 13 st) cap f st
+
+unfoldable pub putValues : List Spot → List ℤ → ℕ → Float → List Float → List Float
+putValues [] t cap y v = v
+putValues (x ∷ xs) t cap y v = putValues xs t cap y (set v (kidAt t cap x) y)
+
+-- ---- refine
+
+unfoldable pub supplied : ℕ → ℕ → Spot → Lending → Lending
+supplied cap d x r =
+    let t = r .words in
+    let k = freeFrom t (cap + 1 - r .low) (r .low) in
+    cond (eqb (kidAt t cap x) 0) (record { words = linkIn t cap d (x .row) (x .l) (x .m) k; low = k + 1 }) r
+
+unfoldable pub suppliedAll : ℕ → ℕ → List Spot → Lending → Lending
+suppliedAll cap d [] r = r
+suppliedAll cap d (x ∷ xs) r = suppliedAll cap d xs (supplied cap d x r)
+
+-- "kids of a blank cell are blank, otherwise carried"
+abbrev pub kidStatus : ℕ → ℕ
+kidStatus st = cond (eqb st 0) 0 2
+
+unfoldable pub refineTable : ℕ → ℕ → ℕ → Lending → Lending
+refineTable cap d n r =
+    let s = suppliedAll cap d (wantedSpots (r .words) cap n) r in
+    let t = putCells (kidSpots (r .words) cap n) (s .words) cap 1 (kidStatus (wordOf (r .words) n 13)) in
+    record { words = refreshAt (wantedSpots t cap n ++ outsideSpots t cap n) t cap d; low = s .low }
+
+-- the values, with the words after the refinement
+unfoldable pub refineValues : List ℤ → ℕ → ℕ → List Float → List Float
+refineValues t cap n v = cond (eqb (wordOf t n 13) 0) v (putValues (kidSpots t cap n) t cap (getD v n plusZero) v)
+
+-- ---- remove
+
+-- a patch from level 0 up that no cell touches goes
+unfoldable pub touchedRow : List ℤ → ℕ → ℕ → ℕ → Bool
+touchedRow t cap d n =
+    let c = cellIn t cap d in
+    c n || (c (linkOf t cap n 8) || (c (linkOf t cap n 7) || c (linkOf t cap (linkOf t cap n 8) 7)))
+
+abbrev pub dropUntouched : List ℤ → ℕ → ℕ → ℕ → List ℤ
+dropUntouched t cap d n = cond (eqb n 0 || touchedRow t cap d n) t (takeOut t cap n)
+
+unfoldable pub dropAt : List Spot → List ℤ → ℕ → ℕ → List ℤ
+dropAt [] t cap d = t
+dropAt (x ∷ xs) t cap d = dropAt xs (dropUntouched t cap d (kidAt t cap x)) cap d
+
+unfoldable pub removeTable : List ℤ → ℕ → ℕ → ℕ → List ℤ
+removeTable t cap d n =
+    let t₁ = putCells (kidSpots t cap n) t cap 0 0 in
+    let t₂ = dropAt (wantedSpots t₁ cap n) t₁ cap d in
+    refreshAt (wantedSpots t₂ cap n ++ outsideSpots t₂ cap n) t₂ cap d
+
+unfoldable pub removeValues : List ℤ → ℕ → ℕ → List Float → List Float
+removeValues t cap n v = putValues (kidSpots t cap n) t cap plusZero v
+
+-- ---- kill
+
+abbrev pub kidless : List ℤ → ℕ → ℕ → Bool
+kidless t cap n = eqb (linkOf t cap n 1) 0 && (eqb (linkOf t cap n 2) 0 && (eqb (linkOf t cap n 3) 0 && eqb (linkOf t cap n 4) 0))
+
+-- a ghost without a kid goes, and then its parent if that has none left, up to so many levels
+unfoldable pub dropUp : ℕ → List ℤ → ℕ → ℕ → List ℤ
+dropUp zero t cap n = t
+dropUp (suc e) t cap n = cond (eqb n 0 || not (kidless t cap n)) t (dropUp e (takeOut t cap n) cap (linkOf t cap n 0))
+
+-- a corner of the killed cell that no cell touches goes, and the ghosts above it that have no kid left
+unfoldable pub dropCorner : List ℤ → ℕ → ℕ → ℕ → List ℤ
+dropCorner t cap d n = cond (eqb n 0 || touchedRow t cap d n) t (dropUp d (takeOut t cap n) cap (linkOf t cap n 0))
+
+-- a step at each kid of the row n that these words name
+abbrev pub eachKid : (List ℤ → ℕ → List ℤ) → ℕ → ℕ → List ℕ → List ℤ → List ℤ
+eachKid f cap n [] t = t
+eachKid f cap n (w ∷ ws) t = eachKid f cap n ws (f t (linkOf t cap n w))
+
+-- the rows so many levels down from n, by kids that these words name, with their flags anew
+unfoldable pub refreshDown : List ℕ → ℕ → List ℤ → ℕ → ℕ → ℕ → List ℤ
+refreshDown ws zero t cap d n = refreshUnlessNil t cap d n
+refreshDown ws (suc e) t cap d n = cond (eqb n 0) t (eachKid (λ t k. refreshDown ws e t cap d k) cap n ws t)
+
+-- the rows on and beside the border of a level-0 cell: its own, and those north, east, north-east, south and west of it
+pub record Border : Type 0 where
+  pub own : ℕ
+  pub north : ℕ
+  pub east : ℕ
+  pub both : ℕ
+  pub south : ℕ
+  pub west : ℕ
+
+-- on one level, the rows that lie along the border: all kids of its own patch; of the one north its southern kids SW and SE, and so on
+unfoldable pub refreshLevel : Border → ℕ → List ℤ → ℕ → ℕ → List ℤ
+refreshLevel b e t cap d =
+    let t₁ = refreshDown (3 ∷ 2 ∷ 4 ∷ 1 ∷ []) e t cap d (b .own) in
+    let t₂ = refreshDown (3 ∷ 2 ∷ []) e t₁ cap d (b .north) in
+    let t₃ = refreshDown (3 ∷ 4 ∷ []) e t₂ cap d (b .east) in
+    let t₄ = refreshDown (3 ∷ []) e t₃ cap d (b .both) in
+    let t₅ = refreshDown (4 ∷ 1 ∷ []) e t₄ cap d (b .south) in
+    refreshDown (2 ∷ 1 ∷ []) e t₅ cap d (b .west)
+
+-- level by level from level 0, n levels of them, so that the walls of the level below are right
+unfoldable pub refreshLevels : ℕ → Border → ℕ → List ℤ → ℕ → ℕ → List ℤ
+refreshLevels zero b e t cap d = t
+refreshLevels (suc n) b e t cap d = refreshLevels n b (e + 1) (refreshLevel b e t cap d) cap d
+
+-- the row n, or 0 if it is free
+abbrev pub stillUsed : List ℤ → ℕ → ℕ
+stillUsed t n = cond (eqb (wordOf t n 12) 8192) 0 n
+
+unfoldable pub killTable : List ℤ → ℕ → ℕ → ℕ → List ℤ
+killTable t cap d n =
+    let north = linkOf t cap n 5 in
+    let east = linkOf t cap n 6 in
+    let both = linkOf t cap east 5 in
+    let t₁ = putWord (putWord t n 12 0) n 13 0 in
+    let t₂ = dropCorner (dropCorner (dropCorner (dropCorner t₁ cap d both) cap d north) cap d east) cap d n in
+    let b : Border = record { own = stillUsed t₂ n; north = stillUsed t₂ north; east = stillUsed t₂ east; both = stillUsed t₂ both; south = linkOf t cap n 7; west = linkOf t cap n 8 } in
+    refreshLevels 13 b 0 t₂ cap d
+
+unfoldable pub killValues : ℕ → List Float → List Float
+killValues n v = set v n plusZero
