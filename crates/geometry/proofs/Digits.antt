@@ -3,15 +3,15 @@
 -- Assumes nothing.
 use Prim.Native.Nat.{ℕ, zero, suc, pred, _+_, _*_, _/_, _%_, _≤_, _<_}
 use native.Mathlib.Omega.{arith}
-use mathlib.Core.Path.{_≡_, refl, sym, ap, _∙_}
-use mathlib.Core.Bool.{Bool, true, false, _&&_, cond}
+use mathlib.Core.Path.{_≡_, refl, ap, _∙_}
+use mathlib.Core.Bool.{Bool, true, _&&_, cond}
 use mathlib.Core.Option.{Option, none, some, Option·map, Option·some-injective}
 use lib.Dec.{T, eqb, leb}
 use Rattle.mesh.specs.Tools.{any}
-use Rattle.mesh.specs.Place.{Place, Grid, at, before, toNorth, toEast, toSouth, toWest, step, kid, parent, compass, sideWinds, Wind, NE, SE, SW, NW, N, E, S, W}
+use Rattle.mesh.specs.Place.{Place, Grid, at, before, toNorth, toEast, toSouth, toWest, then, step, kid, parent, compass, sideWinds, Wind, NE, SE, SW, NW, N, E, S, W}
 use Rattle.mesh.specs.Winds.{wordOfWind}
-use Rattle.geometry.proofs.Places.{place-path, before-is, mapped}
-use Rattle.geometry.proofs.Kids.{up, parent-up, up-is, parent-depth}
+use Rattle.geometry.proofs.Places.{place-path, mapped}
+use Rattle.geometry.proofs.Kids.{up, up-is, parent-depth}
 
 -- ---- a kid by its digits
 
@@ -146,3 +146,8 @@ module _ (g : Grid) where
   step-depth SE t p q e = absurd t
   step-depth SW t p q e = absurd t
   step-depth NW t p q e = absurd t
+
+  -- a step to a corner is one to each side
+  pub southwest : (p : Place) → step g SW p ≡ then (step g S) (step g W p)
+  unfolding step
+  southwest p = refl

@@ -1,7 +1,7 @@
 -- Walls by levels: a wall with one cell is boundary on level 0, and above exactly where it lies on a boundary wall of the parent's place; the
 -- other walls with one cell are green. The area is the same one level up, and a cell lies in it.
 -- Assumes nothing.
-use Prim.Native.Nat.{ℕ, zero, suc, pred, _+_, _-_, _*_, _/_, _%_, _^_, _≤_, _<_}
+use Prim.Native.Nat.{ℕ, zero, suc, pred, _+_, _-_, _/_, _%_, _^_, _≤_, _<_}
 use native.Mathlib.Nat.{pow-suc, mul-comm, div-one, div-div-eq-div-mul}
 use native.Mathlib.Omega.{arith}
 use native.Mathlib.Decide.{decLt}
@@ -11,12 +11,14 @@ use mathlib.Core.Bool.{Bool, true, false, not, _&&_, _||_, cond, Bool·beq}
 use mathlib.Core.Option.{Option, none, some, Option·map, Option·none-ne-some, Option·some-injective}
 use lib.Dec.{T, eqb}
 use borrow.Author.Tests.{eq-eqb, ne-eqb}
+use Rattle.mesh.specs.Tools.{digits}
 use Rattle.mesh.specs.Place.{Place, Grid, at, base, home, step, then, Wind, SW, S, W}
-use Rattle.mesh.specs.Mesh.{Mesh, Wall, isWall, isBoundary, isGreen, wallOf, on, inArea, touched, wallH, wallV}
-use Rattle.geometry.proofs.Bools.{or-left, or-right, or-cases}
+use Rattle.mesh.specs.Mesh.{Mesh, Wall, absent, isWall, isBoundary, isGreen, wallOf, on, inArea, touched, wallH, wallV, ends, sides, derived, flags}
+use Rattle.geometry.proofs.Bools.{no-is, or-left, or-right, or-cases}
 use Rattle.geometry.proofs.Places.{place-path}
 use Rattle.geometry.proofs.Kids.{up, up-depth}
 use Rattle.geometry.proofs.Digits.{aside, stays, digit, within-still, step-up, step-depth}
+use Rattle.geometry.proofs.Near.{c-here, corner-touched}
 use Rattle.geometry.proofs.Tree.{cell-up}
 
 -- ---- the area, by levels
@@ -109,7 +111,7 @@ inner-of true x false h k = absurd (k tt)
 inner-of false true false h k = absurd (h tt)
 inner-of false false false h k = refl
 
--- where the area does not go on over the wall
+-- on level 0, where the area is the cells
 ground-of : (y x : Bool) → isBoundary (wallOf y x y x) ≡ not (Bool·beq x y)
 ground-of true true = refl
 ground-of true false = refl
@@ -192,10 +194,10 @@ module _ (g : Grid) (c : Place → Bool) where
 
 -- ---- the walls that go east and north from a point
 
-stays-south : (p : Place) → not (stays S p) ≡ eqb (p .row % 2) 0
+pub stays-south : (p : Place) → not (stays S p) ≡ eqb (p .row % 2) 0
 stays-south p = rw (within-still (p .col)) (digit (p .row) (λ e. rw e) (λ e. rw e))
 
-stays-west : (p : Place) → not (stays W p) ≡ eqb (p .col % 2) 0
+pub stays-west : (p : Place) → not (stays W p) ≡ eqb (p .col % 2) 0
 stays-west p = digit (p .col) (λ e. rw e) (λ e. rw (e, within-still (p .row)))
 
 module _ (g : Grid) (c : Place → Bool) where
@@ -227,22 +229,60 @@ module _ (g : Grid) (c : Place → Bool) where
 
   -- ---- where there is a wall, a patch is touched
 
-  pub wallH-touched : (p : Place) → T (isWall (wallH g c (some p))) → T (touched g c p)
+  pub south-touched : (p : Place) → T (on g c (step g S p)) → T (touched g c p)
   unfolding touched
-  wallH-touched p t = go (or-cases (c p) (on g c (step g S p)) (rw (wallH-cells p) at t))
+  south-touched p t =
+      or-right (c p) (on g c (step g W p) || (on g c (step g S p) || on g c (step g SW p)))
+      (or-right (on g c (step g W p)) (on g c (step g S p) || on g c (step g SW p)) (or-left (on g c (step g S p)) (on g c (step g SW p)) t))
+
+  pub west-touched : (p : Place) → T (on g c (step g W p)) → T (touched g c p)
+  unfolding touched
+  west-touched p t =
+      or-right (c p) (on g c (step g W p) || (on g c (step g S p) || on g c (step g SW p)))
+      (or-left (on g c (step g W p)) (on g c (step g S p) || on g c (step g SW p)) t)
+
+  pub wall-touched : (w : Wind) (p : Place) → (T (on g c (step g w p)) → T (touched g c p)) → T (isWall (wall g c w (some p))) → T (touched g c p)
+  wall-touched w p h t = go (or-cases (c p) (on g c (step g w p)) (rw (wall-cells g c w p) at t))
     where
-      go : T (c p) ⊎ T (on g c (step g S p)) → T (c p || (on g c (step g W p) || (on g c (step g S p) || on g c (step g SW p))))
-      go (inl a) = or-left (c p) (on g c (step g W p) || (on g c (step g S p) || on g c (step g SW p))) a
-      go (inr a) =
-          or-right (c p) (on g c (step g W p) || (on g c (step g S p) || on g c (step g SW p)))
-          (or-right (on g c (step g W p)) (on g c (step g S p) || on g c (step g SW p)) (or-left (on g c (step g S p)) (on g c (step g SW p)) a))
+      go : T (c p) ⊎ T (on g c (step g w p)) → T (touched g c p)
+      go (inl a) = corner-touched g c c-here a
+      go (inr a) = h a
+
+  pub wallH-touched : (p : Place) → T (isWall (wallH g c (some p))) → T (touched g c p)
+  unfolding wallH
+  wallH-touched p t = wall-touched S p (south-touched p) t
 
   pub wallV-touched : (p : Place) → T (isWall (wallV g c (some p))) → T (touched g c p)
-  unfolding touched
-  wallV-touched p t = go (or-cases (c p) (on g c (step g W p)) (rw (wallV-cells p) at t))
-    where
-      go : T (c p) ⊎ T (on g c (step g W p)) → T (c p || (on g c (step g W p) || (on g c (step g S p) || on g c (step g SW p))))
-      go (inl a) = or-left (c p) (on g c (step g W p) || (on g c (step g S p) || on g c (step g SW p))) a
-      go (inr a) =
-          or-right (c p) (on g c (step g W p) || (on g c (step g S p) || on g c (step g SW p)))
-          (or-left (on g c (step g W p)) (on g c (step g S p) || on g c (step g SW p)) a)
+  unfolding wallV
+  wallV-touched p t = wall-touched W p (west-touched p) t
+
+  -- ---- below level 0 there is none
+
+  module _ (m : Mesh g c) where
+    -- a place lies below level 0, if it is there
+    abbrev Shallow : Option Place → Type 0
+    Shallow o = (q : Place) → o ≡ some q → q .depth < base g
+
+    no-cell : (o : Option Place) → Shallow o → on g c o ≡ false
+    no-cell none h = refl
+    no-cell (some q) h = no-is (c q) (λ t. omega (arith, m .low q t, h q refl))
+
+    shallow-step : (w : Wind) → T (aside w) → (o : Option Place) → Shallow o → Shallow (then (step g w) o)
+    shallow-step w t none h q e = absurd (Option·none-ne-some _ e)
+    shallow-step w t (some p) h q e = omega (arith, step-depth g w t p q e, h p refl)
+
+    no-wall : (w : Wind) → T (aside w) → (o : Option Place) → Shallow o → wall g c w o ≡ absent
+    no-wall w t o h = rw (no-cell o h, no-cell (then (step g w) o) (shallow-step w t o h))
+
+    -- "A ghost has flags 0"
+    pub ghost-flags : (p : Place) → p .depth < base g → digits (flags g c p false) ≡ 0
+    unfolding flags derived ends sides wallH wallV
+    ghost-flags p l =
+        let here : Shallow (some p) = λ q e. let s : p ≡ q = Option·some-injective _ _ e in rw s at l in
+        let beside : (w : Wind) → T (aside w) → Shallow (step g w p) = λ w t. shallow-step w t (some p) here in
+        let a : c p ≡ false = no-cell (some p) here in
+        let b : wall g c S (some p) ≡ absent = no-wall S tt (some p) here in
+        let d : wall g c W (some p) ≡ absent = no-wall W tt (some p) here in
+        let e : wall g c S (step g W p) ≡ absent = no-wall S tt (step g W p) (beside W tt) in
+        let f : wall g c W (step g S p) ≡ absent = no-wall W tt (step g S p) (beside S tt) in
+        rw (b, d, e, f, a)

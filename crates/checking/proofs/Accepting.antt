@@ -1,0 +1,69 @@
+-- A table that passes the row-by-row test is sound: the state that it decodes to is valid, and the table and the values are that state's.
+-- Assumes nothing.
+use Prim.Native.Nat.{ℕ, _+_, _*_, _≤_}
+use native.Mathlib.Omega.{arith}
+use native.Mathlib.Decide.{ℕ-discrete}
+use mathlib.Core.Path.{_≡_, refl}
+use mathlib.Core.Bool.{not}
+use mathlib.Core.List.{List}
+use lib.Dec.{T}
+use lib.ListN.{length}
+use lib.IntN.{ℤ}
+use lib.Ieee.{Float}
+use Rattle.mesh.specs.State.{State, Header, isNil, entry, gridOf}
+use Rattle.mesh.specs.Valid.{Valid}
+use Rattle.mesh.specs.Picture.{rowWords, Sound}
+use Rattle.mesh.specs.Decode.{decode}
+use Rattle.table.specs.Words.{wordOf}
+use Rattle.checking.specs.Rowwise.{rowwise}
+use Rattle.geometry.proofs.Base.{Rectangle}
+use Rattle.numbering.proofs.Entries.{stands-in}
+use Rattle.checking.proofs.Facts.{rowwise-tested}
+use Rattle.checking.proofs.Climbing.{root-spot}
+use Rattle.checking.proofs.Words.{Fits}
+use Rattle.checking.proofs.Reading.{Reads, decode-reads}
+use Rattle.checking.proofs.Linking.{used-place}
+use Rattle.checking.proofs.Meshing.{cells-mesh}
+use Rattle.checking.proofs.Existing.{row-patch, patch-row}
+use Rattle.checking.proofs.Valuing.{sentence-rule, value-rule}
+use Rattle.checking.proofs.Picturing.{is-picture, are-amounts}
+
+-- ---- the state
+
+module _ (s : State) {cap : ℕ} {t : List ℤ} {v : List Float} (o : Reads (gridOf s) cap t v (s .entries)) where
+  not-nil : (n : ℕ) → 1 ≤ n → n ≤ cap → T (not (isNil (entry (s .entries) n)))
+  not-nil n l h = go (ℕ-discrete (wordOf t n 12) 8192)
+    where
+      go : Dec (wordOf t n 12 ≡ 8192) → T (not (isNil (entry (s .entries) n)))
+      go (yes e) = rw (o .entry-free n l h e) tt
+      go (no e) = rw (o .entry-used n (record { low = l; high = h; taken = e })) tt
+
+  reads-valid : 5 ≤ cap → cap ≤ 4095 → Valid s
+  reads-valid low high = record {
+    sizes = (omega (arith, o .size), omega (arith, o .size));
+    rectangle = o .in-range;
+    zeroth = o .numbered .zeroth;
+    others = λ n l h. not-nil n l (omega (arith, o .size));
+    mesh = cells-mesh o;
+    each = λ n p e. let (u, q) = o .used-at n p e in rw q at (row-patch o n u);
+    every = λ p h. let (n, u, q) = patch-row o p h in stands-in (s .entries) n p (rw q at (used-place o n u));
+    once = o .numbered .once;
+    first-root = rw (root-spot (o .tested)) at (used-place o 1 (o .tested .root-used));
+    sentences = sentence-rule o;
+    values = value-rule s o;
+  }
+
+-- ---- the table
+
+pub rowwise-sound : (h : Header) (cap : ℕ) (t : List ℤ) (v : List Float) → length t ≡ rowWords * (cap + 1) → length v ≡ cap + 1 → 5 ≤ cap → cap ≤ 4095
+    → Rectangle (h .grid) → Fits t → T (rowwise (h .grid) cap t v) → Sound h t v
+unfolding decode
+rowwise-sound h cap t v lt lv low high r f x =
+    let o = decode-reads h (rowwise-tested (h .grid) cap t v (omega arith) x) r f lv in
+    record {
+      state = decode h t v;
+      valid = reads-valid (decode h t v) o low high;
+      is-header = refl;
+      is-table = is-picture (decode h t v) o f high lt;
+      is-values = are-amounts (decode h t v) o f high lv;
+    }

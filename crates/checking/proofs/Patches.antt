@@ -1,0 +1,183 @@
+-- What the row-by-row test says of a ghost, of a patch from level 0 up, of a cell and of a value, by names.
+-- Assumes nothing.
+use Prim.Native.Nat.{ℕ, zero, suc, _≤_, _<_}
+use native.Mathlib.Omega.{arith}
+use native.Mathlib.Decide.{ℕ-discrete}
+use mathlib.Core.Path.{_≡_}
+use mathlib.Core.Logic.{_≢_, _⊎_, inl, inr}
+use mathlib.Core.Bool.{Bool, true, false, not, _&&_, _||_, cond, Bool·beq}
+use mathlib.Core.List.{List, [], _∷_}
+use lib.Dec.{T, T-not, eqb, ltb, eqb→eq, ltb→lt}
+use lib.ListN.{getD}
+use lib.IntN.{ℤ}
+use lib.Ieee.{Float}
+use borrow.Author.Tests.{eq-eqb, ne-eqb}
+use Rattle.mesh.specs.Tools.{every, digits}
+use Rattle.mesh.specs.Place.{Grid, base}
+use Rattle.mesh.specs.State.{plusZero}
+use Rattle.mesh.specs.Valid.{finite}
+use Rattle.mesh.specs.Test.{sameFloat}
+use Rattle.table.specs.Words.{wordOf, linkOf, flagOf, depthOf}
+use Rattle.table.specs.Worked.{kidWord, flagsFrom}
+use Rattle.checking.specs.Rowwise.{ghostOk, touchedOk, kidCellsAre, cellOk, sentenceOk, pointOk, blankOk, heldOk, valueOk}
+use Rattle.geometry.proofs.Bools.{is-yes, and-left, and-right, or-cases, implied, beq-is}
+use Rattle.geometry.proofs.Lists.{every-at, at-every}
+use Rattle.pictures.proofs.Equal.{float-is}
+use Rattle.checking.proofs.Facts.{unequal}
+
+-- ---- the four kids, by their digits
+
+-- a law of the four kids' words
+pub by-kid : (P : ℕ → Type 0) → P 1 → P 2 → P 3 → P 4 → (l m : ℕ) → l ≤ 1 → m ≤ 1 → P (kidWord l m)
+by-kid P a b c d zero zero x y = c
+by-kid P a b c d zero (suc zero) x y = d
+by-kid P a b c d (suc zero) zero x y = b
+by-kid P a b c d (suc zero) (suc zero) x y = a
+by-kid P a b c d (suc (suc l)) m x y = absurd (omega arith)
+by-kid P a b c d zero (suc (suc m)) x y = absurd (omega arith)
+by-kid P a b c d (suc zero) (suc (suc m)) x y = absurd (omega arith)
+
+-- ---- the facts
+
+-- "A ghost has flags 0", and it has a kid
+pub record Ghost (cap : ℕ) (t : List ℤ) (n : ℕ) : Type 0 where
+  pub flags : wordOf t n 12 ≡ 0
+  pub kid : (l : ℕ) × (m : ℕ) × (l ≤ 1) × (m ≤ 1) × (linkOf t cap n (kidWord l m) ≢ 0)
+
+-- a cell stands, or none stands, under every kid's word
+abbrev pub KidCells : ℕ → List ℤ → ℕ → Bool → Type 0
+KidCells cap t n b = (l m : ℕ) → l ≤ 1 → m ≤ 1 → flagOf t 0 (linkOf t cap n (kidWord l m)) ≡ b
+
+pub record CellRow (g : Grid) (cap : ℕ) (t : List ℤ) (n : ℕ) : Type 0 where
+  pub east : linkOf t cap n 6 ≢ 0
+  pub north : linkOf t cap n 5 ≢ 0
+  pub both : linkOf t cap (linkOf t cap n 6) 5 ≢ 0
+  pub inside : depthOf t (base g) n ≡ base g → (wordOf t n 10 < g .columns) × (wordOf t n 11 < g .rows)
+  pub above : depthOf t (base g) n ≢ base g → T (flagOf t 0 (linkOf t cap n 0))
+  pub kids : KidCells cap t n true ⊎ KidCells cap t n false
+
+pub record Sentence (g : Grid) (cap : ℕ) (t : List ℤ) (n : ℕ) : Type 0 where
+  pub cell : T (flagOf t 0 n)
+  pub high : depthOf t (base g) n ≢ base g
+  pub kidless : KidCells cap t n false
+
+pub record Point (g : Grid) (cap : ℕ) (t : List ℤ) (v : List Float) (n : ℕ) : Type 0 where
+  pub touched : T (touchedOk g cap t v n)
+  pub cell : T (flagOf t 0 n) → CellRow g cap t n
+  pub sentence : T (flagOf t 12 n) → Sentence g cap t n
+  pub flags : wordOf t n 12 ≡ digits (flagsFrom t cap (base g) n (flagOf t 12 n))
+
+-- a value that is not blank: measured, or carried down from the parent's value
+pub record Held (cap : ℕ) (t : List ℤ) (v : List Float) (n : ℕ) : Type 0 where
+  pub cell : T (flagOf t 0 n)
+  pub is-finite : T (finite (getD v n plusZero))
+  pub status : (wordOf t n 13 ≡ 1) ⊎ ((wordOf t n 13 ≡ 2) × (wordOf t (linkOf t cap n 0) 13 ≢ 0) × (getD v (linkOf t cap n 0) plusZero ≡ getD v n plusZero))
+
+pub held-small : {cap : ℕ} {t : List ℤ} {v : List Float} {n : ℕ} → Held cap t v n → wordOf t n 13 ≤ 2
+held-small {cap} {t} {v} {n} f = go (f .status)
+  where
+    go : (wordOf t n 13 ≡ 1) ⊎ ((wordOf t n 13 ≡ 2) × (wordOf t (linkOf t cap n 0) 13 ≢ 0) × (getD v (linkOf t cap n 0) plusZero ≡ getD v n plusZero)) → wordOf t n 13 ≤ 2
+    go (inl e) = omega arith
+    go (inr (e, r, s)) = omega arith
+
+pub record Blank (cap : ℕ) (t : List ℤ) (v : List Float) (n : ℕ) : Type 0 where
+  pub zero-value : getD v n plusZero ≡ plusZero
+  pub above : T (flagOf t 0 n) → wordOf t (linkOf t cap n 0) 13 ≡ 0
+
+-- ---- from the tests
+
+module _ (g : Grid) (cap : ℕ) (t : List ℤ) (v : List Float) where
+  pub ghost-facts : (n : ℕ) → T (ghostOk g cap t v n) → Ghost cap t n
+  unfolding ghostOk
+  ghost-facts n h = record { flags = eqb→eq _ _ (and-left a (not (every bs)) h); kid = go (ℕ-discrete (k 1) 0) (ℕ-discrete (k 2) 0) (ℕ-discrete (k 3) 0) (ℕ-discrete (k 4) 0) }
+    where
+      k : ℕ → ℕ
+      k w = linkOf t cap n w
+
+      a : Bool
+      a = eqb (wordOf t n 12) 0
+
+      bs : List Bool
+      bs = eqb (k 1) 0 ∷ eqb (k 2) 0 ∷ eqb (k 3) 0 ∷ eqb (k 4) 0 ∷ []
+
+      is : (w : ℕ) → k w ≡ 0 → T (eqb (k w) 0)
+      is w e = is-yes (eqb (k w) 0) (eq-eqb (k w) 0 e)
+
+      go : Dec (k 1 ≡ 0) → Dec (k 2 ≡ 0) → Dec (k 3 ≡ 0) → Dec (k 4 ≡ 0) → (l : ℕ) × (m : ℕ) × (l ≤ 1) × (m ≤ 1) × (k (kidWord l m) ≢ 0)
+      go (no e₁) d₂ d₃ d₄ = (1, 1, omega arith, omega arith, e₁)
+      go (yes e₁) (no e₂) d₃ d₄ = (1, 0, omega arith, omega arith, e₂)
+      go (yes e₁) (yes e₂) (no e₃) d₄ = (0, 0, omega arith, omega arith, e₃)
+      go (yes e₁) (yes e₂) (yes e₃) (no e₄) = (0, 1, omega arith, omega arith, e₄)
+      go (yes e₁) (yes e₂) (yes e₃) (yes e₄) = absurd (T-not (every bs) (and-right a (not (every bs)) h) (at-every bs (is 1 e₁, (is 2 e₂, (is 3 e₃, (is 4 e₄, tt))))))
+
+  kid-cells : (n : ℕ) (b : Bool) → T (kidCellsAre g cap t v n b) → KidCells cap t n b
+  kid-cells n b h =
+      let c : ℕ → Bool = λ w. flagOf t 0 (linkOf t cap n w) in
+      let nth = every-at (Bool·beq (c 1) b ∷ Bool·beq (c 2) b ∷ Bool·beq (c 3) b ∷ Bool·beq (c 4) b ∷ []) h in
+      by-kid (λ w. flagOf t 0 (linkOf t cap n w) ≡ b) (beq-is _ b (nth 0)) (beq-is _ b (nth 1)) (beq-is _ b (nth 2)) (beq-is _ b (nth 3))
+
+  cell-facts : (n : ℕ) → T (cellOk g cap t v n) → CellRow g cap t n
+  unfolding cellOk
+  cell-facts n h =
+      let d = depthOf t (base g) n in
+      let x = ltb (wordOf t n 10) (g .columns) in
+      let y = ltb (wordOf t n 11) (g .rows) in
+      let bs = not (eqb (linkOf t cap n 6) 0) ∷ not (eqb (linkOf t cap n 5) 0) ∷ not (eqb (linkOf t cap (linkOf t cap n 6) 5) 0) ∷
+      cond (eqb d (base g)) (x && y) (flagOf t 0 (linkOf t cap n 0)) ∷ (kidCellsAre g cap t v n true || kidCellsAre g cap t v n false) ∷ [] in
+      let nth = every-at bs h in
+      record {
+        east = unequal _ _ (nth 0);
+        north = unequal _ _ (nth 1);
+        both = unequal _ _ (nth 2);
+        inside = λ e. let b : T (x && y) = rw (eq-eqb d (base g) e) at (nth 3) in (ltb→lt _ _ (and-left x y b), ltb→lt _ _ (and-right x y b));
+        above = λ e. rw (ne-eqb d (base g) e) at (nth 3);
+        kids = go (or-cases (kidCellsAre g cap t v n true) (kidCellsAre g cap t v n false) (nth 4));
+      }
+    where
+      go : T (kidCellsAre g cap t v n true) ⊎ T (kidCellsAre g cap t v n false) → KidCells cap t n true ⊎ KidCells cap t n false
+      go (inl a) = inl (kid-cells n true a)
+      go (inr a) = inr (kid-cells n false a)
+
+  sentence-facts : (n : ℕ) → T (sentenceOk g cap t v n) → Sentence g cap t n
+  unfolding sentenceOk
+  sentence-facts n h =
+      let nth = every-at (flagOf t 0 n ∷ not (eqb (depthOf t (base g) n) (base g)) ∷ kidCellsAre g cap t v n false ∷ []) h in
+      record { cell = nth 0; high = unequal _ _ (nth 1); kidless = kid-cells n false (nth 2) }
+
+  pub point-facts : (n : ℕ) → T (pointOk g cap t v n) → Point g cap t v n
+  unfolding pointOk
+  point-facts n h =
+      let a = not (flagOf t 0 n) || cellOk g cap t v n in
+      let b = not (flagOf t 12 n) || sentenceOk g cap t v n in
+      let nth = every-at (touchedOk g cap t v n ∷ a ∷ b ∷ eqb (wordOf t n 12) (digits (flagsFrom t cap (base g) n (flagOf t 12 n))) ∷ []) h in
+      record {
+        touched = nth 0;
+        cell = λ c. cell-facts n (implied (flagOf t 0 n) (cellOk g cap t v n) (nth 1) c);
+        sentence = λ c. sentence-facts n (implied (flagOf t 12 n) (sentenceOk g cap t v n) (nth 2) c);
+        flags = eqb→eq _ _ (nth 3);
+      }
+
+  blank-facts : (n : ℕ) → T (blankOk g cap t v n) → Blank cap t v n
+  unfolding blankOk
+  blank-facts n h =
+      let a = sameFloat (getD v n plusZero) plusZero in
+      let b = eqb (wordOf t (linkOf t cap n 0) 13) 0 in
+      record { zero-value = float-is _ _ (and-left a (not (flagOf t 0 n) || b) h); above = λ c. eqb→eq _ _ (implied (flagOf t 0 n) b (and-right a (not (flagOf t 0 n) || b) h) c) }
+
+  held-facts : (n : ℕ) → T (heldOk g cap t v n) → Held cap t v n
+  unfolding heldOk
+  held-facts n h = record { cell = nth 0; is-finite = nth 1; status = go (or-cases (eqb (wordOf t n 13) 1) (every bs) (nth 2)) }
+    where
+      bs : List Bool
+      bs = eqb (wordOf t n 13) 2 ∷ not (eqb (wordOf t (linkOf t cap n 0) 13) 0) ∷ sameFloat (getD v (linkOf t cap n 0) plusZero) (getD v n plusZero) ∷ []
+
+      nth : (k : ℕ) → T (getD (flagOf t 0 n ∷ finite (getD v n plusZero) ∷ (eqb (wordOf t n 13) 1 || every bs) ∷ []) k true)
+      nth = every-at (flagOf t 0 n ∷ finite (getD v n plusZero) ∷ (eqb (wordOf t n 13) 1 || every bs) ∷ []) h
+
+      go : T (eqb (wordOf t n 13) 1) ⊎ T (every bs) → (wordOf t n 13 ≡ 1) ⊎ ((wordOf t n 13 ≡ 2) × (wordOf t (linkOf t cap n 0) 13 ≢ 0) × (getD v (linkOf t cap n 0) plusZero ≡ getD v n plusZero))
+      go (inl e) = inl (eqb→eq _ _ e)
+      go (inr e) = let at = every-at bs e in inr (eqb→eq _ _ (at 0), unequal _ _ (at 1), float-is _ _ (at 2))
+
+  pub value-facts : (n : ℕ) → T (valueOk g cap t v n) → (wordOf t n 13 ≡ 0 → Blank cap t v n) × (wordOf t n 13 ≢ 0 → Held cap t v n)
+  unfolding valueOk
+  value-facts n h = (λ e. blank-facts n (rw (eq-eqb (wordOf t n 13) 0 e) at h), λ e. held-facts n (rw (ne-eqb (wordOf t n 13) 0 e) at h))
