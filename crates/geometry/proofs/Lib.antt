@@ -15,3 +15,7 @@ pub mod Tiling
 pub mod Wanted
 pub mod Growing
 pub mod Shrinking
+pub mod Frames
+pub mod Fringe
+pub mod Along
+pub mod Shadow

@@ -85,11 +85,11 @@ middle-kid g r p k = go (kid NE p) refl k
 
 -- ---- a property of each place of a list
 
-abbrev Each : (Place → Type 0) → List Place → Type 0
+abbrev pub Each : (Place → Type 0) → List Place → Type 0
 Each P [] = Unit {0}
 Each P (p ∷ ps) = P p × Each P ps
 
-each-in : (P : Place → Type 0) (ps : List Place) → Each P ps → (q : Place) → In q ps → P q
+pub each-in : (P : Place → Type 0) (ps : List Place) → Each P ps → (q : Place) → In q ps → P q
 each-in P [] h q t = absurd t
 each-in P (p ∷ ps) h q t = go (in-cases q p ps t) (each-in P ps (h .1) q)
   where

@@ -41,20 +41,20 @@ no-wall internal h = absurd (h tt)
 no-wall boundary h = absurd (h tt)
 no-wall green h = absurd (h tt)
 
-boundary-wall : (w : Wall) → T (isBoundary w) → T (isWall w)
+pub boundary-wall : (w : Wall) → T (isBoundary w) → T (isWall w)
 boundary-wall absent t = t
 boundary-wall internal t = tt
 boundary-wall boundary t = tt
 boundary-wall green t = tt
 
-green-wall : (w : Wall) → T (isGreen w) → T (isWall w)
+pub green-wall : (w : Wall) → T (isGreen w) → T (isWall w)
 green-wall absent t = t
 green-wall internal t = tt
 green-wall boundary t = tt
 green-wall green t = tt
 
 -- one of four walls passes
-four : (f : Wall → Bool) {x y z u : Bool} (a b c d : Wall) → x ≡ f a → y ≡ f b → z ≡ f c → u ≡ f d → (x || (y || (z || u))) ≡ any f (a ∷ b ∷ c ∷ d ∷ [])
+pub four : (f : Wall → Bool) {x y z u : Bool} (a b c d : Wall) → x ≡ f a → y ≡ f b → z ≡ f c → u ≡ f d → (x || (y || (z || u))) ≡ any f (a ∷ b ∷ c ∷ d ∷ [])
 four f a b c d i j k l = rw (i, j, k, l) (ap (λ (t : Bool). f a || (f b || (f c || t))) (last (f d)))
   where
     last : (t : Bool) → t ≡ (t || false)

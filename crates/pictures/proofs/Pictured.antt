@@ -28,7 +28,7 @@ use Rattle.pictures.proofs.Links.{row-link}
 -- ---- numbers
 
 -- the binary digit k of a number
-digit-at : (bs : List Bool) (k : ℕ) → eqb (digits bs / 2 ^ k % 2) 1 ≡ getD bs k false
+pub digit-at : (bs : List Bool) (k : ℕ) → eqb (digits bs / 2 ^ k % 2) 1 ≡ getD bs k false
 digit-at [] k = rw zero-div refl
 digit-at (b ∷ bs) zero = rw (pow-zero, div-one) (low-digit b (digits bs))
 digit-at (b ∷ bs) (suc k) = rw (pow-succ', ← div-div-eq-div-mul, high-digits b (digits bs)) (digit-at bs k)
