@@ -30,7 +30,7 @@ use Rattle.geometry.proofs.Lists.{at-every}
 use Rattle.geometry.proofs.Kids.{up, parent-up, no-parent, parent-depth, all-kids, kids-all, kid-has, leaf-cell, leaf-kidless}
 use Rattle.geometry.proofs.Digits.{kidBy, parent-by, kid-by-parent, kid-by-digits}
 use Rattle.geometry.proofs.Near.{Corner, c-east, c-north, c-both}
-use Rattle.geometry.proofs.Tree.{patch-parent, corner-patch, patch-touched, ghost-kid}
+use Rattle.geometry.proofs.Tree.{patch-parent, corner-patch, patch-touched, ghost-kid, patch-high}
 use Rattle.geometry.proofs.Base.{halved, depth-zero-root}
 use Rattle.numbering.proofs.Entries.{place-used, cell-there}
 use Rattle.numbering.proofs.Numbers.{valid-numbered, number-place, place-number, not-zero, numbered-not-zero, cells-contents, entry-contents}
@@ -38,7 +38,7 @@ use Rattle.pictures.proofs.Rows.{amounts-at}
 use Rattle.pictures.proofs.Equal.{float-refl}
 use Rattle.pictures.proofs.Links.{_of_, wind-lt}
 use Rattle.pictures.proofs.Pictured.{link-word, word-status, free-flags, free-words, nil-words, word-col, word-row, word-flags, sentenced-flag, patch-not-free}
-use Rattle.pictures.proofs.Linked.{patch-high, kid-word-lt, patch-numbered, depth-of, link-parent, link-side, link-kid-of, kids-every, side-of}
+use Rattle.pictures.proofs.Linked.{kid-word-lt, patch-numbered, depth-of, link-parent, link-side, link-kid-of, kids-every, side-of}
 use Rattle.pictures.proofs.Flagged.{sentenced-cell, cell-flag, ghost-flags, cell-of, cell-side, flags-from, cell-south}
 
 -- ---- tests

@@ -63,16 +63,16 @@ half-below : (i k n : ℕ) → i / 2 < k * 2 ^ n → i < k * 2 ^ suc n
 half-below i k n h = rw (pow-suc 2 n, ← mul-assoc k (2 ^ n) 2) (omega arith)
 
 module _ (g : Grid) (c : Place → Bool) (m : Mesh g c) where
-  cell-by : (n : ℕ) (p : Place) → p .depth ≡ base g + n → T (c p) → (p .col < g .columns * 2 ^ n) × (p .row < g .rows * 2 ^ n)
-  cell-by zero p e t = let (x, y) = m .inside p t (omega arith) in (omega arith, omega arith)
-  cell-by (suc n) p e t =
+  -- a cell stands on the rectangle, so many levels above level 0
+  pub cell-on : (n : ℕ) (p : Place) → p .depth ≡ base g + n → T (c p) → (p .col < g .columns * 2 ^ n) × (p .row < g .rows * 2 ^ n)
+  cell-on zero p e t = let (x, y) = m .inside p t (omega arith) in (omega arith, omega arith)
+  cell-on (suc n) p e t =
       let (i, j) = halved p (up p) (parent-up p (omega arith)) in
-      let (x, y) = cell-by n (up p) (omega (arith, up-depth p (omega arith))) (cell-up g c m p t (omega arith)) in
+      let (x, y) = cell-on n (up p) (omega (arith, up-depth p (omega arith))) (cell-up g c m p t (omega arith)) in
       (half-below (p .col) (g .columns) n (rw i at x), half-below (p .row) (g .rows) n (rw j at y))
 
-  -- a cell stands on the rectangle
   pub cell-inside : (p : Place) → T (c p) → (p .col < g .columns * 2 ^ (p .depth - base g)) × (p .row < g .rows * 2 ^ (p .depth - base g))
-  cell-inside p t = let l = m .low p t in cell-by (p .depth - base g) p (omega arith) t
+  cell-inside p t = let l = m .low p t in cell-on (p .depth - base g) p (omega arith) t
 
   -- a patch stands on it or on its edge
   pub patch-inside : (p : Place) → base g ≤ p .depth → T (patch g c p) → (p .col ≤ g .columns * 2 ^ (p .depth - base g)) × (p .row ≤ g .rows * 2 ^ (p .depth - base g))

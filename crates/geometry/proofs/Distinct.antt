@@ -1,20 +1,32 @@
--- Lists of places in which no place stands twice: their joins, and the places of a list that pass a test.
+-- Lists of places in which no place stands twice: their joins, their lengths, and the places of a list that pass a test.
 -- Assumes nothing.
-use mathlib.Core.Path.{_≡_, refl}
+use Prim.Native.Nat.{suc, _+_, _≤_, _<_}
+use native.Mathlib.Omega.{arith}
+use mathlib.Core.Path.{_≡_, refl, sym, _∙_}
 use mathlib.Core.Logic.{_⊎_, inl, inr}
 use mathlib.Core.Bool.{Bool, true, false}
 use mathlib.Core.List.{List, [], _∷_, _++_}
 use lib.Dec.{T}
-use Rattle.mesh.specs.Tools.{any, keep}
+use lib.ListN.{length}
+use Rattle.mesh.specs.Tools.{any, keep, count}
 use Rattle.mesh.specs.Place.{Place, same}
-use Rattle.geometry.proofs.Bools.{or-left, or-right, or-cases}
+use Rattle.geometry.proofs.Bools.{yes-is, or-left, or-right, or-cases}
 use Rattle.geometry.proofs.Lists.{any-append}
-use Rattle.geometry.proofs.Places.{In, in-cases, in-here, in-there}
+use Rattle.geometry.proofs.Places.{In, in-cases, in-here, in-there, same-refl}
+use Rattle.geometry.proofs.Counting.{count-some}
 
 -- no place stands twice
 abbrev pub Distinct : List Place → Type 0
 Distinct [] = Unit {0}
 Distinct (p ∷ ps) = (In p ps → ⊥) × Distinct ps
+
+-- a list that has each place at most once
+pub once-distinct : (ps : List Place) → ((q : Place) → count (same q) ps ≤ 1) → Distinct ps
+once-distinct [] h = tt
+once-distinct (p ∷ ps) h = (λ i. twice (count-some (same p) ps i), once-distinct ps (λ q. omega (arith, h q)))
+  where
+    twice : 0 < count (same p) ps → ⊥
+    twice l = let n : 1 + count (same p) ps ≤ 1 = rw (yes-is (same p p) (same-refl p)) at (h p) in omega arith
 
 -- ---- one list after another
 
@@ -36,7 +48,56 @@ distinct-append (p ∷ ps) rs a b h = (λ t. go (in-append p ps rs t), distinct-
     go (inl i) = a .0 i
     go (inr j) = h p (in-here p p ps refl) j
 
+pub append-distinct : (ps rs : List Place) → Distinct (ps ++ rs) → Distinct ps × Distinct rs × ((q : Place) → In q ps → In q rs → ⊥)
+append-distinct [] rs d = (tt, d, λ q i j. i)
+append-distinct (p ∷ ps) rs d =
+    let (a, b, h) = append-distinct ps rs (d .1) in
+    ((λ i. d .0 (append-left p ps rs i), a), b, λ q i j. go q j (in-cases q p ps i) (h q))
+  where
+    go : (q : Place) → In q rs → (q ≡ p) ⊎ In q ps → (In q ps → In q rs → ⊥) → ⊥
+    go q j (inl e) h = d .0 (append-right p ps rs (rw e at j))
+    go q j (inr i) h = h i j
+
+-- ---- lengths
+
+pub in-length : (q : Place) (ps : List Place) → In q ps → 1 ≤ length ps
+in-length q [] i = absurd i
+in-length q (p ∷ ps) i = omega arith
+
+-- a place taken out of a list that has it
+without : (x : Place) (ys : List Place) → In x ys → (zs : List Place) × (length ys ≡ suc (length zs)) × ((q : Place) → (q ≡ x → ⊥) → In q ys → In q zs)
+without x [] t = absurd t
+without x (y ∷ ys) t = go (in-cases x y ys t) (without x ys)
+  where
+    go : (x ≡ y) ⊎ In x ys → (In x ys → (zs : List Place) × (length ys ≡ suc (length zs)) × ((q : Place) → (q ≡ x → ⊥) → In q ys → In q zs)) → (zs : List Place) × (length (y ∷ ys) ≡ suc (length zs)) × ((q : Place) → (q ≡ x → ⊥) → In q (y ∷ ys) → In q zs)
+    go (inl e) ih = (ys, omega arith, λ q d i. rest q d (in-cases q y ys i))
+      where
+        rest : (q : Place) → (q ≡ x → ⊥) → (q ≡ y) ⊎ In q ys → In q ys
+        rest q d (inl h) = absurd (d (h ∙ sym e))
+        rest q d (inr i) = i
+    go (inr a) ih = let (zs, l, h) = ih a in (y ∷ zs, omega (arith, l), λ q d i. rest zs h q d (in-cases q y ys i))
+      where
+        rest : (zs : List Place) → ((q : Place) → (q ≡ x → ⊥) → In q ys → In q zs) → (q : Place) → (q ≡ x → ⊥) → (q ≡ y) ⊎ In q ys → In q (y ∷ zs)
+        rest zs h q d (inl e) = in-here q y zs e
+        rest zs h q d (inr i) = in-there q y zs (h q d i)
+
+fits : (xs ys : List Place) → Distinct xs → ((q : Place) → In q xs → In q ys) → length xs ≤ length ys
+fits [] ys d h = omega arith
+fits (x ∷ xs) ys d h =
+    let (zs, l, r) = without x ys (h x (in-here x x xs refl)) in
+    let i = fits xs zs (d .1) (λ q i. r q (λ e. d .0 (rw e at i)) (h q (in-there q x xs i))) in
+    omega (arith, l, i)
+
+-- two lists of the same places, each once, are of one length
+pub same-length : (xs ys : List Place) → Distinct xs → Distinct ys → ((q : Place) → In q xs → In q ys) → ((q : Place) → In q ys → In q xs) → length xs ≡ length ys
+same-length xs ys d e h k = omega (arith, fits xs ys d h, fits ys xs e k)
+
 -- ---- the places that pass a test
+
+-- two tests that agree on a list's places keep the same
+pub keep-same : (f h : Place → Bool) (ps : List Place) → ((q : Place) → In q ps → f q ≡ h q) → keep f ps ≡ keep h ps
+keep-same f h [] e = refl
+keep-same f h (p ∷ ps) e = rw (e p (in-here p p ps refl), keep-same f h ps (λ q i. e q (in-there q p ps i)))
 
 module _ (f : Place → Bool) where
   pub keep-in : (ps : List Place) (q : Place) → In q (keep f ps) → In q ps × T (f q)

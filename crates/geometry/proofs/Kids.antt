@@ -1,19 +1,20 @@
 -- The tree of places: a place's kids are the places whose parent it is.
 -- Assumes nothing.
-use Prim.Native.Nat.{ℕ, zero, suc, pred, _+_, _*_, _/_, _%_, _≤_, _<_}
+use Prim.Native.Nat.{ℕ, zero, suc, pred, _+_, _*_, _/_, _%_, _<_}
 use native.Mathlib.Omega.{arith}
 use native.Mathlib.Decide.{decLt}
-use mathlib.Core.Path.{_≡_, refl, sym, ap, _∙_, subst}
-use mathlib.Core.Logic.{_⊎_, inl, inr}
-use mathlib.Core.Bool.{Bool, true, false, not, _&&_, _||_}
-use mathlib.Core.Option.{Option, none, some, Option·map, Option·none-ne-some, Option·some-injective}
+use mathlib.Core.Path.{_≡_, refl, sym, ap, _∙_}
+use mathlib.Core.Bool.{Bool, not}
+use mathlib.Core.Option.{none, some, Option·some-injective}
 use mathlib.Core.List.{List, [], _∷_, map}
 use lib.Dec.{T, T-not, not-T}
 use Rattle.mesh.specs.Tools.{any, all}
-use Rattle.mesh.specs.Place.{Place, Grid, at, same, before, compass, kid, kids, parent, Wind, NE, SE, SW, NW, N, E, S, W}
+use Rattle.mesh.specs.Place.{Place, Grid, at, before, compass, kid, kids, kidWinds, parent, Wind, NE, SE, SW, NW}
 use Rattle.mesh.specs.Mesh.{hasKids, leaf}
-use Rattle.geometry.proofs.Bools.{or-cases, and-both, and-left, and-right}
-use Rattle.geometry.proofs.Places.{place-path, In, in-cases, in-here, in-there, any-in, in-any, all-in, in-all, before-is, mapped}
+use Rattle.mesh.proofs.Winds.{rule}
+use Rattle.geometry.proofs.Bools.{and-both, and-left, and-right}
+use Rattle.geometry.proofs.Counting.{in-map}
+use Rattle.geometry.proofs.Places.{place-path, In, in-here, in-there, any-in, in-any, all-in, in-all, before-is, mapped}
 
 -- ---- the parent's place
 
@@ -48,26 +49,6 @@ up-is q p e = Option·some-injective _ _ (sym (parent-up q (omega (arith, parent
 
 -- ---- the kids' places
 
-kid-east : (w : Wind) → compass w .east / 2 ≤ 1
-kid-east NE = omega arith
-kid-east SE = omega arith
-kid-east SW = omega arith
-kid-east NW = omega arith
-kid-east N = omega arith
-kid-east E = omega arith
-kid-east S = omega arith
-kid-east W = omega arith
-
-kid-north : (w : Wind) → compass w .north / 2 ≤ 1
-kid-north NE = omega arith
-kid-north SE = omega arith
-kid-north SW = omega arith
-kid-north NW = omega arith
-kid-north N = omega arith
-kid-north E = omega arith
-kid-north S = omega arith
-kid-north W = omega arith
-
 pub kid-depth : (w : Wind) (p : Place) → kid w p .depth ≡ suc (p .depth)
 unfolding kid
 kid-depth w p = refl
@@ -75,15 +56,31 @@ kid-depth w p = refl
 pub parent-kid : (w : Wind) (p : Place) → parent (kid w p) ≡ some p
 unfolding kid parent
 parent-kid w p =
-    let x : (2 * p .col + compass w .east / 2) / 2 ≡ p .col = omega (arith, kid-east w) in
-    let y : (2 * p .row + compass w .north / 2) / 2 ≡ p .row = omega (arith, kid-north w) in
+    let x : (2 * p .col + compass w .east / 2) / 2 ≡ p .col = omega (arith, rule w .east-back) in
+    let y : (2 * p .row + compass w .north / 2) / 2 ≡ p .row = omega (arith, rule w .north-back) in
     ap some (place-path (at (p .depth) ((2 * p .col + compass w .east / 2) / 2) ((2 * p .row + compass w .north / 2) / 2)) p refl x y)
 
 pub up-kid : (w : Wind) (p : Place) → up (kid w p) ≡ p
 unfolding up kid
 up-kid w p = Option·some-injective _ _ (sym (parent-up (kid w p) (omega arith)) ∙ parent-kid w p)
 
+pub some-kid : (p q : Place) (ws : List Wind) → In q (map (λ w. kid w p) ws) → parent q ≡ some p
+some-kid p q ws t = let (w, e) = in-map (λ w. kid w p) q ws t in ap parent e ∙ parent-kid w p
+
 -- ---- "(k+1, 2i+l, 2j+m), l and m in 0,1": which of the four a place is
+
+-- 2l + m, by a kid's wind and by its place
+abbrev pub turn : Wind → ℕ
+turn w = 2 * (compass w .east / 2) + compass w .north / 2
+
+unfoldable pub turnOf : Place → ℕ
+turnOf q = 2 * (q .col % 2) + q .row % 2
+
+pub turn-kid : (w : Wind) (p : Place) → turnOf (kid w p) ≡ turn w
+unfolding turnOf kid
+turn-kid w p =
+    let e : 2 * ((2 * p .col + compass w .east / 2) % 2) + (2 * p .row + compass w .north / 2) % 2 ≡ turn w = omega (arith, rule w .east-back, rule w .north-back) in
+    e
 
 -- the kid's wind, by the last digit of the column and of the row
 pub kid-wind : (q p : Place) → parent q ≡ some p → (w : Wind) × (kid w p ≡ q) × In q (kids p)
@@ -110,26 +107,7 @@ parent-in q p e = kid-wind q p e .2
 
 pub in-parent : (q p : Place) → In q (kids p) → parent q ≡ some p
 unfolding kids
-in-parent q p t = first (in-cases q (kid NE p) (kid SE p ∷ kid SW p ∷ kid NW p ∷ []) t)
-  where
-    is : (w : Wind) → q ≡ kid w p → parent q ≡ some p
-    is w e = ap parent e ∙ parent-kid w p
-
-    fourth : (q ≡ kid NW p) ⊎ In q [] → parent q ≡ some p
-    fourth (inl e) = is NW e
-    fourth (inr t) = absurd t
-
-    third : (q ≡ kid SW p) ⊎ In q (kid NW p ∷ []) → parent q ≡ some p
-    third (inl e) = is SW e
-    third (inr t) = fourth (in-cases q (kid NW p) [] t)
-
-    second : (q ≡ kid SE p) ⊎ In q (kid SW p ∷ kid NW p ∷ []) → parent q ≡ some p
-    second (inl e) = is SE e
-    second (inr t) = third (in-cases q (kid SW p) (kid NW p ∷ []) t)
-
-    first : (q ≡ kid NE p) ⊎ In q (kid SE p ∷ kid SW p ∷ kid NW p ∷ []) → parent q ≡ some p
-    first (inl e) = is NE e
-    first (inr t) = second (in-cases q (kid SE p) (kid SW p ∷ kid NW p ∷ []) t)
+in-parent q p t = some-kid p q kidWinds t
 
 pub kid-in : (w : Wind) (p : Place) → In (kid w p) (kids p)
 kid-in w p = parent-in (kid w p) p (parent-kid w p)

@@ -2,6 +2,7 @@
 pub mod Bools
 pub mod Lists
 pub mod Places
+pub mod Counting
 pub mod Distinct
 pub mod Kids
 pub mod Digits

@@ -1,15 +1,16 @@
 -- What the small functions on lists do.
 -- Assumes nothing.
-use Prim.Native.Nat.{ℕ, zero, suc, _+_, _*_, _≤_, _<_}
-use native.Mathlib.Nat.{not-suc-le-zero, le-of-suc-le-suc, add-zero, zero-add, zero-lt-suc}
+use Prim.Native.Nat.{ℕ, zero, suc, _+_, _≤_, _<_}
+use native.Mathlib.Nat.{not-suc-le-zero, le-of-suc-le-suc, add-zero, zero-lt-suc}
 use native.Mathlib.Omega.{arith}
-use mathlib.Core.Path.{_≡_, refl, sym, ap, _∙_, subst}
+use mathlib.Core.Path.{_≡_, refl, ap, _∙_}
 use mathlib.Core.Logic.{_≢_, _⊎_, inl, inr}
-use mathlib.Core.Bool.{Bool, true, false, not, _&&_, _||_, cond}
+use mathlib.Core.Bool.{Bool, true, false, _||_, cond}
 use mathlib.Core.List.{List, [], _∷_, _++_, map}
-use lib.Dec.{T, T-not}
-use lib.ListN.{length, getD, set}
-use Rattle.mesh.specs.Tools.{any, all, keep, count, first, flat, every}
+use lib.Dec.{T}
+use lib.ListN.{length, getD, set, length-set}
+use lib.Seq.{getD-set-same, set-set, set-getD}
+use Rattle.mesh.specs.Tools.{any, all, keep, count, first, every}
 use Rattle.geometry.proofs.Bools.{yes-is, is-yes, or-left, or-right, or-cases, and-both, and-left, and-right}
 
 -- ---- lists of tests
@@ -65,6 +66,17 @@ module _ {A : Type 0} (f : A → Bool) (d : A) where
           let r = ih (rw e at h) in
           (suc (r .0), rw e (r .1 ∙ omega arith), omega (arith, r .2), r .3)
 
+  -- nothing before the first one passes
+  pub first-before : (n : ℕ) (xs : List A) (k j : ℕ) → first f n xs ≡ n + k → j < k → f (getD xs j d) ≡ false
+  first-before n [] k j e h = absurd (omega arith)
+  first-before n (x ∷ xs) k j e h = go (f x) refl j k h e (first-before (suc n) xs)
+    where
+      go : (b : Bool) → f x ≡ b → (j k : ℕ) → j < k → first f n (x ∷ xs) ≡ n + k → ((k j : ℕ) → first f (suc n) xs ≡ suc n + k → j < k → f (getD xs j d) ≡ false) → f (getD (x ∷ xs) j d) ≡ false
+      go true b j k h e ih = absurd (let z : n ≡ n + k = rw b at e in omega arith)
+      go false b zero k h e ih = b
+      go false b (suc j) zero h e ih = absurd (omega arith)
+      go false b (suc j) (suc k) h e ih = ih k j (let z : first f (suc n) xs ≡ n + suc k = rw b at e in omega arith) (omega arith)
+
   -- where one place alone passes, it is the first
   pub first-at : (n : ℕ) (xs : List A) (k : ℕ) → k < length xs → T (f (getD xs k d)) → ((j : ℕ) → j < length xs → T (f (getD xs j d)) → j ≡ k) → first f n xs ≡ n + k
   first-at n [] k h t u = absurd (not-suc-le-zero h)
@@ -81,6 +93,12 @@ module _ {A : Type 0} (f : A → Bool) (d : A) where
   count-set [] n a l t e = absurd (not-suc-le-zero l)
   count-set (x ∷ xs) zero a l t e = rw (yes-is (f x) t, e) (let h : 1 + count f xs ≡ suc (0 + count f xs) = omega arith in h)
   count-set (x ∷ xs) (suc n) a l t e = rw (count-set xs n a (le-of-suc-le-suc l) t e) (let h : cond (f x) 1 0 + suc (count f (set xs n a)) ≡ suc (cond (f x) 1 0 + count f (set xs n a)) = omega arith in h)
+
+  -- one more passes
+  pub count-more : (xs : List A) (n : ℕ) (a : A) → n < length xs → f (getD xs n d) ≡ false → T (f a) → count f (set xs n a) ≡ suc (count f xs)
+  count-more xs n a l e t =
+      count-set (set xs n a) n (getD xs n d) (rw length-set l) (rw (getD-set-same xs n a d l) t) e
+      ∙ ap (λ (ys : List A). suc (count f ys)) (set-set xs n a (getD xs n d) ∙ set-getD xs n d)
 
   pub any-set : (xs : List A) (n : ℕ) (a : A) → f a ≡ f (getD xs n d) → any f (set xs n a) ≡ any f xs
   any-set [] n a e = refl
@@ -133,6 +151,14 @@ module _ {A : Type 0} where
       go true false y z ih = absurd (let t : T (h x) = w x (rw y tt) in let u : T false = rw z at t in u)
       go false true y z ih = rw (y, z) (omega arith)
       go false false y z ih = rw (y, z) (omega arith)
+
+  pub keep-length : (f : A → Bool) (xs : List A) → length (keep f xs) ≤ length xs
+  keep-length f [] = omega arith
+  keep-length f (x ∷ xs) = go (f x) (keep-length f xs)
+    where
+      go : (b : Bool) → length (keep f xs) ≤ length xs → length (cond b (x ∷ keep f xs) (keep f xs)) ≤ suc (length xs)
+      go true ih = omega arith
+      go false ih = omega arith
 
 -- ---- maps
 

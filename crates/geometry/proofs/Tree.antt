@@ -1,15 +1,14 @@
 -- The patches make a tree: below the root, the parent of a patch is a patch; and a ghost has a kid.
 -- Assumes nothing.
-use Prim.Native.Nat.{ℕ, zero, suc, pred, _+_, _-_, _≤_, _<_}
+use Prim.Native.Nat.{ℕ, zero, suc, _+_, _-_, _≤_, _<_}
 use native.Mathlib.Omega.{arith}
 use native.Mathlib.Decide.{decLe}
-use mathlib.Core.Path.{_≡_, refl, sym, ap, _∙_, subst}
-use mathlib.Core.Bool.{Bool, true, false}
-use mathlib.Core.Option.{Option, none, some}
+use mathlib.Core.Path.{_≡_, refl, sym, subst}
+use mathlib.Core.Bool.{Bool}
+use mathlib.Core.Option.{some}
 use lib.Dec.{T}
-use Rattle.mesh.specs.Tools.{any}
 use Rattle.mesh.specs.Place.{Place, Grid, base, kids, parent}
-use Rattle.mesh.specs.Mesh.{Mesh, on, touched, under, patch}
+use Rattle.mesh.specs.Mesh.{Mesh, touched, under, patch}
 use Rattle.geometry.proofs.Lists.{any-weaken}
 use Rattle.geometry.proofs.Kids.{up, parent-up, up-is, up-depth, parent-depth, any-kid, kid-any}
 use Rattle.geometry.proofs.Near.{Corner, c-here, corner-up, corner-depth, touched-corner, corner-touched}
@@ -44,6 +43,14 @@ module _ (g : Grid) (c : Place → Bool) where
   -- a cell makes the four patches at its corners
   pub corner-patch : {r p : Place} → base g ≤ r .depth → Corner g r p → T (c r) → T (patch g c p)
   corner-patch {r} {p} h k t = touched-patch p (omega (arith, corner-depth k)) (corner-touched g c k t)
+
+  -- a patch is a ghost, or lies as deep as a cell
+  pub patch-high : Mesh g c → (p : Place) → T (patch g c p) → p .depth ≤ base g + 12
+  patch-high m p t = go (decLe (base g) (p .depth))
+    where
+      go : Dec (base g ≤ p .depth) → p .depth ≤ base g + 12
+      go (yes h) = let (r, k, b) = touched-corner g c p (patch-touched p h t) in omega (arith, corner-depth k, m .high r b)
+      go (no h) = omega arith
 
   pub cell-patch : Mesh g c → (p : Place) → T (c p) → T (patch g c p)
   cell-patch m p t = corner-patch (m .low p t) c-here t

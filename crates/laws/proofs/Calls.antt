@@ -1,26 +1,24 @@
 -- The calls on the picture of a valid state: no first check refuses, and the state that is decoded is that state. So a build and any list of
 -- tapes lend on the picture of the state that the rules give.
 -- Assumes nothing.
-use Prim.Native.Nat.{ℕ, zero, suc, _+_, _*_, _≤_, _<_}
+use Prim.Native.Nat.{ℕ, _+_, _*_, _≤_}
 use native.Mathlib.Nat.{mul-comm}
 use native.Mathlib.Omega.{arith}
-use mathlib.Core.Path.{_≡_, refl, sym, ap, _∙_, subst}
-use mathlib.Core.Logic.{_≢_}
+use mathlib.Core.Path.{_≡_, refl, sym, ap, _∙_}
 use mathlib.Core.Bool.{Bool, true, false, not, _&&_, _||_}
 use mathlib.Core.List.{List, [], _∷_}
-use lib.Dec.{T, eqb, leb, ltb}
+use lib.Dec.{eqb, leb}
 use lib.ListN.{length}
-use borrow.Author.Tests.{eq-eqb, le-leb, leb-true, ltb-false, not-false}
+use borrow.Author.Tests.{eq-eqb, le-leb, leb-true, ltb-false}
 use Rattle.mesh.specs.Place.{Grid}
-use Rattle.mesh.specs.State.{State, capacity, gridOf, inUse}
+use Rattle.mesh.specs.State.{State, capacity, gridOf}
 use Rattle.mesh.specs.Valid.{Valid}
 use Rattle.mesh.specs.Picture.{rowWords, table, amounts}
-use Rattle.mesh.specs.Decode.{decode}
 use Rattle.mesh.specs.Test.{sound}
-use Rattle.mesh.specs.Refusal.{Check, _if_, refusal}
+use Rattle.mesh.specs.Refusal.{refusal}
 use Rattle.mesh.specs.Build.{numbered, built}
 use Rattle.mesh.specs.Tape.{run}
-use Rattle.mesh.specs.Call.{Lent, picture, stateOf, outside, no1, no2, no3, lentChecks, unless, Built, buildChecks, buildCall, Taped, tapeCall}
+use Rattle.mesh.specs.Call.{Lent, picture, stateOf, outside, lentChecks, buildChecks, Taped, tapeCall}
 use Rattle.geometry.proofs.Bools.{yes-is}
 use Rattle.geometry.proofs.Base.{Rectangle}
 use Rattle.numbering.proofs.Checks.{passes}
@@ -28,9 +26,9 @@ use Rattle.numbering.proofs.Building.{built-valid, built-capacity}
 use Rattle.pictures.proofs.Rows.{table-length, amounts-length}
 use Rattle.pictures.proofs.Decoding.{decode-back}
 use Rattle.pictures.proofs.Soundness.{picture-sound, sound-test}
-use Rattle.laws.specs.Deeds.{after, deeds}
-use Rattle.laws.proofs.Refusals.{unless-accepted, unless-refused}
-use Rattle.laws.proofs.Tapes.{Led, run-led}
+use Rattle.laws.specs.Deeds.{after}
+use Rattle.laws.proofs.Refusals.{unless-accepted}
+use Rattle.laws.proofs.Tapes.{run-led}
 
 -- ---- ranges
 

@@ -1,32 +1,16 @@
 -- Demand 3, for every accepted build and every list of tapes, refused requests among them: the theorem that the laws are for.
 -- Assumes nothing.
-use Prim.Native.Nat.{ℕ, zero, suc, _<_}
-use native.Mathlib.Omega.{arith}
-use mathlib.Core.Path.{_≡_, refl, sym, ap, _∙_, subst, fun-ext}
-use mathlib.Core.Logic.{_≢_, _↔_}
-use mathlib.Core.Bool.{Bool, true, false, cond}
-use mathlib.Core.Option.{Option, none, some}
+use Prim.Native.Nat.{ℕ}
+use mathlib.Core.Path.{_≡_, refl, ap, _∙_, fun-ext}
 use mathlib.Core.List.{List}
-use lib.Dec.{T, eqb}
-use lib.ListN.{length, getD}
-use lib.IntN.{ℤ, pos}
-use lib.Signed.{leZ}
-use Rattle.mesh.specs.Tools.{count}
-use Rattle.mesh.specs.Place.{Place, Grid, Wind, compass, kidWinds, sideWinds, around, root, level}
-use Rattle.mesh.specs.Winds.{wordOfWind}
-use Rattle.mesh.specs.Mesh.{leaf}
-use Rattle.mesh.specs.State.{State, Header, placeOf, isUsed, entry, cells, number, inUse, gridOf}
-use Rattle.mesh.specs.Valid.{Valid}
+use Rattle.mesh.specs.Place.{Grid}
+use Rattle.mesh.specs.State.{State, inUse}
 use Rattle.mesh.specs.Refusal.{refusal}
-use Rattle.mesh.specs.Build.{full, blankCell, built}
-use Rattle.mesh.specs.Scan.{permutation, scan}
-use Rattle.mesh.specs.Lookup.{holds, lookup}
-use Rattle.mesh.specs.Call.{Lent, picture, unless, Built, buildChecks, buildCall}
-use Rattle.geometry.proofs.Tiling.{groundOf, tiling-one}
-use Rattle.numbering.proofs.Numbers.{contents}
+use Rattle.mesh.specs.Build.{built}
+use Rattle.mesh.specs.Call.{Lent, picture, Built, buildChecks, buildCall}
+use Rattle.geometry.proofs.Tiling.{tiling-one}
 use Rattle.numbering.proofs.Building.{built-contents}
-use Rattle.pictures.proofs.Links.{_of_, linkWord, link-place, links-return, parent-kid-return}
-use Rattle.walking.specs.Points.{total}
+use Rattle.pictures.proofs.Links.{link-place, links-return, parent-kid-return}
 use Rattle.walking.proofs.Scans.{scan-all}
 use Rattle.walking.proofs.Counts.{in-use-counts}
 use Rattle.laws.specs.Deeds.{Deed, setRules, after, deeds}

@@ -4,21 +4,21 @@ use Prim.Native.Nat.{ℕ, zero, suc, _+_, _%_}
 use native.Mathlib.Omega.{arith}
 use mathlib.Core.Path.{_≡_, refl, sym, ap, _∙_, subst, fun-ext}
 use mathlib.Core.Logic.{_≢_}
-use mathlib.Core.Bool.{Bool, true, false, cond}
-use mathlib.Core.Option.{Option, none, some}
-use mathlib.Core.List.{List, [], _∷_}
-use lib.Dec.{T, eqb}
+use mathlib.Core.Bool.{cond}
+use mathlib.Core.Option.{Option, some}
+use mathlib.Core.List.{List}
+use lib.Dec.{T}
 use lib.ListN.{length}
 use borrow.Author.Tests.{ne-eqb}
 use Rattle.mesh.specs.Place.{Place, same}
 use Rattle.mesh.specs.Mesh.{patch}
 use Rattle.mesh.specs.Tools.{any}
-use Rattle.mesh.specs.State.{State, Header, Entry, free, Cell, Value, blank, measured, carried, placeOf, entry, cells, number, gridOf, capacity}
+use Rattle.mesh.specs.State.{State, Header, free, Cell, Value, blank, measured, carried, placeOf, entry, cells, number, gridOf}
 use Rattle.mesh.specs.Valid.{Valid, ValueRule}
 use Rattle.mesh.specs.Refusal.{refusal}
-use Rattle.mesh.specs.Request.{Request, refine, sentence, remove, kill, setValue, checks, effect, marked, Result, refused, accepted, request}
+use Rattle.mesh.specs.Request.{Request, refine, sentence, remove, kill, setValue, checks, effect, marked, refused, accepted, request}
 use Rattle.geometry.proofs.Bools.{yes-is}
-use Rattle.numbering.proofs.Numbers.{contents, valid-numbered, number-place}
+use Rattle.numbering.proofs.Numbers.{contents}
 use Rattle.numbering.proofs.Keeping.{Kept}
 use Rattle.numbering.proofs.Marking.{sentence-kept, setValue-kept}
 use Rattle.numbering.proofs.Taking.{remove-kept, kill-kept}

@@ -4,8 +4,7 @@ use Prim.Native.Nat.{ℕ, zero, suc, _+_, _%_}
 use native.Mathlib.Nat.{add-zero}
 use native.Mathlib.Omega.{arith}
 use mathlib.Core.Path.{_≡_, refl, sym, ap, _∙_}
-use mathlib.Core.Logic.{_≢_}
-use mathlib.Core.Bool.{Bool, true, false, cond}
+use mathlib.Core.Bool.{Bool, true, false}
 use mathlib.Core.Option.{Option, none, some}
 use mathlib.Core.List.{List, [], _∷_, _++_}
 use lib.Dec.{ltb}
@@ -13,7 +12,7 @@ use lib.ListN.{length, take, length-append}
 use Rattle.mesh.specs.State.{State, gridOf}
 use Rattle.mesh.specs.Valid.{Valid}
 use Rattle.mesh.specs.Request.{Request, Result, refused, accepted, request}
-use Rattle.mesh.specs.Tape.{Kind, kind, Step, stop, next, answered, stepBy, Run, runFrom, run}
+use Rattle.mesh.specs.Tape.{Kind, kind, Step, stop, next, answered, stepBy, runFrom, run}
 use Rattle.mesh.proofs.Runs.{run-stop, run-next}
 use Rattle.numbering.proofs.Numbers.{contents}
 use Rattle.laws.specs.Deeds.{Deed, deedOf, setRule, setRules, askedBy, deedsFrom, after, deeds}

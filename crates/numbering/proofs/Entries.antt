@@ -1,18 +1,18 @@
 -- What an entry says, and where in the list an entry with a place or a cell stands.
 -- Assumes nothing.
-use Prim.Native.Nat.{ℕ, zero, suc, _<_}
+use Prim.Native.Nat.{ℕ, _<_}
 use native.Mathlib.Omega.{arith}
 use native.Mathlib.Decide.{decLt}
-use mathlib.Core.Path.{_≡_, refl, sym, ap, _∙_, subst}
-use mathlib.Core.Bool.{Bool, true, false, _&&_}
+use mathlib.Core.Path.{_≡_, refl, sym, ap, _∙_}
+use mathlib.Core.Bool.{true}
 use mathlib.Core.Option.{Option, none, some, Option·none-ne-some, Option·some-injective}
 use mathlib.Core.List.{List}
 use lib.Dec.{T}
-use lib.ListN.{length, getD, List·getD-eq-default}
+use lib.ListN.{length, List·getD-eq-default}
 use Rattle.mesh.specs.Tools.{any, isSome}
 use Rattle.mesh.specs.Place.{Place, same}
 use Rattle.mesh.specs.State.{Entry, nil, free, used, Cell, placeOf, cellOf, isNil, isFree, isUsed, isCell, stands, cellAt, entry, cells}
-use Rattle.geometry.proofs.Bools.{is-yes, and-both, and-left, and-right}
+use Rattle.geometry.proofs.Bools.{and-both, and-left, and-right}
 use Rattle.geometry.proofs.Lists.{any-at, any-hit}
 use Rattle.geometry.proofs.Places.{same-refl, same-is}
 

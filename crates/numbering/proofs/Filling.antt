@@ -1,19 +1,18 @@
 -- The patches at some places get another cell, or none: places and numbers stay, and the contents change there alone.
 -- Assumes nothing.
-use Prim.Native.Nat.{ℕ, zero, suc}
+use Prim.Native.Nat.{ℕ}
 use native.Mathlib.Decide.{ℕ-discrete}
-use mathlib.Core.Path.{_≡_, refl, sym, ap, _∙_, subst, fun-ext}
-use mathlib.Core.Logic.{_≢_, _⊎_, inl, inr}
-use mathlib.Core.Bool.{Bool, true, false, not, cond}
-use mathlib.Core.Option.{Option, none, some}
-use mathlib.Core.List.{List, [], _∷_, map}
-use lib.Dec.{T, T-not}
+use mathlib.Core.Path.{_≡_, refl, sym, ap, _∙_, fun-ext}
+use mathlib.Core.Logic.{_≢_}
+use mathlib.Core.Bool.{Bool, true, false, cond}
+use mathlib.Core.Option.{Option, some}
+use mathlib.Core.List.{List}
 use lib.ListN.{length, length-map, List·getD-map}
 use Rattle.mesh.specs.Tools.{any, orElse, first, isSome}
 use Rattle.mesh.specs.Place.{Place, same}
 use Rattle.mesh.specs.State.{Entry, nil, free, used, Cell, placeOf, cellOf, isNil, isFree, stands, entry, cells, number}
 use Rattle.mesh.specs.Request.{filled, fill}
-use Rattle.geometry.proofs.Bools.{yes-is, no-is}
+use Rattle.geometry.proofs.Bools.{no-is}
 use Rattle.geometry.proofs.Lists.{any-map, first-map}
 use Rattle.geometry.proofs.Places.{In}
 use Rattle.numbering.proofs.Entries.{place-used}

@@ -1,6 +1,6 @@
 -- New patches at places where they are missing: each takes the smallest free number, and everything that has a place stays.
 -- Assumes nothing.
-use Prim.Native.Nat.{ℕ, zero, suc, _+_, _≤_, _<_}
+use Prim.Native.Nat.{ℕ, suc, _+_, _≤_, _<_}
 use native.Mathlib.Nat.{zero-add}
 use native.Mathlib.Decide.{ℕ-discrete}
 use native.Mathlib.Omega.{arith}
@@ -8,46 +8,21 @@ use mathlib.Core.Path.{_≡_, refl, sym, ap, _∙_, subst}
 use mathlib.Core.Logic.{_≢_, _⊎_, inl, inr}
 use mathlib.Core.Bool.{Bool, true, false, cond}
 use mathlib.Core.Option.{none, some, Option·none-ne-some}
-use mathlib.Core.List.{List, [], _∷_}
-use lib.Dec.{T, eqb}
-use lib.ListN.{length, getD, set, length-set}
-use lib.Seq.{getD-set-same, getD-set-other, set-set, set-getD}
+use mathlib.Core.List.{List, [], _∷_, _++_}
+use lib.Dec.{eqb}
+use lib.ListN.{length, set, length-set}
+use lib.Seq.{getD-set-same, getD-set-other}
 use borrow.Author.Tests.{eq-eqb, ne-eqb}
 use Rattle.mesh.specs.Tools.{count, first, keep}
 use Rattle.mesh.specs.Place.{Place, same}
 use Rattle.mesh.specs.State.{State, Entry, nil, free, used, placeOf, cellOf, isFree, isUsed, stands, entry, number, freeCount, inUse, withEntries, nextFree}
 use Rattle.mesh.specs.Request.{supply, give}
 use Rattle.geometry.proofs.Bools.{no-is}
-use Rattle.geometry.proofs.Lists.{first-hit, first-found, first-set, count-set}
-use Rattle.geometry.proofs.Places.{same-is, In, in-cases, in-here, in-there, in-one}
-use Rattle.geometry.proofs.Distinct.{Distinct}
+use Rattle.geometry.proofs.Lists.{first-hit, first-before, first-found, first-set, count-set, count-more}
+use Rattle.geometry.proofs.Places.{same-is, In, in-here, in-one}
+use Rattle.geometry.proofs.Distinct.{Distinct, in-append, append-left, append-right, keep-same}
 use Rattle.numbering.proofs.Entries.{free-is}
 use Rattle.numbering.proofs.Numbers.{Numbered, number-place, place-number, unnumbered, contents}
-
--- ---- lists
-
-module _ {A : Type 0} (f : A → Bool) (d : A) where
-  -- nothing before the first one passes
-  first-before : (n : ℕ) (xs : List A) (k j : ℕ) → first f n xs ≡ n + k → j < k → f (getD xs j d) ≡ false
-  first-before n [] k j e h = absurd (omega arith)
-  first-before n (x ∷ xs) k j e h = go (f x) refl j k h e (first-before (suc n) xs)
-    where
-      go : (b : Bool) → f x ≡ b → (j k : ℕ) → j < k → first f n (x ∷ xs) ≡ n + k → ((k j : ℕ) → first f (suc n) xs ≡ suc n + k → j < k → f (getD xs j d) ≡ false) → f (getD (x ∷ xs) j d) ≡ false
-      go true b j k h e ih = absurd (let z : n ≡ n + k = rw b at e in omega arith)
-      go false b zero k h e ih = b
-      go false b (suc j) zero h e ih = absurd (omega arith)
-      go false b (suc j) (suc k) h e ih = ih k j (let z : first f (suc n) xs ≡ n + suc k = rw b at e in omega arith) (omega arith)
-
-  -- one more passes
-  count-more : (xs : List A) (n : ℕ) (a : A) → n < length xs → f (getD xs n d) ≡ false → T (f a) → count f (set xs n a) ≡ suc (count f xs)
-  count-more xs n a l e t =
-      count-set f d (set xs n a) n (getD xs n d) (rw length-set l) (rw (getD-set-same xs n a d l) t) e
-      ∙ ap (λ (ys : List A). suc (count f ys)) (set-set xs n a (getD xs n d) ∙ set-getD xs n d)
-
--- two tests that agree on a list's places keep the same
-keep-same : (f h : Place → Bool) (qs : List Place) → ((q : Place) → In q qs → f q ≡ h q) → keep f qs ≡ keep h qs
-keep-same f h [] e = refl
-keep-same f h (q ∷ qs) e = rw (e q (in-here q q qs refl), keep-same f h qs (λ r i. e r (in-there r q qs i)))
 
 -- ---- the next free number
 
@@ -174,6 +149,13 @@ module _ (s : State) (u : Numbered (s .entries)) (q : Place) (z : number (s .ent
       both n m p a b (inr x) (inl y) = absurd (alone m n p (y .1) x b a)
       both n m p a b (inr x) (inr y) = u .once n m p (sym (ap placeOf x) ∙ a) (sym (ap placeOf y) ∙ b)
 
+  more-number : number (one-more .entries) q ≡ nextFree s
+  more-number = place-number (one-more .entries) more-numbered (nextFree s) q (ap placeOf more-same)
+
+  pub supply-number : number (supply s q .entries) q ≡ nextFree s
+  unfolding supply
+  supply-number = rw (eq-eqb (number (s .entries) q) 0 z) more-number
+
   more-free : suc (freeCount (one-more .entries)) ≡ freeCount (s .entries)
   unfolding freeCount
   more-free = sym (count-set isFree nil (s .entries) (nextFree s) (used q none) (next .inside) (rw (next .is-free) tt) refl)
@@ -192,7 +174,7 @@ module _ (s : State) (u : Numbered (s .entries)) (q : Place) (z : number (s .ent
     long-same = length-set (s .entries) (nextFree s) (used q none);
     numbered = more-numbered;
     change = λ n. changed n (more-cases n);
-    there = λ r i y. next .not-nil (sym (at-next r (in-one r q i)) ∙ y);
+    there = λ r i y. next .not-nil (sym more-number ∙ ap (number (one-more .entries)) (sym (in-one r q i)) ∙ y);
     elsewhere = λ r f. more-elsewhere r (no-is (same r q) (λ t. f (in-here r q [] (same-is r q t))));
     free-fewer = rw lacks (omega (arith, more-free));
     used-more = rw lacks (omega (arith, more-used));
@@ -205,11 +187,8 @@ module _ (s : State) (u : Numbered (s .entries)) (q : Place) (z : number (s .ent
       changed n (inl x) = taken q (ap (entry (s .entries)) (x .0) ∙ next .is-free) (x .1) (in-here q q [] refl)
       changed n (inr e) = stays e
 
-      at-next : (r : Place) → r ≡ q → number (one-more .entries) r ≡ nextFree s
-      at-next r e = place-number (one-more .entries) more-numbered (nextFree s) r (ap placeOf more-same ∙ ap some (sym e))
-
 -- "each only where missing"
-supply-gave : (s : State) → Numbered (s .entries) → (q : Place) → lacking (s .entries) (q ∷ []) ≤ freeCount (s .entries) → Gave s (supply s q) (q ∷ [])
+pub supply-gave : (s : State) → Numbered (s .entries) → (q : Place) → lacking (s .entries) (q ∷ []) ≤ freeCount (s .entries) → Gave s (supply s q) (q ∷ [])
 unfolding supply
 supply-gave s u q l = go (ℕ-discrete (number (s .entries) q) 0)
   where
@@ -234,40 +213,38 @@ supply-gave s u q l = go (ℕ-discrete (number (s .entries) q) 0)
 
 -- ---- several patches
 
-change-join : (q : Place) (qs : List Place) (a b c : Entry) → Change (q ∷ []) a b → Change qs b c → Change (q ∷ qs) a c
-change-join q qs a b c (stays e) (stays f) = stays (f ∙ e)
-change-join q qs a b c (stays e) (taken r x y i) = taken r (sym e ∙ x) y (in-there r q qs i)
-change-join q qs a b c (taken r x y i) (stays f) = taken r x (f ∙ y) (in-here r q qs (in-one r q i))
-change-join q qs a b c (taken r x y i) (taken r′ x′ y′ i′) = absurd (let w : _≡_ {A = ℕ} 0 1 = cc in omega arith)
+change-join : (ps qs : List Place) (a b c : Entry) → Change ps a b → Change qs b c → Change (ps ++ qs) a c
+change-join ps qs a b c (stays e) (stays f) = stays (f ∙ e)
+change-join ps qs a b c (stays e) (taken r x y i) = taken r (sym e ∙ x) y (append-right r ps qs i)
+change-join ps qs a b c (taken r x y i) (stays f) = taken r x (f ∙ y) (append-left r ps qs i)
+change-join ps qs a b c (taken r x y i) (taken r′ x′ y′ i′) = absurd (let w : _≡_ {A = ℕ} 0 1 = cc in omega arith)
 
-lacking-cons : (es : List Entry) (q : Place) (qs : List Place) → lacking es (q ∷ qs) ≡ lacking es (q ∷ []) + lacking es qs
-lacking-cons es q qs = go (eqb (number es q) 0)
+pub lacking-append : (es : List Entry) (ps qs : List Place) → lacking es (ps ++ qs) ≡ lacking es ps + lacking es qs
+lacking-append es [] qs = omega arith
+lacking-append es (p ∷ ps) qs = go (eqb (number es p) 0) (lacking-append es ps qs)
   where
-    go : (b : Bool) → length (cond b (q ∷ keep (λ r. eqb (number es r) 0) qs) (keep (λ r. eqb (number es r) 0) qs)) ≡ length (cond b (q ∷ []) []) + lacking es qs
-    go true = omega arith
-    go false = omega arith
+    go : (b : Bool) → lacking es (ps ++ qs) ≡ lacking es ps + lacking es qs → length (cond b (p ∷ keep (λ r. eqb (number es r) 0) (ps ++ qs)) (keep (λ r. eqb (number es r) 0) (ps ++ qs))) ≡ length (cond b (p ∷ keep (λ r. eqb (number es r) 0) ps) (keep (λ r. eqb (number es r) 0) ps)) + lacking es qs
+    go true ih = omega arith
+    go false ih = omega arith
 
--- what one patch leaves missing of other places
-lacking-after : {s t : State} (q : Place) (qs : List Place) → Gave s t (q ∷ []) → (In q qs → ⊥) → lacking (t .entries) qs ≡ lacking (s .entries) qs
-lacking-after {s} {t} q qs g f = ap length (keep-same (λ r. eqb (number (t .entries) r) 0) (λ r. eqb (number (s .entries) r) 0) qs (λ r i. ap (λ (k : ℕ). eqb k 0) (g .elsewhere r (other r i))))
-  where
-    other : (r : Place) → In r qs → In r (q ∷ []) → ⊥
-    other r i j = f (subst (λ (x : Place). In x qs) (in-one r q j) i)
+-- what new patches leave missing of other places
+pub lacking-after : {s t : State} (ps qs : List Place) → Gave s t ps → ((r : Place) → In r ps → In r qs → ⊥) → lacking (t .entries) qs ≡ lacking (s .entries) qs
+lacking-after {s} {t} ps qs g f = ap length (keep-same (λ r. eqb (number (t .entries) r) 0) (λ r. eqb (number (s .entries) r) 0) qs (λ r i. ap (λ (k : ℕ). eqb k 0) (g .elsewhere r (λ j. f r j i))))
 
-gave-join : {s t w : State} (q : Place) (qs : List Place) → (In q qs → ⊥) → Gave s t (q ∷ []) → Gave t w qs → Gave s w (q ∷ qs)
-gave-join {s} {t} {w} q qs f g h = record {
+gave-join : {s t w : State} (ps qs : List Place) → ((r : Place) → In r ps → In r qs → ⊥) → Gave s t ps → Gave t w qs → Gave s w (ps ++ qs)
+gave-join {s} {t} {w} ps qs f g h = record {
   header-same = h .header-same ∙ g .header-same;
   long-same = h .long-same ∙ g .long-same;
   numbered = h .numbered;
-  change = λ n. change-join q qs (entry (s .entries) n) (entry (t .entries) n) (entry (w .entries) n) (g .change n) (h .change n);
-  there = λ r i. there r (in-cases r q qs i);
-  elsewhere = λ r i. h .elsewhere r (λ j. i (in-there r q qs j)) ∙ g .elsewhere r (λ j. i (in-here r q qs (in-one r q j)));
-  free-fewer = omega (arith, lacking-cons (s .entries) q qs, lacking-after q qs g f, g .free-fewer, h .free-fewer);
-  used-more = omega (arith, lacking-cons (s .entries) q qs, lacking-after q qs g f, g .used-more, h .used-more);
+  change = λ n. change-join ps qs (entry (s .entries) n) (entry (t .entries) n) (entry (w .entries) n) (g .change n) (h .change n);
+  there = λ r i. there r (in-append r ps qs i);
+  elsewhere = λ r i. h .elsewhere r (λ j. i (append-right r ps qs j)) ∙ g .elsewhere r (λ j. i (append-left r ps qs j));
+  free-fewer = omega (arith, lacking-append (s .entries) ps qs, lacking-after ps qs g f, g .free-fewer, h .free-fewer);
+  used-more = omega (arith, lacking-append (s .entries) ps qs, lacking-after ps qs g f, g .used-more, h .used-more);
 }
   where
-    there : (r : Place) → (r ≡ q) ⊎ In r qs → number (w .entries) r ≢ 0
-    there r (inl e) = let y = g .there r (in-here r q [] e) in λ z. y (sym (kept-number h r y) ∙ z)
+    there : (r : Place) → In r ps ⊎ In r qs → number (w .entries) r ≢ 0
+    there r (inl i) = let y = g .there r i in λ z. y (sym (kept-number h r y) ∙ z)
     there r (inr i) = h .there r i
 
 pub gave : (qs : List Place) → Distinct qs → (s : State) → Numbered (s .entries) → lacking (s .entries) qs ≤ freeCount (s .entries) → Gave s (give s qs) qs
@@ -283,6 +260,7 @@ gave [] d s u l = record {
   used-more = omega arith;
 }
 gave (q ∷ qs) d s u l =
-    let first = supply-gave s u q (omega (arith, lacking-cons (s .entries) q qs)) in
-    gave-join q qs (d .0) first
-    (gave qs (d .1) (supply s q) (first .numbered) (omega (arith, lacking-cons (s .entries) q qs, lacking-after q qs first (d .0), first .free-fewer)))
+    let first = supply-gave s u q (omega (arith, lacking-append (s .entries) (q ∷ []) qs)) in
+    let apart : (r : Place) → In r (q ∷ []) → In r qs → ⊥ = λ r i j. d .0 (subst (λ (x : Place). In x qs) (in-one r q i) j) in
+    gave-join (q ∷ []) qs apart first
+    (gave qs (d .1) (supply s q) (first .numbered) (omega (arith, lacking-append (s .entries) (q ∷ []) qs, lacking-after (q ∷ []) qs first apart, first .free-fewer)))

@@ -1,7 +1,7 @@
 -- The numbering of a build holds exactly the patches, each once, the root first: from a list of all patches of one depth, `nextLevel` makes
 -- the list of the next, because a patch's parent is a patch and no two places have a kid in common.
 -- Assumes nothing.
-use Prim.Native.Nat.{ℕ, zero, suc, _+_, _*_, _/_, _≤_, _<_}
+use Prim.Native.Nat.{ℕ, zero, suc, _+_, _≤_, _<_}
 use native.Mathlib.Omega.{arith}
 use native.Mathlib.Decide.{decLe}
 use mathlib.Core.Path.{_≡_, refl, sym, ap, _∙_}
@@ -12,13 +12,14 @@ use mathlib.Core.List.{List, [], _∷_, _++_, map}
 use lib.Dec.{T, eqb, eqb-refl, T-not}
 use lib.ListN.{getD}
 use Rattle.mesh.specs.Tools.{any, all, flat}
-use Rattle.mesh.specs.Place.{Place, Grid, same, root, base, Wind, NE, SE, SW, NW, compass, kid, kids, parent}
+use Rattle.mesh.specs.Place.{Place, Grid, same, root, base, Wind, NE, SE, SW, NW, kid, kids, parent}
 use Rattle.mesh.specs.Mesh.{patch}
 use Rattle.mesh.specs.Build.{full, nextLevel, levels, numbered}
 use Rattle.geometry.proofs.Bools.{and-left, and-right}
 use Rattle.geometry.proofs.Lists.{at-every, any-at}
-use Rattle.geometry.proofs.Places.{same-refl, In, in-cases, in-here, in-there, in-one, all-in}
-use Rattle.geometry.proofs.Kids.{up, parent-up, up-depth, parent-depth, parent-kid, parent-in}
+use Rattle.geometry.proofs.Places.{same-refl, In, in-cases, in-here, in-one, all-in}
+use Rattle.geometry.proofs.Counting.{any-parts, parts-any}
+use Rattle.geometry.proofs.Kids.{up, parent-up, up-depth, parent-depth, parent-in, some-kid, turn, turnOf, turn-kid}
 use Rattle.geometry.proofs.Tree.{patch-up}
 use Rattle.geometry.proofs.Base.{Rectangle, depth-zero-root, root-patch}
 use Rattle.geometry.proofs.Full.{full-mesh, full-depth}
@@ -29,14 +30,6 @@ use Rattle.geometry.proofs.Distinct.{Distinct, in-append, append-left, append-r
 -- a place's kids in the order of a build
 abbrev born : Place → List Place
 born p = map (λ w. kid w p) (SW ∷ NW ∷ SE ∷ NE ∷ [])
-
-some-kid : (p q : Place) (ws : List Wind) → In q (map (λ w. kid w p) ws) → parent q ≡ some p
-some-kid p q [] t = absurd t
-some-kid p q (w ∷ ws) t = go (in-cases q (kid w p) (map (λ w. kid w p) ws) t) (some-kid p q ws)
-  where
-    go : (q ≡ kid w p) ⊎ In q (map (λ w. kid w p) ws) → (In q (map (λ w. kid w p) ws) → parent q ≡ some p) → parent q ≡ some p
-    go (inl e) ih = ap parent e ∙ parent-kid w p
-    go (inr i) ih = ih i
 
 born-kid : (p q : Place) → parent q ≡ some p → In q (born p)
 unfolding kids
@@ -49,15 +42,8 @@ born-kid p q e =
     is w k l h = any-at (same (kid w p)) root (born p) k l (rw h (same-refl (kid w p)))
 
 -- the kids of one place differ: their winds go to different sides
-abbrev turn : Wind → ℕ
-turn w = 2 * (compass w .east / 2) + compass w .north / 2
-
 same-turn : (p : Place) (w v : Wind) → kid w p ≡ kid v p → turn w ≡ turn v
-unfolding kid
-same-turn p w v e =
-    let x : 2 * p .col + compass w .east / 2 ≡ 2 * p .col + compass v .east / 2 = ap (λ (r : Place). r .col) e in
-    let y : 2 * p .row + compass w .north / 2 ≡ 2 * p .row + compass v .north / 2 = ap (λ (r : Place). r .row) e in
-    omega arith
+same-turn p w v e = sym (turn-kid w p) ∙ ap turnOf e ∙ turn-kid v p
 
 other-kids : (p : Place) (w : Wind) (ws : List Wind) → T (all (λ v. not (eqb (turn w) (turn v))) ws) → In (kid w p) (map (λ v. kid v p) ws) → ⊥
 other-kids p w [] h t = t
@@ -77,20 +63,10 @@ abbrev brood : List Place → List Place
 brood ps = flat (map born ps)
 
 brood-parent : (ps : List Place) (q : Place) → In q (brood ps) → (p : Place) × In p ps × (parent q ≡ some p)
-brood-parent [] q t = absurd t
-brood-parent (p ∷ ps) q t = go (in-append q (born p) (brood ps) t) (brood-parent ps q)
-  where
-    go : In q (born p) ⊎ In q (brood ps) → (In q (brood ps) → (r : Place) × In r ps × (parent q ≡ some r)) → (r : Place) × In r (p ∷ ps) × (parent q ≡ some r)
-    go (inl i) ih = (p, in-here p p ps refl, some-kid p q (SW ∷ NW ∷ SE ∷ NE ∷ []) i)
-    go (inr i) ih = let (r, j, e) = ih i in (r, in-there r p ps j, e)
+brood-parent ps q t = let (p, i, u) = any-parts (same q) born ps t in (p, i, some-kid p q (SW ∷ NW ∷ SE ∷ NE ∷ []) u)
 
 parent-brood : (ps : List Place) (p q : Place) → In p ps → parent q ≡ some p → In q (brood ps)
-parent-brood [] p q i e = absurd i
-parent-brood (r ∷ ps) p q i e = go (in-cases p r ps i) (parent-brood ps p q)
-  where
-    go : (p ≡ r) ⊎ In p ps → (In p ps → parent q ≡ some p → In q (brood ps)) → In q (brood (r ∷ ps))
-    go (inl h) ih = append-left q (born r) (brood ps) (born-kid r q (e ∙ ap some h))
-    go (inr j) ih = append-right q (born r) (brood ps) (ih j e)
+parent-brood ps p q i e = parts-any (same q) born p ps i (born-kid p q e)
 
 brood-distinct : (ps : List Place) → Distinct ps → Distinct (brood ps)
 brood-distinct [] o = tt

@@ -7,6 +7,7 @@ pub mod Filling
 pub mod Written
 pub mod Building
 pub mod Giving
+pub mod Turns
 pub mod Refining
 pub mod Pruning
 pub mod ByPlace

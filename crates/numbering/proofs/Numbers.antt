@@ -1,23 +1,20 @@
 -- Numbers and places of a list of entries in which no place stands twice.
 -- Assumes nothing.
-use Prim.Native.Nat.{ℕ, zero, suc, _+_, _<_}
+use Prim.Native.Nat.{ℕ}
 use native.Mathlib.Nat.{zero-add}
-use native.Mathlib.Omega.{arith}
 use native.Mathlib.Decide.{ℕ-discrete}
-use mathlib.Core.Path.{_≡_, refl, sym, ap, _∙_, subst}
+use mathlib.Core.Path.{_≡_, refl, sym, ap, _∙_}
 use mathlib.Core.Logic.{_≢_}
-use mathlib.Core.Bool.{Bool, true, false}
-use mathlib.Core.Option.{Option, none, some, Option·none-ne-some, Option·some-injective}
+use mathlib.Core.Option.{Option, none, some, Option·none-ne-some}
 use mathlib.Core.List.{List}
 use lib.Dec.{T}
-use lib.ListN.{length, getD}
 use Rattle.mesh.specs.Tools.{any, first, isSome}
 use Rattle.mesh.specs.Place.{Place}
-use Rattle.mesh.specs.State.{State, Entry, nil, free, used, Cell, placeOf, cellOf, isCell, stands, entry, cells, number, numberOf}
+use Rattle.mesh.specs.State.{State, Entry, nil, used, Cell, placeOf, cellOf, stands, entry, cells, number}
 use Rattle.mesh.specs.Valid.{Valid}
 use Rattle.geometry.proofs.Bools.{bool-ext}
 use Rattle.geometry.proofs.Lists.{first-hit, first-at}
-use Rattle.numbering.proofs.Entries.{stands-place, place-stands, place-used, in-list, in-stands, cell-there, cell-somewhere, cell-used}
+use Rattle.numbering.proofs.Entries.{stands-place, place-stands, place-used, in-list, in-stands, cell-there, cell-somewhere}
 
 -- what a numbering is, whatever the cells
 pub record Numbered (es : List Entry) : Type 0 where

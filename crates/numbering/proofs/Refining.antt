@@ -1,26 +1,27 @@
 -- An accepted refinement leaves a valid state: the cells grow by the kids, each with its parent's value, and all that stood there stays.
 -- Assumes nothing.
-use Prim.Native.Nat.{ℕ, suc, _+_, _≤_, _<_}
+use Prim.Native.Nat.{ℕ, _+_, _≤_, _<_}
 use native.Mathlib.Omega.{arith}
 use native.Mathlib.Decide.{ℕ-discrete}
 use mathlib.Core.Path.{_≡_, refl, sym, ap, _∙_, subst, fun-ext}
 use mathlib.Core.Logic.{_≢_, _⊎_, inl, inr}
 use mathlib.Core.Bool.{Bool, true, false, not, _||_, cond}
 use mathlib.Core.Option.{Option, none, some, Option·map, Option·some-injective}
-use mathlib.Core.List.{List, [], _∷_}
+use mathlib.Core.List.{List, _∷_, _++_}
 use lib.Dec.{T, eqb}
 use lib.ListN.{length}
 use borrow.Author.Tests.{eq-eqb, eqb-false, ltb-false, not-false}
-use Rattle.mesh.specs.Tools.{any, count, keep, orElse, isSome}
+use Rattle.mesh.specs.Tools.{any, count, orElse, isSome}
 use Rattle.mesh.specs.Place.{Place, Grid, NE, same, root, base, kid, kids, parent}
 use Rattle.mesh.specs.Mesh.{leaf, patch}
-use Rattle.mesh.specs.State.{State, Header, Entry, used, Cell, Value, blank, measured, carried, placeOf, valueOf, isNil, isUsed, isCell, stands, entry, cells, number, numberOf, placeAt, freeCount, inUse, gridOf, withEntries}
+use Rattle.mesh.specs.State.{State, Header, Entry, used, Cell, Value, blank, measured, carried, placeOf, valueOf, isNil, isUsed, isCell, stands, entry, cells, number, numberOf, placeAt, freeCount, inUse, gridOf, withEntries, nextFree}
 use Rattle.mesh.specs.Valid.{Valid, ValueRule, aboveOf}
 use Rattle.mesh.specs.Refusal.{refusal}
 use Rattle.mesh.specs.Request.{refine, wanted, missing, checks, give, filled, fill, inherited, kidCell, effect}
 use Rattle.geometry.proofs.Bools.{is-yes, no-is}
-use Rattle.geometry.proofs.Lists.{count-map}
-use Rattle.geometry.proofs.Places.{In, in-cases}
+use Rattle.geometry.proofs.Lists.{keep-length, count-map}
+use Rattle.geometry.proofs.Places.{In}
+use Rattle.geometry.proofs.Distinct.{in-length, in-keep}
 use Rattle.geometry.proofs.Kids.{in-parent, kid-in, parent-depth, kid-has, leaf-cell, leaf-kidless, is-leaf}
 use Rattle.geometry.proofs.Wanted.{kid-wanted, wanted-distinct}
 use Rattle.geometry.proofs.Growing.{grown, grown-old, grown-cases, grown-mesh, patch-grown, grown-patch, middle-new}
@@ -28,7 +29,8 @@ use Rattle.numbering.proofs.Entries.{cell-used, cell-there, cell-somewh
 use Rattle.numbering.proofs.Numbers.{Numbered, valid-numbered, number-place, contents, entry-contents, cells-contents}
 use Rattle.numbering.proofs.Filling.{filled-place, filled-nil, fill-entry, fill-length, fill-place, fill-number, fill-numbered, fill-contents}
 use Rattle.numbering.proofs.Checks.{passes}
-use Rattle.numbering.proofs.Giving.{Change, stays, taken, lacking, Gave, gave, kept-place, kept-number, gave-contents}
+use Rattle.numbering.proofs.Giving.{Next, Change, stays, taken, lacking, Gave, gave, kept-place, kept-number, gave-contents}
+use Rattle.numbering.proofs.Turns.{give-turn}
 
 -- ---- what the checks say
 
@@ -63,23 +65,6 @@ refinable s v n ok =
     )
 
 -- ---- how many
-
-keep-some : (f : Place → Bool) (qs : List Place) (q : Place) → In q qs → T (f q) → 1 ≤ length (keep f qs)
-keep-some f [] q i t = absurd i
-keep-some f (p ∷ qs) q i t = go (f p) refl (in-cases q p qs i) (keep-some f qs q)
-  where
-    go : (b : Bool) → f p ≡ b → (q ≡ p) ⊎ In q qs → (In q qs → T (f q) → 1 ≤ length (keep f qs)) → 1 ≤ length (keep f (p ∷ qs))
-    go true b j ih = rw b (omega arith)
-    go false b (inl e) ih = absurd (subst T (ap f e ∙ b) t)
-    go false b (inr j) ih = rw b (ih j t)
-
-keep-length : (f : Place → Bool) (qs : List Place) → length (keep f qs) ≤ length qs
-keep-length f [] = omega arith
-keep-length f (q ∷ qs) = go (f q) (keep-length f qs)
-  where
-    go : (b : Bool) → length (keep f qs) ≤ length qs → length (cond b (q ∷ keep f qs) (keep f qs)) ≤ suc (length qs)
-    go true ih = omega arith
-    go false ih = omega arith
 
 -- another cell or none makes no number free
 fill-used : (ps : List Place) (x : Option Cell) (es : List Entry) → inUse (fill ps x es) ≡ inUse es
@@ -276,10 +261,15 @@ module _ (s : State) (v : Valid s) (n : ℕ) (p : Place) (x : Cell) (r : Refinab
   effect-takes : (1 ≤ length (missing s (placeAt (s .entries) n))) × (length (missing s (placeAt (s .entries) n)) ≤ 9) × (inUse (effect s (refine n) .entries) ≡ inUse (s .entries) + length (missing s (placeAt (s .entries) n)))
   unfolding missing
   effect-takes = rw (effect-is, r .stood) (
-    keep-some (λ q. eqb (number (s .entries) q) 0) (wanted g p) (kid NE p) (kid-wanted g p (kid NE p) (kid-in NE p)) (is-yes _ (eq-eqb _ _ middle-missing)),
+    in-length (kid NE p) (missing s p) (in-keep (λ q. eqb (number (s .entries) q) 0) (wanted g p) (kid NE p) (kid-wanted g p (kid NE p) (kid-in NE p)) (is-yes _ (eq-eqb _ _ middle-missing))),
     at-most-nine,
     fill-used (kids p) (some (kidCell x)) (given .entries) ∙ have .used-more,
   )
+
+  effect-turn : (xs ys : List Place) (q : Place) → wanted g p ≡ xs ++ q ∷ ys → number (s .entries) q ≡ 0 → Next (give s xs) × (number (effect s (refine n) .entries) q ≡ nextFree (give s xs))
+  effect-turn xs ys q e z =
+      let (next, is) = give-turn xs ys q (rw e at (wanted-distinct g p)) s (valid-numbered v) (rw e at (r .room)) z in
+      (next, rw effect-is (fill-number (kids p) (some (kidCell x)) (given .entries) q ∙ ap (λ (l : List Place). number (give s l .entries) q) e ∙ is))
 
   effect-frame : (effect s (refine n) .header ≡ s .header) × (length (effect s (refine n) .entries) ≡ length (s .entries))
   effect-frame = rw effect-is (refl, fill-length (kids p) (some (kidCell x)) (given .entries) ∙ have .long-same)
@@ -304,6 +294,10 @@ module _ (s : State) (v : Valid s) (n : ℕ) (ok : refusal (checks s (refine n))
   -- a patch that stays keeps its number
   pub refine-number : (q : Place) → number (s .entries) q ≢ 0 → number (effect s (refine n) .entries) q ≡ number (s .entries) q
   refine-number q h = let (p, x, r) = refinable s v n ok in effect-number s v n p x r q h
+
+  -- "each new patch takes the smallest free number", in the order of `wanted`: at its turn, when the places before it have theirs
+  pub refine-turn : (xs ys : List Place) (q : Place) → wanted (gridOf s) (placeAt (s .entries) n) ≡ xs ++ q ∷ ys → number (s .entries) q ≡ 0 → Next (give s xs) × (number (effect s (refine n) .entries) q ≡ nextFree (give s xs))
+  refine-turn xs ys q e z = let (p, x, r) = refinable s v n ok in effect-turn s v n p x r xs ys q (rw (r .stood) at e) z
 
   -- one to nine new patches, each under a number that was free
   pub refine-takes : (1 ≤ length (missing s (placeAt (s .entries) n))) × (length (missing s (placeAt (s .entries) n)) ≤ 9) × (inUse (effect s (refine n) .entries) ≡ inUse (s .entries) + length (missing s (placeAt (s .entries) n)))

@@ -3,7 +3,7 @@
 -- Assumes nothing.
 use Prim.Native.Nat.{ℕ, zero, suc, _+_, _-_, _%_, _≤_, _<_}
 use native.Mathlib.Omega.{arith}
-use native.Mathlib.Decide.{ℕ-discrete, decLt, decLe}
+use native.Mathlib.Decide.{ℕ-discrete, decLt}
 use mathlib.Core.Path.{_≡_, refl, sym, ap, _∙_}
 use mathlib.Core.Logic.{_≢_}
 use mathlib.Core.Bool.{Bool, true, false, cond}
@@ -22,8 +22,8 @@ use Rattle.table.specs.Words.{linkOf, depthOf}
 use Rattle.table.specs.Worked.{kidWord, sideOf}
 use Rattle.geometry.proofs.Kids.{parent-up, no-parent, parent-kid}
 use Rattle.geometry.proofs.Digits.{kidBy, colMoved, rowMoved, stays, step-digits}
-use Rattle.geometry.proofs.Near.{touched-corner, corner-depth}
-use Rattle.geometry.proofs.Tree.{patch-touched, corner-patch, patch-parent}
+use Rattle.geometry.proofs.Near.{touched-corner}
+use Rattle.geometry.proofs.Tree.{corner-patch, patch-parent, patch-high}
 use Rattle.geometry.proofs.Base.{base-range, depth-zero-root}
 use Rattle.numbering.proofs.Numbers.{valid-numbered, number-place, place-number, numbered-not-zero}
 use Rattle.pictures.proofs.Links.{_of_, around-parent, around-kid, around-side, wind-lt}
@@ -32,14 +32,6 @@ use Rattle.pictures.proofs.Pictured.{link-word, link-number, nil-words,
 -- ---- where patches can stand
 
 module _ (g : Grid) (c : Place → Bool) (m : Mesh g c) where
-  -- a patch is a ghost, or lies as deep as a cell
-  pub patch-high : (p : Place) → T (patch g c p) → p .depth ≤ base g + 12
-  patch-high p t = go (decLe (base g) (p .depth))
-    where
-      go : Dec (base g ≤ p .depth) → p .depth ≤ base g + 12
-      go (yes h) = let (r, k, b) = touched-corner g c p (patch-touched g c p h t) in omega (arith, corner-depth k, m .high r b)
-      go (no h) = omega arith
-
   -- where a cell touches there is a patch
   pub touched-stands : (p : Place) → T (touched g c p) → T (patch g c p)
   touched-stands p t = let (r, k, b) = touched-corner g c p t in corner-patch g c (m .low r b) k b

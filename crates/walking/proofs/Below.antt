@@ -1,17 +1,15 @@
 -- The places under a place: those whose parent, so many times, it is. A patch has a patch at each place above it, and the root above all.
 -- Assumes nothing.
-use Prim.Native.Nat.{ℕ, zero, suc, _+_, _≤_}
+use Prim.Native.Nat.{ℕ, zero, suc, _+_}
 use native.Mathlib.Omega.{arith}
-use native.Mathlib.Decide.{decLe}
 use mathlib.Core.Path.{_≡_, refl, sym, ap, _∙_, subst}
 use mathlib.Core.Bool.{Bool}
 use mathlib.Core.Option.{some}
 use lib.Dec.{T}
-use Rattle.mesh.specs.Place.{Place, Grid, root, base, parent}
+use Rattle.mesh.specs.Place.{Place, Grid, root, parent}
 use Rattle.mesh.specs.Mesh.{Mesh, patch}
 use Rattle.geometry.proofs.Kids.{up, up-is, up-depth, parent-up, parent-depth}
-use Rattle.geometry.proofs.Near.{corner-depth, touched-corner}
-use Rattle.geometry.proofs.Tree.{patch-touched, patch-up}
+use Rattle.geometry.proofs.Tree.{patch-parent}
 use Rattle.geometry.proofs.Base.{Rectangle, depth-zero-root}
 
 -- the parent, so many times
@@ -57,19 +55,11 @@ below-one {p} {r} {q} {m} {n} e a b =
     sym (a .lies) ∙ ap (λ (i : ℕ). upBy i q) k ∙ b .lies
 
 module _ (g : Grid) (c : Place → Bool) (m : Mesh g c) where
-  -- "levels from 0 up to 12"
-  pub patch-depth : (q : Place) → T (patch g c q) → q .depth ≤ base g + 12
-  patch-depth q t = go (decLe (base g) (q .depth))
-    where
-      go : Dec (base g ≤ q .depth) → q .depth ≤ base g + 12
-      go (yes h) = let (r, k, u) = touched-corner g c q (patch-touched g c q h t) in omega (arith, corner-depth k, m .high r u)
-      go (no h) = omega arith
-
   pub patch-above : (k : ℕ) {p q : Place} → Below p k q → T (patch g c q) → T (patch g c p)
   patch-above zero {p} {q} b t = subst (λ (x : Place). T (patch g c x)) (below-same b) t
   patch-above (suc k) {p} {q} b t =
       let (r, e, a) = below-which b in
-      subst (λ (x : Place). T (patch g c x)) (up-is r p e) (patch-up g c m r (omega (arith, parent-depth r p e)) (patch-above k a t))
+      patch-parent g c m r p e (patch-above k a t)
 
   -- every patch lies under the root
   pub root-above : Rectangle g → (q : Place) → T (patch g c q) → Below root (q .depth) q

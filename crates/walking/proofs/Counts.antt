@@ -16,13 +16,13 @@ use Rattle.mesh.specs.State.{State, Entry, nil, placeOf, stands, entry, cells, 
 use Rattle.mesh.specs.Valid.{Valid}
 use Rattle.geometry.proofs.Lists.{any-map, count-map}
 use Rattle.geometry.proofs.Places.{In}
-use Rattle.geometry.proofs.Tree.{patch-touched, touched-patch}
+use Rattle.geometry.proofs.Counting.{count-one}
+use Rattle.geometry.proofs.Distinct.{Distinct, once-distinct, in-append, append-left, append-right, distinct-append, same-length}
+use Rattle.geometry.proofs.Tree.{patch-high, patch-touched, touched-patch}
 use Rattle.numbering.proofs.Entries.{stands-place, in-stands}
 use Rattle.numbering.proofs.Numbers.{Numbered, valid-numbered}
 use Rattle.walking.specs.Points.{somes, cornersOn, ghostsOn, total}
-use Rattle.walking.proofs.Counting.{count-one}
-use Rattle.walking.proofs.Below.{patch-depth}
-use Rattle.walking.proofs.Sets.{Distinct, same-length, in-append, append-in, distinct-append, stack, stack-length, in-stack, stack-in, stack-distinct, somes-any, somes-count, somes-length}
+use Rattle.walking.proofs.Sets.{stack, stack-length, in-stack, stack-in, stack-distinct, somes-any, somes-count, somes-length}
 use Rattle.walking.proofs.Points.{corners-distinct, ghosts-distinct, corners-touched, touched-corners, ghosts-patch, patch-ghosts}
 
 -- ---- the places of the entries
@@ -41,9 +41,9 @@ module _ (es : List Entry) where
 
   placed-distinct : Numbered es → Distinct (placed es)
   unfolding placed
-  placed-distinct u q =
+  placed-distinct u = once-distinct (somes (map placeOf es)) (λ q.
       rw (somes-count q (map placeOf es), count-map (λ o. orElse false (same q) o) placeOf es)
-      (count-one (stands q) nil es (λ i j l m a b. u .once i j q (stands-place q (entry es i) a) (stands-place q (entry es j) b)))
+      (count-one (stands q) nil es (λ i j l m a b. u .once i j q (stands-place q (entry es i) a) (stands-place q (entry es j) b))))
 
 -- ---- the places counted
 
@@ -88,15 +88,15 @@ module _ (g : Grid) (c : Place → Bool) where
 
     patch-counted : (q : Place) → T (patch g c q) → In q counted
     unfolding counted ghosts points
-    patch-counted q t = append-in q ghosts points (go (decLt (q .depth) (base g)))
+    patch-counted q t = go (decLt (q .depth) (base g))
       where
-        go : Dec (q .depth < base g) → In q ghosts ⊎ In q points
+        go : Dec (q .depth < base g) → In q (ghosts ++ points)
         go (yes h) =
             let n = base g - suc (q .depth) in
-            inl (stack-in (λ n. ghostsOn g c (suc n)) (base g) n q (omega arith) (patch-ghosts g c m (suc n) q (omega arith) t))
+            append-left q ghosts points (stack-in (λ n. ghostsOn g c (suc n)) (base g) n q (omega arith) (patch-ghosts g c m (suc n) q (omega arith) t))
         go (no h) =
             let k = q .depth - base g in
-            inr (stack-in (cornersOn g c) 13 k q (omega (arith, patch-depth g c m q t)) (touched-corners g c m k q (omega arith) (patch-touched g c q (omega arith) t)))
+            append-right q ghosts points (stack-in (cornersOn g c) 13 k q (omega (arith, patch-high g c m q t)) (touched-corners g c m k q (omega arith) (patch-touched g c q (omega arith) t)))
 
     counted-distinct : Distinct counted
     unfolding counted ghosts points

@@ -1,5 +1,4 @@
 -- The laws of walks and counts, bottom up.
-pub mod Counting
 pub mod Below
 pub mod Walks
 pub mod Orders

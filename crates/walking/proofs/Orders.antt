@@ -1,6 +1,6 @@
 -- A permutation of the words 1 to 4 names each kid once: it names all four, the four are different places, and there are only four names.
 -- Assumes nothing.
-use Prim.Native.Nat.{ℕ, zero, suc, _+_, _*_, _/_, _%_, _≤_, _<_}
+use Prim.Native.Nat.{ℕ, zero, suc, _+_, _*_, _%_, _≤_, _<_}
 use native.Mathlib.Omega.{arith}
 use mathlib.Core.Path.{_≡_, refl, sym, ap, _∙_, subst}
 use mathlib.Core.Bool.{Bool, true, false, _&&_, cond}
@@ -8,52 +8,42 @@ use mathlib.Core.List.{List, [], _∷_, map}
 use lib.Dec.{T, eqb, eqb→eq, eqb-refl}
 use lib.ListN.{length, length-map}
 use Rattle.mesh.specs.Tools.{any, count}
-use Rattle.mesh.specs.Place.{Place, Wind, NE, SE, SW, NW, compass, same, kid, kids}
+use Rattle.mesh.specs.Place.{Place, Wind, NE, SE, SW, NW, same, kid, kids}
 use Rattle.mesh.specs.Scan.{windOf, permutation}
 use Rattle.geometry.proofs.Bools.{yes-is, is-yes, and-left, and-right}
 use Rattle.geometry.proofs.Lists.{at-every, any-map, any-weaken}
 use Rattle.geometry.proofs.Places.{same-is, same-refl}
-use Rattle.geometry.proofs.Kids.{all-kids}
-use Rattle.walking.proofs.Counting.{count-some}
+use Rattle.geometry.proofs.Counting.{count-some}
+use Rattle.geometry.proofs.Kids.{all-kids, turn, turnOf, turn-kid}
 use Rattle.walking.proofs.Walks.{Order}
 
 -- ---- the four kids are different places
 
--- which kid of its parent a place is: the last digits of its column and its row
-digit : Place → ℕ
-digit x = 2 * (x .col % 2) + x .row % 2
-
-digit-of : (w : Wind) (p : Place) → compass w .east / 2 ≤ 1 → compass w .north / 2 ≤ 1 → digit (kid w p) ≡ 2 * (compass w .east / 2) + compass w .north / 2
-unfolding digit kid
-digit-of w p a b =
-    let e : 2 * ((2 * p .col + compass w .east / 2) % 2) + (2 * p .row + compass w .north / 2) % 2 ≡ 2 * (compass w .east / 2) + compass w .north / 2 = omega arith in
-    e
-
-digit-kid : (w : Wind) (p x : Place) → compass w .east / 2 ≤ 1 → compass w .north / 2 ≤ 1 → cond (same (kid w p) x) 1 0 ≤ cond (eqb (2 * (compass w .east / 2) + compass w .north / 2) (digit x)) 1 0
-digit-kid w p x a b = go (same (kid w p) x) refl
+turn-of : (w : Wind) (p x : Place) → cond (same (kid w p) x) 1 0 ≤ cond (eqb (turn w) (turnOf x)) 1 0
+turn-of w p x = go (same (kid w p) x) refl
   where
-    go : (t : Bool) → same (kid w p) x ≡ t → cond t 1 0 ≤ cond (eqb (2 * (compass w .east / 2) + compass w .north / 2) (digit x)) 1 0
+    go : (t : Bool) → same (kid w p) x ≡ t → cond t 1 0 ≤ cond (eqb (turn w) (turnOf x)) 1 0
     go true e =
-        let d : 2 * (compass w .east / 2) + compass w .north / 2 ≡ digit x = sym (digit-of w p a b) ∙ ap digit (same-is (kid w p) x (is-yes (same (kid w p) x) e)) in
-        rw (d, yes-is (eqb (digit x) (digit x)) (eqb-refl (digit x))) (omega arith)
+        let d : turn w ≡ turnOf x = sym (turn-kid w p) ∙ ap turnOf (same-is (kid w p) x (is-yes (same (kid w p) x) e)) in
+        rw (d, yes-is (eqb (turnOf x) (turnOf x)) (eqb-refl (turnOf x))) (omega arith)
     go false e = omega arith
 
-digit-le : (x : Place) → digit x ≤ 3
-unfolding digit
-digit-le x = let h : 2 * (x .col % 2) + x .row % 2 ≤ 3 = omega arith in h
+turn-le : (x : Place) → turnOf x ≤ 3
+unfolding turnOf
+turn-le x = let h : 2 * (x .col % 2) + x .row % 2 ≤ 3 = omega arith in h
 
-one-digit : (d : ℕ) → d ≤ 3 → cond (eqb 3 d) 1 0 + cond (eqb 2 d) 1 0 + cond (eqb 0 d) 1 0 + cond (eqb 1 d) 1 0 ≤ 1
-one-digit zero h = omega arith
-one-digit (suc zero) h = omega arith
-one-digit (suc (suc zero)) h = omega arith
-one-digit (suc (suc (suc zero))) h = omega arith
-one-digit (suc (suc (suc (suc d)))) h = absurd (omega arith)
+one-turn : (d : ℕ) → d ≤ 3 → cond (eqb 3 d) 1 0 + cond (eqb 2 d) 1 0 + cond (eqb 0 d) 1 0 + cond (eqb 1 d) 1 0 ≤ 1
+one-turn zero h = omega arith
+one-turn (suc zero) h = omega arith
+one-turn (suc (suc zero)) h = omega arith
+one-turn (suc (suc (suc zero))) h = omega arith
+one-turn (suc (suc (suc (suc d)))) h = absurd (omega arith)
 
 -- so no more of a list are kids than it is long
 four-kids : (p : Place) (xs : List Place) → count (same (kid NE p)) xs + count (same (kid SE p)) xs + count (same (kid SW p)) xs + count (same (kid NW p)) xs ≤ length xs
 four-kids p [] = omega arith
 four-kids p (x ∷ xs) =
-    omega (arith, four-kids p xs, one-digit (digit x) (digit-le x), digit-kid NE p x (omega arith) (omega arith), digit-kid SE p x (omega arith) (omega arith), digit-kid SW p x (omega arith) (omega arith), digit-kid NW p x (omega arith) (omega arith))
+    omega (arith, four-kids p xs, one-turn (turnOf x) (turn-le x), turn-of NE p x, turn-of SE p x, turn-of SW p x, turn-of NW p x)
 
 -- ---- permutations
 

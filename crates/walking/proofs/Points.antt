@@ -1,15 +1,14 @@
 -- The lists that are counted have the patches: the corner points of a level's cells are the places that are touched, and the parents of level
 -- 0's patches, their parents and so on are the ghosts.
 -- Assumes nothing.
-use Prim.Native.Nat.{ℕ, zero, suc, _+_, _*_, _/_, _^_, _<_}
-use native.Mathlib.Nat.{mul-add, two-pow-succ}
+use Prim.Native.Nat.{ℕ, zero, suc, _+_, _*_, _^_, _<_}
 use native.Mathlib.Omega.{arith}
 use native.Mathlib.Decide.{ℕ-discrete}
 use mathlib.Core.Path.{_≡_, sym, ap, _∙_}
 use mathlib.Core.Logic.{_⊎_, inl, inr}
 use mathlib.Core.Bool.{Bool, false}
 use mathlib.Core.Option.{Option, none, some}
-use mathlib.Core.List.{map}
+use mathlib.Core.List.{map, _++_}
 use lib.Dec.{T}
 use lib.ListN.{getD}
 use Rattle.mesh.specs.Tools.{flat, orElse}
@@ -17,12 +16,14 @@ use Rattle.mesh.specs.Place.{Place, Grid, at, same, base, parent}
 use Rattle.mesh.specs.Mesh.{Mesh, touched, patch}
 use Rattle.geometry.proofs.Lists.{any-at, any-hit, any-map}
 use Rattle.geometry.proofs.Places.{place-path, In, in-cases, in-here, in-there, any-in, in-any, same-is, same-refl}
-use Rattle.geometry.proofs.Kids.{up, up-depth, parent-depth}
+use Rattle.geometry.proofs.Counting.{any-parts, parts-any}
+use Rattle.geometry.proofs.Distinct.{Distinct, in-append, append-left, append-right, keep-in, in-keep}
+use Rattle.geometry.proofs.Kids.{parent-depth}
 use Rattle.geometry.proofs.Near.{Corner, c-here, c-east, c-north, c-both, corner-cast, corner-depth, touched-corner, corner-touched}
-use Rattle.geometry.proofs.Tree.{patch-touched, touched-patch, ghost-kid, kid-ghost, cell-up}
+use Rattle.geometry.proofs.Tree.{patch-touched, touched-patch, ghost-kid, kid-ghost}
+use Rattle.geometry.proofs.Base.{cell-on}
 use Rattle.walking.specs.Points.{line, box, somes, corners, cellsOn, cornersOn, ghostsOn}
-use Rattle.walking.proofs.Counting.{in-keep, keep-in, any-parts, parts-any}
-use Rattle.walking.proofs.Sets.{Distinct, distinct-distinct, in-append, append-in, in-distinct, distinct-in, somes-any}
+use Rattle.walking.proofs.Sets.{distinct-distinct, in-distinct, distinct-in, somes-any}
 
 -- ---- boxes
 
@@ -36,11 +37,11 @@ line-in e (suc w) j q a b l = go (ℕ-discrete (q .col) w) (line-in e w j q a b)
 
 pub box-in : (e w h : ℕ) (q : Place) → q .depth ≡ e → q .col < w → q .row < h → In q (box e w h)
 box-in e w zero q a l m = absurd (omega arith)
-box-in e w (suc h) q a l m = append-in q (line e w h) (box e w h) (go (ℕ-discrete (q .row) h) (box-in e w h q a l))
+box-in e w (suc h) q a l m = go (ℕ-discrete (q .row) h) (box-in e w h q a l)
   where
-    go : Dec (q .row ≡ h) → (q .row < h → In q (box e w h)) → In q (line e w h) ⊎ In q (box e w h)
-    go (yes b) ih = inl (line-in e w h q a b l)
-    go (no b) ih = inr (ih (omega arith))
+    go : Dec (q .row ≡ h) → (q .row < h → In q (box e w h)) → In q (line e w h ++ box e w h)
+    go (yes b) ih = append-left q (line e w h) (box e w h) (line-in e w h q a b l)
+    go (no b) ih = append-right q (line e w h) (box e w h) (ih (omega arith))
 
 line-depth : (e w j : ℕ) (q : Place) → In q (line e w j) → q .depth ≡ e
 line-depth e zero j q i = absurd i
@@ -91,27 +92,13 @@ module _ (g : Grid) (c : Place → Bool) where
 
 -- ---- the points of a level
 
--- the width of a level, one level up
-twice : (n k : ℕ) → n * 2 ^ suc k ≡ 2 * (n * 2 ^ k)
-twice n k = rw (two-pow-succ k) (let e : n * (2 ^ k + 2 ^ k) ≡ 2 * (n * 2 ^ k) = omega (arith, mul-add n (2 ^ k) (2 ^ k)) in e)
-
 module _ (g : Grid) (c : Place → Bool) (m : Mesh g c) where
-  -- the cells of a level lie in the rectangle
-  pub cell-inside : (k : ℕ) (r : Place) → T (c r) → r .depth ≡ base g + k → (r .col < g .columns * 2 ^ k) × (r .row < g .rows * 2 ^ k)
-  unfolding up
-  cell-inside zero r t e = let (x, y) = m .inside r t (omega arith) in (omega (arith, x), omega (arith, y))
-  cell-inside (suc k) r t e =
-      let (x, y) = cell-inside k (up r) (cell-up g c m r t (omega arith)) (omega (arith, up-depth r (omega arith))) in
-      let x′ : r .col / 2 < g .columns * 2 ^ k = x in
-      let y′ : r .row / 2 < g .rows * 2 ^ k = y in
-      (omega (arith, twice (g .columns) k), omega (arith, twice (g .rows) k))
-
   -- the corner points of the cells of level k are the places of that level that are touched
   pub corners-touched : (k : ℕ) (q : Place) → In q (cornersOn g c k) → (q .depth ≡ base g + k) × T (touched g c q)
   unfolding cornersOn cellsOn
   corners-touched k q i =
       let (r, j, h) = any-parts (same q) (corners g) (cellsOn g c k) (in-distinct q (flat (map (corners g) (cellsOn g c k))) i) in
-      let (l, t) = in-keep c r (box (base g + k) (g .columns * 2 ^ k) (g .rows * 2 ^ k)) j in
+      let (l, t) = keep-in c (box (base g + k) (g .columns * 2 ^ k) (g .rows * 2 ^ k)) r j in
       let n = in-corner g r q h in
       (corner-depth n ∙ box-depth (base g + k) (g .columns * 2 ^ k) (g .rows * 2 ^ k) r l, corner-touched g c n t)
 
@@ -120,9 +107,9 @@ module _ (g : Grid) (c : Place → Bool) (m : Mesh g c) where
   touched-corners k q e t =
       let (r, n, u) = touched-corner g c q t in
       let d : r .depth ≡ base g + k = sym (corner-depth n) ∙ e in
-      let (x, y) = cell-inside k r u d in
+      let (x, y) = cell-on g c m k r d u in
       distinct-in q (flat (map (corners g) (cellsOn g c k)))
-      (parts-any (same q) (corners g) r (cellsOn g c k) (keep-in c r (box (base g + k) (g .columns * 2 ^ k) (g .rows * 2 ^ k)) (box-in (base g + k) (g .columns * 2 ^ k) (g .rows * 2 ^ k) r d x y) u) (corner-in g n))
+      (parts-any (same q) (corners g) r (cellsOn g c k) (in-keep c (box (base g + k) (g .columns * 2 ^ k) (g .rows * 2 ^ k)) r (box-in (base g + k) (g .columns * 2 ^ k) (g .rows * 2 ^ k) r d x y) u) (corner-in g n))
 
   -- ---- the ghosts
 

@@ -18,11 +18,13 @@ use Rattle.mesh.specs.Scan.{standing, own, walk}
 use Rattle.geometry.proofs.Bools.{yes-is, is-yes, or-cases}
 use Rattle.geometry.proofs.Lists.{any-append}
 use Rattle.geometry.proofs.Places.{In, same-is, same-refl}
-use Rattle.geometry.proofs.Kids.{parent-kid, parent-depth}
+use Rattle.geometry.proofs.Counting.{count-append, count-none, count-keep, any-parts, count-parts}
+use Rattle.geometry.proofs.Distinct.{keep-in}
+use Rattle.geometry.proofs.Kids.{parent-depth, some-kid}
+use Rattle.geometry.proofs.Tree.{patch-high}
 use Rattle.numbering.proofs.Entries.{stands-in}
 use Rattle.numbering.proofs.Numbers.{Numbered, valid-numbered, number-place, place-number, numbered-not-zero}
-use Rattle.walking.proofs.Counting.{count-append, count-none, count-keep, in-keep, in-map, any-parts, count-parts}
-use Rattle.walking.proofs.Below.{Below, below-here, below-same, below-kid, below-which, below-one, patch-depth, patch-above, root-above}
+use Rattle.walking.proofs.Below.{Below, below-here, below-same, below-kid, below-which, below-one, patch-above, root-above}
 
 -- ---- orders
 
@@ -49,9 +51,8 @@ module _ (es : List Entry) (f : Place → Bool) (ws : List Wind) where
 
   pub standing-kid : (p r : Place) → In r (standing es ws p) → (number es r ≢ 0) × (parent r ≡ some p)
   standing-kid p r t =
-      let (i, h) = in-keep (λ q. not (eqb (number es q) 0)) r (map (λ w. kid w p) ws) t in
-      let (w, e) = in-map (λ w. kid w p) r ws i in
-      ((λ z. T-not (eqb (number es r) 0) h (rw z tt)), ap parent e ∙ parent-kid w p)
+      let (i, h) = keep-in (λ q. not (eqb (number es q) 0)) (map (λ w. kid w p) ws) r t in
+      ((λ z. T-not (eqb (number es r) 0) h (rw z tt)), some-kid p r ws i)
 
   own-met : (n : ℕ) (p : Place) (k : ℕ) → number es p ≢ 0 → T (any (eqb k) (own es f p)) → Met es f n p k
   own-met n p k h t = go (f p) refl
@@ -174,7 +175,7 @@ module _ (s : State) (v : Valid s) where
       here : (q : Place) (b : Bool) → placeOf (entry (s .entries) k) ≡ some q → f q ≡ b → count (eqb k) (walk (s .entries) f ws n root) ≡ cond b 1 0
       here q true e y =
           let t = v .each k q e in
-          let l = patch-depth (gridOf s) (cells (s .entries)) (v .mesh) q t in
+          let l = patch-high (gridOf s) (cells (s .entries)) (v .mesh) q t in
           rw (← place-number (s .entries) u k q e) (walk-once (s .entries) f ws ord q (is-yes (f q) y) (stands-above q t) n (q .depth) root (omega arith) (root-above (gridOf s) (cells (s .entries)) (v .mesh) (v .rectangle) q t))
       here q false e y =
           count-none (eqb k) (walk (s .entries) f ws n root) (λ t.

@@ -1,8 +1,8 @@
--- How often a test passes in a list: of lists put together, of the elements kept, and of lists of places.
+-- How often a test passes in a list: of lists put together, of the elements kept, and of a part for each place.
 -- Assumes nothing.
 use Prim.Native.Nat.{ℕ, suc, _+_, _≤_, _<_}
 use native.Mathlib.Omega.{arith}
-use mathlib.Core.Path.{_≡_, refl, sym, _∙_, subst}
+use mathlib.Core.Path.{_≡_, refl, _∙_, subst}
 use mathlib.Core.Logic.{_⊎_, inl, inr}
 use mathlib.Core.Bool.{Bool, true, false, _||_, cond}
 use mathlib.Core.List.{List, [], _∷_, _++_, map}
@@ -10,9 +10,9 @@ use lib.Dec.{T}
 use lib.ListN.{length, getD}
 use Rattle.mesh.specs.Tools.{any, keep, count, flat}
 use Rattle.mesh.specs.Place.{Place, same}
 use Rattle.geometry.proofs.Bools.{is-yes, or-left, or-right, or-cases}
 use Rattle.geometry.proofs.Lists.{any-append, any-hit}
-use Rattle.geometry.proofs.Places.{In, in-cases, in-here, in-there, same-is}
+use Rattle.geometry.proofs.Places.{In, in-cases, in-here, in-there}
 
 module _ {A : Type 0} (f : A → Bool) where
   -- ---- one list
@@ -37,13 +37,6 @@ module _ {A : Type 0} (f : A → Bool) where
       go true e ih = rw e (omega arith)
       go false e ih = let l = ih (rw e at t) in rw e (omega arith)
 
-  pub some-count : (xs : List A) → 0 < count f xs → T (any f xs)
-  some-count xs h = go (any f xs) refl
-    where
-      go : (b : Bool) → any f xs ≡ b → T b
-      go true e = tt
-      go false e = omega (arith, count-none xs (λ t. let z : T false = rw e at t in z))
-
   -- one place alone passes
   pub count-one : (d : A) (xs : List A) → ((i j : ℕ) → i < length xs → j < length xs → T (f (getD xs i d)) → T (f (getD xs j d)) → i ≡ j) → count f xs ≤ 1
   count-one d [] h = omega arith
@@ -67,34 +60,7 @@ module _ {A : Type 0} (f : A → Bool) where
       go false true y z ih = absurd (let t : T (h x) = w x (is-yes (f x) z) in let u : T false = rw y at t in u)
       go false false y z ih = rw (y, z) (omega arith)
 
-  pub keep-length : (xs : List A) → length (keep f xs) ≡ count f xs
-  keep-length [] = refl
-  keep-length (x ∷ xs) = go (f x) refl (keep-length xs)
-    where
-      go : (b : Bool) → f x ≡ b → length (keep f xs) ≡ count f xs → length (keep f (x ∷ xs)) ≡ cond (f x) 1 0 + count f xs
-      go true e ih = rw (e, ih) (omega arith)
-      go false e ih = rw (e, ih) (omega arith)
-
--- ---- which places a list made of another has
-
-pub in-keep : (f : Place → Bool) (q : Place) (ps : List Place) → In q (keep f ps) → In q ps × T (f q)
-in-keep f q [] t = absurd t
-in-keep f q (p ∷ ps) t = go (f p) refl (in-keep f q ps)
-  where
-    more : In q ps × T (f q) → In q (p ∷ ps) × T (f q)
-    more h = (in-there q p ps (h .0), h .1)
-
-    hit : f p ≡ true → (In q (keep f ps) → In q ps × T (f q)) → (q ≡ p) ⊎ In q (keep f ps) → In q (p ∷ ps) × T (f q)
-    hit e ih (inl h) = (in-here q p ps h, subst (λ (x : Place). T (f x)) (sym h) (is-yes (f p) e))
-    hit e ih (inr a) = more (ih a)
-
-    go : (b : Bool) → f p ≡ b → (In q (keep f ps) → In q ps × T (f q)) → In q (p ∷ ps) × T (f q)
-    go true e ih = hit e ih (in-cases q p (keep f ps) (rw e at t))
-    go false e ih = more (ih (rw e at t))
-
-pub keep-in : (f : Place → Bool) (q : Place) (ps : List Place) → In q ps → T (f q) → In q (keep f ps)
-keep-in f q ps i t =
-    some-count (same q) (keep f ps) (rw (count-keep (same q) f (λ x e. subst (λ (y : Place). T (f y)) (same-is q x e) t) ps) (count-some (same q) ps i))
+-- ---- a list that is mapped to places
 
 pub in-map : {A : Type 0} (h : A → Place) (q : Place) (xs : List A) → In q (map h xs) → (x : A) × (q ≡ h x)
 in-map h q [] t = absurd t
