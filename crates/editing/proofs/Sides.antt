@@ -1,0 +1,146 @@
+-- The words of a row's links, and the spots that a step to each of the four sides writes.
+-- Assumes nothing.
+use Prim.Native.Nat.{ℕ, zero, suc, _≤_, _<_}
+use native.Mathlib.Omega.{arith}
+use mathlib.Core.Path.{_≡_, refl, ap}
+use mathlib.Core.Logic.{_⊎_, inl, inr}
+use mathlib.Core.Option.{Option, none, some, Option·map, Option·some-injective}
+use mathlib.Core.List.{List, [], _∷_, map}
+use lib.Dec.{T}
+use lib.IntN.{ℤ}
+use lib.ListN.{getD}
+use Rattle.mesh.specs.Tools.{all, flat}
+use Rattle.mesh.specs.Place.{Place, Grid, at, before, toNorth, toEast, toSouth, toWest, step, kid, around, compass, sideWinds, Wind, NE, SE, SW, NW, N, E, S, W}
+use Rattle.mesh.specs.Winds.{wordOfWind}
+use Rattle.geometry.proofs.Bools.{and-left, and-right}
+use Rattle.geometry.proofs.Places.{before-is, mapped}
+use Rattle.geometry.proofs.Digits.{kidBy, aside}
+use Rattle.table.specs.Worked.{kidWord}
+use Rattle.editing.proofs.Spots.{Spot, Hit, hit-early, hit-later, hit-cases, Off}
+
+-- ---- the words 0 to 8
+
+-- the word of a kid by its digits
+pub around-kid-by : (g : Grid) (l m : ℕ) → l ≤ 1 → m ≤ 1 → (o : Option Place) → getD (around g o) (kidWord l m) none ≡ Option·map (kidBy l m) o
+unfolding around kid kidBy
+around-kid-by g zero zero a b o = refl
+around-kid-by g zero (suc zero) a b o = refl
+around-kid-by g (suc zero) zero a b o = refl
+around-kid-by g (suc zero) (suc zero) a b o = refl
+around-kid-by g zero (suc (suc m)) a b o = absurd (omega arith)
+around-kid-by g (suc zero) (suc (suc m)) a b o = absurd (omega arith)
+around-kid-by g (suc (suc l)) m a b o = absurd (omega arith)
+
+pub kid-word-lt : (l m : ℕ) → l ≤ 1 → m ≤ 1 → (1 ≤ kidWord l m) × (kidWord l m < 5)
+kid-word-lt zero zero a b = (omega arith, omega arith)
+kid-word-lt zero (suc zero) a b = (omega arith, omega arith)
+kid-word-lt (suc zero) zero a b = (omega arith, omega arith)
+kid-word-lt (suc zero) (suc zero) a b = (omega arith, omega arith)
+kid-word-lt zero (suc (suc m)) a b = absurd (omega arith)
+kid-word-lt (suc zero) (suc (suc m)) a b = absurd (omega arith)
+kid-word-lt (suc (suc l)) m a b = absurd (omega arith)
+
+pub side-word-lt : (w : Wind) → T (aside w) → (5 ≤ wordOfWind w) × (wordOfWind w < 9)
+side-word-lt N t = (omega arith, omega arith)
+side-word-lt E t = (omega arith, omega arith)
+side-word-lt S t = (omega arith, omega arith)
+side-word-lt W t = (omega arith, omega arith)
+side-word-lt NE t = absurd t
+side-word-lt SE t = absurd t
+side-word-lt SW t = absurd t
+side-word-lt NW t = absurd t
+
+-- a link's word is the parent's, a kid's or a side's
+pub data Link (v : ℕ) : Type 0 where
+  to-parent : v ≡ 0 → Link v
+  to-kid : (l m : ℕ) → l ≤ 1 → m ≤ 1 → v ≡ kidWord l m → Link v
+  to-side : (w : Wind) → T (aside w) → v ≡ wordOfWind w → Link v
+
+pub link-word : (v : ℕ) → v < 9 → Link v
+link-word zero l = to-parent refl
+link-word (suc zero) l = to-kid 1 1 (omega arith) (omega arith) refl
+link-word (suc (suc zero)) l = to-kid 1 0 (omega arith) (omega arith) refl
+link-word (suc (suc (suc zero))) l = to-kid 0 0 (omega arith) (omega arith) refl
+link-word (suc (suc (suc (suc zero)))) l = to-kid 0 1 (omega arith) (omega arith) refl
+link-word (suc (suc (suc (suc (suc zero))))) l = to-side N tt refl
+link-word (suc (suc (suc (suc (suc (suc zero)))))) l = to-side E tt refl
+link-word (suc (suc (suc (suc (suc (suc (suc zero))))))) l = to-side S tt refl
+link-word (suc (suc (suc (suc (suc (suc (suc (suc zero)))))))) l = to-side W tt refl
+link-word (suc (suc (suc (suc (suc (suc (suc (suc (suc v))))))))) l = absurd (omega arith)
+
+-- ---- sides
+
+-- a step leads elsewhere
+pub step-other : (g : Grid) (w : Wind) → T (aside w) → (p : Place) → step g w p ≡ some p → ⊥
+unfolding step toNorth toEast toSouth toWest
+step-other g N t p e = let h : suc (p .row) ≡ p .row = ap (λ (x : Place). x .row) (Option·some-injective _ _ e) in omega arith
+step-other g E t p e = let h : suc (p .col) ≡ p .col = ap (λ (x : Place). x .col) (Option·some-injective _ _ e) in omega arith
+step-other g S t p e =
+    let (j, b, f) = mapped (λ j. at (p .depth) (p .col) j) p (before (p .row)) e in
+    let h : j ≡ p .row = ap (λ (x : Place). x .row) f in
+    omega (arith, before-is (p .row) j b)
+step-other g W t p e =
+    let (i, b, f) = mapped (λ i. at (p .depth) i (p .row)) p (before (p .col)) e in
+    let h : i ≡ p .col = ap (λ (x : Place). x .col) f in
+    omega (arith, before-is (p .col) i b)
+step-other g NE t p e = absurd t
+step-other g SE t p e = absurd t
+step-other g SW t p e = absurd t
+step-other g NW t p e = absurd t
+
+pub opposite-twice : (w : Wind) → compass (compass w .opposite) .opposite ≡ w
+opposite-twice NE = refl
+opposite-twice SE = refl
+opposite-twice SW = refl
+opposite-twice NW = refl
+opposite-twice N = refl
+opposite-twice E = refl
+opposite-twice S = refl
+opposite-twice W = refl
+
+pub opposite-aside : (w : Wind) → T (aside w) → T (aside (compass w .opposite))
+opposite-aside N t = tt
+opposite-aside E t = tt
+opposite-aside S t = tt
+opposite-aside W t = tt
+opposite-aside NE t = absurd t
+opposite-aside SE t = absurd t
+opposite-aside SW t = absurd t
+opposite-aside NW t = absurd t
+
+-- ---- spots of the four sides
+
+pub hit-side : (h : Wind → List Spot) (n v : ℕ) (w : Wind) → T (aside w) → Hit n v (h w) → Hit n v (flat (map h sideWinds))
+hit-side h n v w t i = go w t i
+  where
+    rest : List Wind → List Spot
+    rest ws = flat (map h ws)
+
+    go : (w : Wind) → T (aside w) → Hit n v (h w) → Hit n v (rest sideWinds)
+    go N t i = hit-early n v (h N) (rest (E ∷ S ∷ W ∷ [])) i
+    go E t i = hit-later n v (h N) (rest (E ∷ S ∷ W ∷ [])) (hit-early n v (h E) (rest (S ∷ W ∷ [])) i)
+    go S t i = hit-later n v (h N) (rest (E ∷ S ∷ W ∷ [])) (hit-later n v (h E) (rest (S ∷ W ∷ [])) (hit-early n v (h S) (rest (W ∷ [])) i))
+    go W t i = hit-later n v (h N) (rest (E ∷ S ∷ W ∷ [])) (hit-later n v (h E) (rest (S ∷ W ∷ [])) (hit-later n v (h S) (rest (W ∷ [])) (hit-early n v (h W) [] i)))
+    go NE t i = absurd t
+    go SE t i = absurd t
+    go SW t i = absurd t
+    go NW t i = absurd t
+
+pub side-hit : (h : Wind → List Spot) (n v : ℕ) (ws : List Wind) → T (all aside ws) → Hit n v (flat (map h ws)) → (w : Wind) × T (aside w) × Hit n v (h w)
+side-hit h n v [] t i = absurd i
+side-hit h n v (w ∷ ws) t i = go (hit-cases n v (h w) (flat (map h ws)) i) (side-hit h n v ws (and-right (aside w) (all aside ws) t))
+  where
+    go : Hit n v (h w) ⊎ Hit n v (flat (map h ws)) → (Hit n v (flat (map h ws)) → (w : Wind) × T (aside w) × Hit n v (h w)) → (w : Wind) × T (aside w) × Hit n v (h w)
+    go (inl a) r = (w, and-left (aside w) (all aside ws) t, a)
+    go (inr a) r = r a
+
+-- a write for each of some sides, one after the other
+abbrev pub turn : (List ℤ → Wind → List ℤ) → List ℤ → List Wind → List ℤ
+turn h t [] = t
+turn h t (w ∷ ws) = turn h (h t w) ws
+
+pub turned : {u : List ℤ} (h : List ℤ → Wind → List ℤ) (ss : Wind → List Spot)
+    → ((w : Wind) (ws : List Wind) → T (all aside (w ∷ ws)) → (t : List ℤ) → Off t u (flat (map ss (w ∷ ws))) → Off (h t w) u (flat (map ss ws)))
+    → (ws : List Wind) → T (all aside ws) → (t : List ℤ) → Off t u (flat (map ss ws)) → Off (turn h t ws) u []
+turned h ss one [] sides t off = off
+turned h ss one (w ∷ ws) sides t off = turned h ss one ws (and-right (aside w) (all aside ws) sides) (h t w) (one w ws sides t off)
