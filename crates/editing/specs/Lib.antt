@@ -3,3 +3,4 @@ pub mod Linked
 pub mod Steps
 pub mod Anew
 pub mod Tables
+pub mod Built

@@ -1,0 +1,77 @@
+-- The table of a build as the code makes it: every row free, then the root, and then patch after patch linked in, level by level; at last the
+-- cells of level 0 and the flags of its rows.
+-- Assumes nothing.
+use Prim.Native.Nat.{ℕ, zero, suc, _+_, _-_, _*_, _^_}
+use mathlib.Core.Bool.{Bool, _&&_, cond}
+use mathlib.Core.List.{List, [], _∷_, _++_}
+use lib.Dec.{leb, ltb}
+use lib.ListN.{set, replicate}
+use lib.IntN.{ℤ, pos, subℕ}
+use Rattle.mesh.specs.Tools.{flat}
+use Rattle.mesh.specs.Place.{Grid}
+use Rattle.mesh.specs.Picture.{rowWords}
+use Rattle.table.specs.Words.{wordOf}
+use Rattle.table.specs.Writes.{freeRow, nilRow}
+use Rattle.editing.specs.Steps.{putWord, linkIn}
+use Rattle.editing.specs.Anew.{refreshed}
+
+-- a table, and the next number
+pub record Growth : Type 0 where
+  pub words : List ℤ
+  pub next : ℕ
+
+-- row 0, and so many free rows
+unfoldable pub emptyTable : ℕ → List ℤ
+emptyTable cap = nilRow ++ flat (replicate cap freeRow)
+
+-- the root under number 1
+unfoldable pub rootTable : ℕ → ℕ → List ℤ
+rootTable cap d = putWord (set (emptyTable cap) (1 * rowWords + 9) (subℕ 0 d)) 1 12 0
+
+-- a patch of the full rectangle, so many levels below level 0
+abbrev pub inFull : Grid → ℕ → ℕ → ℕ → Bool
+inFull g up i j = leb (i * 2 ^ up) (g .columns) && leb (j * 2 ^ up) (g .rows)
+
+module _ (g : Grid) (cap d : ℕ) where
+  -- the kid of the row p with the digits l and m, where the rectangle has it
+  unfoldable pub grow : ℕ → ℕ → ℕ → ℕ → Growth → Growth
+  grow up p l m r =
+      let t = r .words in
+      cond (inFull g up (2 * wordOf t p 10 + l) (2 * wordOf t p 11 + m)) (record { words = linkIn t cap d p l m (r .next); next = r .next + 1 }) r
+
+  -- "kids in the order SW, NW, SE, NE"
+  unfoldable pub growKids : ℕ → ℕ → Growth → Growth
+  growKids up p r = grow up p 1 1 (grow up p 1 0 (grow up p 0 1 (grow up p 0 0 r)))
+
+  -- "by parents in their own order": n of them from p on
+  unfoldable pub growLevel : ℕ → ℕ → ℕ → Growth → Growth
+  growLevel up zero p r = r
+  growLevel up (suc n) p r = growLevel up n (p + 1) (growKids up p r)
+
+  -- "level by level from the root": so many levels more, the last of them the rows from p up to the next number
+  unfoldable pub growLevels : ℕ → ℕ → Growth → Growth
+  growLevels zero p r = r
+  growLevels (suc up) p r = growLevels up (r .next) (growLevel up (r .next - p) p r)
+
+  -- the first number of the last level
+  unfoldable pub groundFrom : ℕ → ℕ → Growth → ℕ
+  groundFrom zero p r = p
+  groundFrom (suc up) p r = groundFrom up (r .next) (growLevel up (r .next - p) p r)
+
+  -- a level-0 row of the rectangle is a cell: n rows from p on
+  unfoldable pub putGround : ℕ → ℕ → List ℤ → List ℤ
+  putGround zero p t = t
+  putGround (suc n) p t = putGround n (p + 1) (cond (ltb (wordOf t p 10) (g .columns) && ltb (wordOf t p 11) (g .rows)) (putWord t p 12 1) t)
+
+  unfoldable pub refreshRows : ℕ → ℕ → List ℤ → List ℤ
+  refreshRows zero p t = t
+  refreshRows (suc n) p t = refreshRows n (p + 1) (refreshed t cap d p)
+
+  unfoldable pub start : Growth
+  start = record { words = rootTable cap d; next = 2 }
+
+  unfoldable pub buildTable : List ℤ
+  buildTable =
+      let r = growLevels d 1 start in
+      let a = groundFrom d 1 start in
+      refreshRows (r .next - a) a (putGround (r .next - a) a (r .words))
