@@ -16,7 +16,7 @@ use Rattle.walking.proofs.Counts.{in-use-counts}
 use Rattle.laws.specs.Deeds.{Deed, setRules, after, deeds}
 use Rattle.laws.specs.Demand.{Demand3}
 use Rattle.laws.proofs.Refusals.{unless-accepted, unless-why}
-use Rattle.laws.proofs.Lookups.{lookup-leaf, lookup-none}
+use Rattle.walking.proofs.Lookups.{lookup-leaf, lookup-none}
 use Rattle.laws.proofs.Tapes.{Led, tapes-led}
 use Rattle.laws.proofs.Calls.{Buildable, build-checked, build-valid, afterCalls, calls-picture}
 

@@ -1,5 +1,4 @@
 -- The laws of demand 3, and of refusals.
-pub mod Lookups
 pub mod Prefixes
 pub mod Refusals
 pub mod Requests

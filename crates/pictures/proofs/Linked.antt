@@ -82,7 +82,7 @@ module _ (s : State) (v : Valid s) where
   link-nil w l = link-word s 0 w l ∙ nil-words s 0 w (v .zeroth) (omega arith)
 
   -- the kids of a place that may be missing or have no number: then they have none either
-  link-kid : (w : Wind) → T (w of kidWinds) → (o : Option Place) → linkOf (table s) (capacity s) (numberOf es o) (wordOfWind w) ≡ numberOf es (Option·map (kid w) o)
+  pub link-kid : (w : Wind) → T (w of kidWinds) → (o : Option Place) → linkOf (table s) (capacity s) (numberOf es o) (wordOfWind w) ≡ numberOf es (Option·map (kid w) o)
   link-kid w t none = link-nil (wordOfWind w) (wind-lt w)
   link-kid w t (some p) = go (ℕ-discrete (number es p) 0) (ℕ-discrete (number es (kid w p)) 0)
     where

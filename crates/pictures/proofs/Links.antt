@@ -79,12 +79,12 @@ around-side g S t o = refl
 around-side g W t o = refl
 
 -- around no place there is none
-around-none : (g : Grid) (w : ℕ) → getD (around g none) w none ≡ none
+pub around-none : (g : Grid) (w : ℕ) → getD (around g none) w none ≡ none
 unfolding around
 around-none g w = getD-repeated none 9 w
 
 -- a kid's wind is one of the kids'
-kid-of : (q p : Place) → parent q ≡ some p → (w : Wind) × T (w of kidWinds) × (kid w p ≡ q)
+pub kid-of : (q p : Place) → parent q ≡ some p → (w : Wind) × T (w of kidWinds) × (kid w p ≡ q)
 unfolding kids
 kid-of q p e =
     let (k, l, h) = any-hit (λ w. same q (kid w p)) NE kidWinds (rw any-map at (parent-in q p e)) in

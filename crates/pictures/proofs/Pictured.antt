@@ -1,7 +1,7 @@
 -- What the words of a row say where the table is a state's picture: a link is the number of the place around the row's own that the word is for,
 -- and the fields are the place's, the flags' and the value's.
 -- Assumes nothing.
-use Prim.Native.Nat.{ℕ, zero, suc, _+_, _-_, _/_, _%_, _^_, _≤_, _<_}
+use Prim.Native.Nat.{ℕ, zero, suc, _+_, _-_, _*_, _/_, _%_, _^_, _≤_, _<_}
 use native.Mathlib.Nat.{pow-zero, pow-succ', div-one, zero-div, div-div-eq-div-mul}
 use native.Mathlib.Omega.{arith}
 use native.Mathlib.Decide.{ℕ-discrete, decLt}
@@ -131,9 +131,14 @@ module _ (s : State) where
     unfolding rowOf around fields
     word-flags = patch-word 12 (lit< tt)
 
-    word-level : wordOf (table s) n 9 ≡ code (level g p)
+    -- the level's word itself
+    pub level-word : getD (table s) (n * rowWords + 9) (pos 0) ≡ level g p
     unfolding rowOf around fields
-    word-level = patch-word 9 (lit< tt)
+    level-word = table-word s n 9 (lit< tt) ∙ ap (λ (e : Entry). getD (rowOf g es e) 9 (pos 0)) (place-used (entry es n) p h)
+
+    word-level : wordOf (table s) n 9 ≡ code (level g p)
+    unfolding wordOf
+    word-level = ap code level-word
 
     pub depth-within : base g ≤ 6 → p .depth ≤ base g + 12 → depthOf (table s) (base g) n ≡ p .depth
     unfolding depthOf level

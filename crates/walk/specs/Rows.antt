@@ -12,6 +12,10 @@ use Rattle.mesh.specs.Picture.{rowWords}
 use Rattle.table.specs.Words.{linkOf, flagOf, depthOf}
 use Rattle.table.specs.Worked.{kidWord}
 
+-- the word of a kid: NE 1, SE 2, SW 3, NW 4
+abbrev pub kidsWord : ℕ → Bool
+kidsWord w = leb 1 w && leb w 4
+
 module _ (t : List ℤ) (cap d : ℕ) where
   -- a cell has kids exactly if its NE kid word is not 0
   unfoldable pub leafRow : ℕ → Bool
@@ -30,6 +34,10 @@ module _ (t : List ℤ) (cap d : ℕ) where
   -- "for levels from-level to to-level": the row's level is not below from
   unfoldable pub fromLevel : ℤ → ℕ → Bool
   fromLevel from n = leZ from (getD t (n * rowWords + 9) (pos 0))
+
+  -- what a scan of the kind k lists from the level from on
+  abbrev pub scans : ℤ → ℕ → ℕ → Bool
+  scans from k n = fromLevel from n && listedRow k n
 
   -- the rows from n on that f lists, so many levels down, each before its kids, kids by their words in the given order
   unfoldable pub rowWalk : (ℕ → Bool) → List ℕ → ℕ → ℕ → List ℕ

@@ -6,3 +6,6 @@ pub mod Scans
 pub mod Sets
 pub mod Points
 pub mod Counts
+pub mod Lookups
+pub mod Rowing
+pub mod Finding

@@ -1,0 +1,144 @@
+-- A walk over rows and a way down them, as the code meets their cases: row 0, no level left, and one level less left.
+-- Assumes nothing.
+use Prim.Native.Nat.{ℕ, zero, suc, _+_, _-_, _*_, _/_, _%_, _^_, _≤_, _<_}
+use native.Mathlib.Nat.{one-mul, one-le-pow, div-eq-of-lt, div-lt-iff-lt-mul}
+use native.Mathlib.Omega.{arith}
+use native.Mathlib.Decide.{decLt}
+use native.Mathlib.Numerals.{add-one}
+use mathlib.Core.Path.{_≡_, refl, sym, ap, _∙_}
+use mathlib.Core.Logic.{_≢_}
+use mathlib.Core.Bool.{Bool, true, false, _&&_, cond}
+use mathlib.Core.List.{List, [], _∷_, _++_, map, append-nil, append-assoc}
+use lib.Dec.{T, leb, ltb, leb→le}
+use lib.IntN.{ℤ, pos}
+use lib.ListN.{length, getD, take}
+use lib.Seq.{take-all}
+use lib.Signed.{leZ}
+use borrow.Author.Tests.{eq-eqb, ne-eqb, lt-ltb, le-ltb}
+use Rattle.mesh.specs.Tools.{all, flat}
+use Rattle.mesh.specs.Picture.{rowWords}
+use Rattle.table.specs.Words.{linkOf}
+use Rattle.table.specs.Worked.{kidWord}
+use Rattle.geometry.proofs.Bools.{and-right}
+use Rattle.geometry.proofs.Lists.{all-at}
+use Rattle.walk.specs.Rows.{kidsWord, leafRow, fromLevel, scans, rowWalk, rowFind, rowLookup}
+
+-- ---- tests
+
+pub both : {a b x y : Bool} → a ≡ x → b ≡ y → (a && b) ≡ (x && y)
+both e h = rw (e, h)
+
+pub level-test : (t : List ℤ) (cap d n : ℕ) {a z x : ℤ} → a ≡ z → x ≡ getD t (n * rowWords + 9) (pos 0) → leZ a x ≡ fromLevel t cap d z n
+unfolding fromLevel
+level-test t cap d n h e = rw (h, e)
+
+-- ---- words
+
+pub word-small : (o : List ℕ) → T (all kidsWord o) → (q : ℕ) → q < length o → getD o q 0 ≤ 4
+word-small o t q l = leb→le (getD o q 0) 4 (and-right (leb 1 (getD o q 0)) (leb (getD o q 0) 4) (all-at kidsWord 0 o t q l))
+
+-- ---- parts, one for each element
+
+module _ (part : ℕ → List ℕ) where
+  abbrev pub parts : List ℕ → ℕ → List ℕ
+  parts o q = flat (map part (take q o))
+
+  one-more : (o : List ℕ) (q : ℕ) → q < length o → parts o q ++ part (getD o q 0) ≡ parts o (suc q)
+  one-more [] q l = absurd (omega arith)
+  one-more (w ∷ o) zero l = sym (append-nil (part w))
+  one-more (w ∷ o) (suc q) l = append-assoc (part w) (parts o q) (part (getD o q 0)) ∙ ap (λ (xs : List ℕ). part w ++ xs) (one-more o q (omega arith))
+
+  pub parts-more : (o : List ℕ) (q : ℕ) → q < length o → parts o q ++ part (getD o q 0) ≡ parts o (q + 1)
+  parts-more o q l = rw add-one (one-more o q l)
+
+  pub parts-all : (o : List ℕ) (q : ℕ) → length o ≤ q → parts o q ≡ flat (map part o)
+  parts-all o q l = ap (λ (xs : List ℕ). flat (map part xs)) (take-all q o l)
+
+-- ---- walks
+
+module _ (t : List ℤ) (cap d : ℕ) (f : ℕ → Bool) (o : List ℕ) where
+  -- the part of the kid of a word
+  abbrev pub kidPart : ℕ → ℕ → ℕ → List ℕ
+  kidPart l n w = rowWalk t cap d f o (l - 1) (linkOf t cap n w)
+
+  pub walk-none : (l n : ℕ) → n ≡ 0 → [] ≡ rowWalk t cap d f o l n
+  unfolding rowWalk
+  walk-none zero n e = rw (eq-eqb n 0 e)
+  walk-none (suc l) n e = rw (eq-eqb n 0 e)
+
+  -- b is whether n itself is listed
+  pub walk-last : (l n : ℕ) {b : Bool} → b ≡ f n → n ≢ 0 → l ≡ 0 → cond b (n ∷ []) [] ≡ rowWalk t cap d f o l n
+  unfolding rowWalk
+  walk-last l n h z e = rw (e, ne-eqb n 0 z, h)
+
+  pub walk-on : (l n : ℕ) {b : Bool} → b ≡ f n → n ≢ 0 → l ≢ 0 → cond b (n ∷ []) [] ++ flat (map (kidPart l n) o) ≡ rowWalk t cap d f o l n
+  unfolding rowWalk
+  walk-on l n h z e = rw h (go l refl)
+    where
+      go : (k : ℕ) → l ≡ k → cond (f n) (n ∷ []) [] ++ flat (map (kidPart k n) o) ≡ rowWalk t cap d f o k n
+      go zero h = absurd (e h)
+      go (suc k) h =
+          let p : suc k - 1 ≡ k = omega arith in
+          rw (ne-eqb n 0 z) (ap (λ (m : ℕ). cond (f n) (n ∷ []) [] ++ flat (map (λ w. rowWalk t cap d f o m (linkOf t cap n w)) o)) p)
+
+  -- one kid more
+  pub kid-more : (l n q k : ℕ) → q < length o → k ≡ linkOf t cap n (getD o q 0) → parts (kidPart l n) o q ++ rowWalk t cap d f o (l - 1) k ≡ parts (kidPart l n) o (q + 1)
+  kid-more l n q k h e = rw e (parts-more (kidPart l n) o q h)
+
+-- a scan from an equal level
+pub same-level : (t : List ℤ) (cap d kind : ℕ) (o : List ℕ) (l n : ℕ) {a z : ℤ} → a ≡ z → rowWalk t cap d (scans t cap d a kind) o l n ≡ rowWalk t cap d (scans t cap d z kind) o l n
+same-level t cap d kind o l n e = ap (λ z. rowWalk t cap d (scans t cap d z kind) o l n) e
+
+-- ---- the way down to a leaf
+
+module _ (t : List ℤ) (cap d u v : ℕ) where
+  pub find-leaf : (l n : ℕ) → leafRow t cap d n ≡ true → n ≡ rowFind t cap d u v l n
+  unfolding rowFind
+  find-leaf zero n e = rw e
+  find-leaf (suc l) n e = rw e
+
+  pub find-nil : (l n : ℕ) → leafRow t cap d n ≡ false → n ≡ 0 → 0 ≡ rowFind t cap d u v l n
+  unfolding rowFind
+  find-nil zero n e z = rw e
+  find-nil (suc l) n e z = rw (e, eq-eqb n 0 z)
+
+  pub find-last : (l n : ℕ) → leafRow t cap d n ≡ false → l ≡ 0 → 0 ≡ rowFind t cap d u v l n
+  unfolding rowFind
+  find-last l n e z = rw (z, e)
+
+  pub find-on : (l n k r : ℕ) → leafRow t cap d n ≡ false → n ≢ 0 → l ≢ 0
+      → k ≡ linkOf t cap n (kidWord (u / 2 ^ (l - 1) % 2) (v / 2 ^ (l - 1) % 2)) → r ≡ rowFind t cap d u v (l - 1) k → r ≡ rowFind t cap d u v l n
+  unfolding rowFind
+  find-on l n k r e z y h i = go l refl (i ∙ ap (rowFind t cap d u v (l - 1)) h)
+    where
+      go : (m : ℕ) → l ≡ m → r ≡ rowFind t cap d u v (m - 1) (linkOf t cap n (kidWord (u / 2 ^ (m - 1) % 2) (v / 2 ^ (m - 1) % 2))) → r ≡ rowFind t cap d u v m n
+      go zero p j = absurd (y p)
+      go (suc m) p j = let q : suc m - 1 ≡ m = omega arith in rw (e, ne-eqb n 0 z) (rw q at j)
+
+-- ---- from the root
+
+-- a number is below a power of 2 exactly if nothing is left of it after so many digits
+pub no-digits : (k x : ℕ) → x / 2 ^ k ≡ 0 → ltb x (2 ^ k) ≡ true
+no-digits k x e =
+    let h : x < 1 * 2 ^ k = div-lt-iff-lt-mul (one-le-pow k 2 (omega arith)) .0 (omega arith) in
+    lt-ltb x (2 ^ k) (rw one-mul at h)
+
+more-digits : (k x : ℕ) → x / 2 ^ k ≢ 0 → ltb x (2 ^ k) ≡ false
+more-digits k x e = go (decLt x (2 ^ k))
+  where
+    go : Dec (x < 2 ^ k) → ltb x (2 ^ k) ≡ false
+    go (yes h) = absurd (e (div-eq-of-lt h))
+    go (no h) = le-ltb x (2 ^ k) (omega (arith, h))
+
+module _ (t : List ℤ) (cap d u v : ℕ) where
+  pub lookup-east : u / 2 ^ (d + 12) ≢ 0 → 0 ≡ rowLookup t cap d u v
+  unfolding rowLookup
+  lookup-east e = rw (more-digits (d + 12) u e)
+
+  pub lookup-north : u / 2 ^ (d + 12) ≡ 0 → v / 2 ^ (d + 12) ≢ 0 → 0 ≡ rowLookup t cap d u v
+  unfolding rowLookup
+  lookup-north e h = rw (no-digits (d + 12) u e, more-digits (d + 12) v h)
+
+  pub lookup-inside : {r : ℕ} → u / 2 ^ (d + 12) ≡ 0 → v / 2 ^ (d + 12) ≡ 0 → r ≡ rowFind t cap d u v (d + 12) 1 → r ≡ rowLookup t cap d u v
+  unfolding rowLookup
+  lookup-inside e h i = rw (no-digits (d + 12) u e, no-digits (d + 12) v h) i

@@ -1,0 +1,168 @@
+-- Lookups in the picture of a valid state: the digits of a point lead from the root down the places that hold it, and the first leaf among them is
+-- the one leaf that holds the point. Where no patch stands any more none does.
+-- Assumes nothing.
+use Prim.Native.Nat.{ℕ, zero, suc, _+_, _-_, _/_, _%_, _^_, _≤_, _<_}
+use native.Mathlib.Nat.{div-eq-of-lt}
+use native.Mathlib.Omega.{arith}
+use native.Mathlib.Decide.{ℕ-discrete, decLt}
+use mathlib.Core.Path.{_≡_, refl, sym, ap, _∙_, subst}
+use mathlib.Core.Logic.{_≢_}
+use mathlib.Core.Bool.{Bool, true, false, _&&_, cond}
+use mathlib.Core.Option.{some}
+use mathlib.Core.List.{List}
+use lib.Dec.{T, ltb, ltb→lt, lt→ltb}
+use borrow.Author.Tests.{ne-eqb}
+use Rattle.mesh.specs.Place.{Place, Grid, root, base}
+use Rattle.mesh.specs.Mesh.{patch, leaf}
+use Rattle.mesh.specs.State.{State, Entry, cells, number, gridOf, capacity}
+use Rattle.mesh.specs.Valid.{Valid}
+use Rattle.mesh.specs.Picture.{table}
+use Rattle.mesh.specs.Lookup.{holds, lookup}
+use Rattle.table.specs.Words.{linkOf}
+use Rattle.table.specs.Worked.{kidWord}
+use Rattle.walk.specs.Rows.{leafRow, rowFind, rowLookup}
+use Rattle.geometry.proofs.Bools.{is-yes}
+use Rattle.geometry.proofs.Places.{place-path}
+use Rattle.geometry.proofs.Kids.{leaf-cell}
+use Rattle.geometry.proofs.Tree.{cell-patch, patch-parent}
+use Rattle.geometry.proofs.Base.{depth-zero-root}
+use Rattle.geometry.proofs.Digits.{kidBy, parent-by}
+use Rattle.geometry.proofs.Points.{spot, spot-depth, spot-holds, holds-spot, spot-parent}
+use Rattle.numbering.proofs.Numbers.{valid-numbered, place-number, numbered-not-zero}
+use Rattle.walk.proofs.Steps.{no-digits}
+use Rattle.pictures.proofs.Linked.{kid-link}
+use Rattle.walking.proofs.Lookups.{lookup-place, leaf-number}
+use Rattle.walking.proofs.Rowing.{leaf-row}
+
+either-way : {A : Type 0} {a : A} (b : Bool) → cond b a a ≡ a
+either-way true = refl
+either-way false = refl
+
+module _ (s : State) (v : Valid s) (x y : ℕ) where
+  abbrev g : Grid
+  g = gridOf s
+
+  abbrev es : List Entry
+  es = s .entries
+
+  abbrev c : Place → Bool
+  c = cells (s .entries)
+
+  -- the place of depth e that holds the point
+  abbrev at-depth : ℕ → Place
+  at-depth e = spot (gridOf s) e x y
+
+  -- ---- the leaf that holds the point
+
+  abbrev Leaf : Place → Type 0
+  Leaf q = T (leaf g c q) × T (holds g q x y)
+
+  none-found : ((q : Place) → Leaf q → ⊥) → lookup s x y ≡ 0
+  none-found h = go (ℕ-discrete (lookup s x y) 0)
+    where
+      go : Dec (lookup s x y ≡ 0) → lookup s x y ≡ 0
+      go (yes z) = z
+      go (no z) = let (q, e, a, b) = lookup-place v x y z in absurd (h q (a, b))
+
+  -- a patch stands at each place that holds the point, from the root to the leaf
+  spot-above : (n e d : ℕ) → d ≡ e + n → d ≤ base g + 12 → T (patch g c (at-depth d)) → T (patch g c (at-depth e))
+  spot-above zero e d f l t =
+      let i : d ≡ e = omega arith in
+      rw (← i) t
+  spot-above (suc n) e d f l t = patch-parent g c (v .mesh) (at-depth (suc e)) (at-depth e) (spot-parent g x y e (omega arith)) (spot-above n (suc e) d (omega arith) l t)
+
+  leaf-above : (q : Place) → Leaf q → (e : ℕ) → e ≤ q .depth → T (patch g c (at-depth e))
+  leaf-above q (a, b) e l =
+      let k = leaf-cell g c q a in
+      let t : T (patch g c (at-depth (q .depth))) = subst (λ (p : Place). T (patch g c p)) (holds-spot g x y q b) (cell-patch g c (v .mesh) q k) in
+      spot-above (q .depth - e) e (q .depth) (omega arith) (v .mesh .high q k) t
+
+  -- ---- down the rows
+
+  -- row 0 finds nothing
+  find-nil : (d l : ℕ) → rowFind (table s) (capacity s) d x y l 0 ≡ 0
+  unfolding rowFind
+  find-nil d zero = either-way (leafRow (table s) (capacity s) d 0)
+  find-nil d (suc l) = either-way (leafRow (table s) (capacity s) d 0)
+
+  spot-indices : (e l : ℕ) → base g + 12 - e ≡ l → (at-depth e .col ≡ x / 2 ^ l) × (at-depth e .row ≡ y / 2 ^ l)
+  unfolding spot
+  spot-indices e l k = (ap (λ (n : ℕ). x / 2 ^ n) k, ap (λ (n : ℕ). y / 2 ^ n) k)
+
+  -- the kid that the digits lead to is the one that holds the point
+  link-spot : (e l : ℕ) → suc e + l ≡ base g + 12 → linkOf (table s) (capacity s) (number es (at-depth e)) (kidWord (x / 2 ^ l % 2) (y / 2 ^ l % 2)) ≡ number es (at-depth (suc e))
+  link-spot e l h =
+      let (i, j) = spot-indices (suc e) l (omega arith) in
+      let kid : at-depth (suc e) ≡ kidBy (x / 2 ^ l % 2) (y / 2 ^ l % 2) (at-depth e) = parent-by (at-depth (suc e)) (at-depth e) (spot-parent g x y e (omega arith)) ∙ rw (i, j) in
+      kid-link s v (x / 2 ^ l % 2) (y / 2 ^ l % 2) (omega arith) (omega arith) (some (at-depth e)) ∙ ap (number es) (sym kid)
+
+  found-here : (e : ℕ) → leaf g c (at-depth e) ≡ true → number es (at-depth e) ≡ lookup s x y
+  found-here e i = sym (leaf-number v x y (at-depth e) (is-yes (leaf g c (at-depth e)) i) (spot-holds g x y e) .0)
+
+  found-below : (e : ℕ) → leaf g c (at-depth e) ≡ false → (q : Place) → Leaf q → e ≤ q .depth → suc e ≤ q .depth
+  found-below e i q (a, b) l = go (decLt e (q .depth))
+    where
+      go : Dec (e < q .depth) → suc e ≤ q .depth
+      go (yes k) = k
+      go (no k) =
+          let d : q .depth ≡ e = omega (arith, k) in
+          let t : T (leaf g c (at-depth e)) = subst (λ (p : Place). T (leaf g c p)) (holds-spot g x y q b ∙ ap at-depth d) a in
+          absurd (let f : T false = rw i at t in f)
+
+  -- from a patch that holds the point, under which the leaf lies if there is one
+  find-row : (l e : ℕ) → e + l ≡ base g + 12 → ((q : Place) → Leaf q → e ≤ q .depth) → number es (at-depth e) ≢ 0 → rowFind (table s) (capacity s) (base g) x y l (number es (at-depth e)) ≡ lookup s x y
+  unfolding rowFind
+  find-row zero e h low z = rw (leaf-row s v (at-depth e) z) (go (leaf g c (at-depth e)) refl)
+    where
+      go : (b : Bool) → leaf g c (at-depth e) ≡ b → cond b (number es (at-depth e)) 0 ≡ lookup s x y
+      go true i = found-here e i
+      go false i = sym (none-found (λ q f. omega (arith, found-below e i q f (low q f), v .mesh .high q (leaf-cell g c q (f .0)))))
+  find-row (suc l) e h low z = rw (leaf-row s v (at-depth e) z, ne-eqb (number es (at-depth e)) 0 z, link-spot e l (omega arith)) (go (leaf g c (at-depth e)) refl (find-row l (suc e) (omega arith)))
+    where
+      go : (b : Bool) → leaf g c (at-depth e) ≡ b
+          → (((q : Place) → Leaf q → suc e ≤ q .depth) → number es (at-depth (suc e)) ≢ 0 → rowFind (table s) (capacity s) (base g) x y l (number es (at-depth (suc e))) ≡ lookup s x y)
+          → cond b (number es (at-depth e)) (rowFind (table s) (capacity s) (base g) x y l (number es (at-depth (suc e)))) ≡ lookup s x y
+      go true i ih = found-here e i
+      go false i ih = on (ℕ-discrete (number es (at-depth (suc e))) 0)
+        where
+          on : Dec (number es (at-depth (suc e)) ≡ 0) → rowFind (table s) (capacity s) (base g) x y l (number es (at-depth (suc e))) ≡ lookup s x y
+          on (no k) = ih (λ q f. found-below e i q f (low q f)) k
+          on (yes k) =
+              rw (k, find-nil (base g) l)
+              (sym (none-found (λ q f. numbered-not-zero es (valid-numbered v) (at-depth (suc e)) (v .every (at-depth (suc e)) (leaf-above q f (suc e) (found-below e i q f (low q f)))) k)))
+
+  -- ---- from the root
+
+  abbrev width : ℕ
+  width = 2 ^ (base (gridOf s) + 12)
+
+  -- a point lies in the root's place exactly if it lies in the root's square
+  root-spot : x < width → y < width → at-depth 0 ≡ root
+  root-spot a b =
+      let (i, j) = spot-indices 0 (base g + 12) (omega arith) in
+      place-path (at-depth 0) root (spot-depth g x y 0) (i ∙ div-eq-of-lt a) (j ∙ div-eq-of-lt b)
+
+  spot-root : at-depth 0 ≡ root → (x < width) × (y < width)
+  spot-root e =
+      let (i, j) = spot-indices 0 (base g + 12) (omega arith) in
+      (below x (sym i ∙ ap (λ (p : Place). p .col) e), below y (sym j ∙ ap (λ (p : Place). p .row) e))
+    where
+      below : (u : ℕ) → u / width ≡ 0 → u < width
+      below u z = ltb→lt u width (is-yes (ltb u width) (no-digits (base g + 12) u z))
+
+  -- the lookup by rows is the lookup
+  pub row-lookup : rowLookup (table s) (capacity s) (base g) x y ≡ lookup s x y
+  unfolding rowLookup
+  row-lookup = go (ltb x width) (ltb y width) refl refl
+    where
+      outside : ((x < width) × (y < width) → ⊥) → 0 ≡ lookup s x y
+      outside h = sym (none-found (λ q f. h (spot-root (depth-zero-root g c (v .mesh) (v .rectangle) (at-depth 0) (spot-depth g x y 0) (leaf-above q f 0 (omega arith))))))
+
+      go : (a b : Bool) → ltb x width ≡ a → ltb y width ≡ b → cond (a && b) (rowFind (table s) (capacity s) (base g) x y (base g + 12) 1) 0 ≡ lookup s x y
+      go true true i j =
+          let r = root-spot (ltb→lt x width (is-yes (ltb x width) i)) (ltb→lt y width (is-yes (ltb y width) j)) in
+          let n : number es (at-depth 0) ≡ 1 = ap (number es) r ∙ place-number es (valid-numbered v) 1 root (v .first-root) in
+          ap (rowFind (table s) (capacity s) (base g) x y (base g + 12)) (sym n)
+          ∙ find-row (base g + 12) 0 (omega arith) (λ q f. omega arith) (λ z. let k : _≡_ {A = ℕ} 1 0 = sym n ∙ z in omega arith)
+      go true false i j = outside (λ (a, b). let t : T (ltb y width) = lt→ltb y width b in let t′ : T false = rw j at t in t′)
+      go false b i j = outside (λ (a, b). let t : T (ltb x width) = lt→ltb x width a in let t′ : T false = rw i at t in t′)
