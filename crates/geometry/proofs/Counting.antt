@@ -51,6 +51,15 @@ module _ {A : Type 0} (f : A → Bool) where
   -- ---- the elements that another test keeps
 
   -- a test that is no stricter takes nothing away
+  -- how many pass is how many are kept
+  pub length-keep : (xs : List A) → length (keep f xs) ≡ count f xs
+  length-keep [] = refl
+  length-keep (x ∷ xs) = go (f x) refl (length-keep xs)
+    where
+      go : (b : Bool) → f x ≡ b → length (keep f xs) ≡ count f xs → length (keep f (x ∷ xs)) ≡ cond (f x) 1 0 + count f xs
+      go true e ih = rw (e, ih) (omega arith)
+      go false e ih = rw (e, ih) (omega arith)
+
   pub count-keep : (h : A → Bool) → ((x : A) → T (f x) → T (h x)) → (xs : List A) → count f (keep h xs) ≡ count f xs
   count-keep h w [] = refl
   count-keep h w (x ∷ xs) = go (h x) (f x) refl refl (count-keep h w xs)

@@ -71,7 +71,7 @@ module _ {A : Type 0} (f : A → Bool) (d : A) (fails : f d ≡ false) where
 -- ---- the level-0 cells
 
 -- an entry that `groundCells` counts
-abbrev grounded : Grid → Entry → Bool
+abbrev pub grounded : Grid → Entry → Bool
 grounded g e = not (ofCell (λ p x. not (eqb (p .depth) (base g))) e)
 
 ground-cell : (g : Grid) (e : Entry) → T (grounded g e) → (p : Place) × (x : Cell) × (e ≡ used p (some x)) × (p .depth ≡ base g)
@@ -108,7 +108,7 @@ module _ (s : State) (v : Valid s) (n : ℕ) where
 
   -- ---- "kill a level-0 cell"
 
-  another-ground : (d : Named s n) → p .depth ≡ base (gridOf s) → eqb (groundCells s) 1 ≡ false → (o : Place) × (o .depth ≡ base (gridOf s)) × T (cells (s .entries) o) × (o ≡ p → ⊥)
+  pub another-ground : (d : Named s n) → placeAt (s .entries) n .depth ≡ base (gridOf s) → eqb (groundCells s) 1 ≡ false → (o : Place) × (o .depth ≡ base (gridOf s)) × T (cells (s .entries) o) × (o ≡ placeAt (s .entries) n → ⊥)
   unfolding groundCells
   another-ground d e c =
       let here : T (grounded (gridOf s) (entry (s .entries) n)) = rw (d .is-entry, eq-eqb (p .depth) (base (gridOf s)) e) tt in

@@ -1,1 +1,5 @@
 // The lent table: every read and write of its words and values.
+pub mod values;
+pub mod words;
+pub mod worked;
+pub mod writes;

@@ -1,0 +1,16 @@
+-- `deciding::asks::is_vacant` meets its contract.
+-- Assumes nothing.
+use borrow.Author.Needs.{needs}
+use Rattle.deciding.specs.Decide.{vacant}
+use Rattle.deciding.proofs.asks.is_vacant.Statement.{statement}
+use Rattle.deciding.proofs.asks.is_vacant.Tie as tie
+
+word-requires : tie.Need-word-requires
+word-requires c κs = search needs
+
+returns : tie.Need-returns
+unfolding vacant
+returns c = cc
+
+pub is-vacant-spec : {M : Type 1} → statement M
+is-vacant-spec = tie.close (tie.spec word-requires returns)

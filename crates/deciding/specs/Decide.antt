@@ -1,0 +1,130 @@
+-- What a request is refused for, by the words of a table: what 01's checks ask, each of one row or a few, and the refusal of each kind of request.
+-- Assumes nothing.
+use Prim.Native.Nat.{ℕ, zero, suc, _+_, _-_}
+use mathlib.Core.Bool.{Bool, not, _&&_, _||_, cond}
+use mathlib.Core.List.{List, [], _∷_}
+use lib.Dec.{eqb, leb}
+use lib.IntN.{ℤ}
+use lib.Ieee.{Float}
+use Rattle.mesh.specs.Tools.{any, every, count}
+use Rattle.mesh.specs.Valid.{finite}
+use Rattle.mesh.specs.Refusal.{Check, _if_, refusal}
+use Rattle.table.specs.Words.{wordOf, linkOf, flagOf, depthOf}
+
+module _ (t : List ℤ) where
+  -- "A free row has flags 8192"
+  unfoldable pub vacant : ℕ → Bool
+  vacant n = eqb (wordOf t n 12) 8192
+
+  -- whether m of the l numbers from k on are free: the search ends as soon as they are found
+  unfoldable pub enoughFrom : ℕ → ℕ → ℕ → Bool
+  enoughFrom m zero k = eqb m 0
+  enoughFrom m (suc l) k = eqb m 0 || enoughFrom (m - cond (vacant k) 1 0) l (suc k)
+
+module _ (t : List ℤ) (cap : ℕ) where
+  -- the number is that of a patch
+  unfoldable pub taken : ℕ → Bool
+  taken n = leb 1 n && (leb n cap && not (vacant t n))
+
+  -- a cell has kids exactly if its NE kid word is not 0: the point in its middle is a corner of its kids alone
+  unfoldable pub parental : ℕ → Bool
+  parental n = not (eqb (linkOf t cap n 1) 0)
+
+  unfoldable pub kidsDoomed : ℕ → Bool
+  kidsDoomed n = every (flagOf t 12 (linkOf t cap n 1) ∷ flagOf t 12 (linkOf t cap n 2) ∷ flagOf t 12 (linkOf t cap n 3) ∷ flagOf t 12 (linkOf t cap n 4) ∷ [])
+
+  -- the rows of the nine places that a refinement wants: "kids SW, SE, NW, NE; then of the patch north SW, SE; of the patch east NW, SW; of the
+  -- patch north-east SW"
+  abbrev pub wantedRows : ℕ → List ℕ
+  wantedRows n =
+      let north = linkOf t cap n 5 in
+      let east = linkOf t cap n 6 in
+      linkOf t cap n 3 ∷
+      linkOf t cap n 2 ∷
+      linkOf t cap n 4 ∷
+      linkOf t cap n 1 ∷
+      linkOf t cap north 3 ∷
+      linkOf t cap north 2 ∷
+      linkOf t cap east 4 ∷
+      linkOf t cap east 3 ∷
+      linkOf t cap (linkOf t cap east 5) 3 ∷
+      []
+
+  -- how many of them are missing
+  unfoldable pub lacking : ℕ → ℕ
+  lacking n = count (λ k. eqb k 0) (wantedRows n)
+
+  unfoldable pub enough : ℕ → Bool
+  enough m = enoughFrom t m cap 1
+
+  -- whether a cell other than n lies so many levels under the row m: the walk ends at the first one
+  unfoldable pub otherUnder : ℕ → ℕ → ℕ → Bool
+  otherUnder n zero m = not (eqb m 0) && (flagOf t 0 m && not (eqb m n))
+  otherUnder n (suc l) m = not (eqb m 0) && any (λ w. otherUnder n l (linkOf t cap m w)) (3 ∷ 2 ∷ 4 ∷ 1 ∷ [])
+
+  -- ---- the refusals, with level 0 at depth d
+
+  module _ (n : ℕ) where
+    abbrev pub row6 : Check
+    row6 = 6 if not (taken n)
+
+    abbrev pub row7 : Check
+    row7 = 7 if not (flagOf t 0 n)
+
+    abbrev pub row8 : Check
+    row8 = 8 if parental n
+
+    abbrev pub row10 : Check
+    row10 = 10 if flagOf t 12 n
+
+    abbrev pub row11 : Check
+    row11 = 11 if not (enough (lacking n))
+
+    abbrev pub row13 : Check
+    row13 = 13 if not (parental n)
+
+    abbrev pub row14 : Check
+    row14 = 14 if not (kidsDoomed n)
+
+    abbrev pub removeRows : List Check
+    removeRows = row6 ∷ row7 ∷ row13 ∷ row14 ∷ []
+
+    unfoldable pub removeRefusal : ℕ
+    removeRefusal = refusal removeRows
+
+    abbrev pub setRows : Float → List Check
+    setRows x = row6 ∷ row7 ∷ row8 ∷ (16 if not (finite x)) ∷ []
+
+    unfoldable pub setRefusal : Float → ℕ
+    setRefusal x = refusal (setRows x)
+
+  module _ (d n : ℕ) where
+    abbrev pub row9 : Check
+    row9 = 9 if eqb (depthOf t d n) (d + 12)
+
+    abbrev pub row12-sentence : Check
+    row12-sentence = 12 if eqb (depthOf t d n) d
+
+    abbrev pub row12-kill : Check
+    row12-kill = 12 if not (eqb (depthOf t d n) d)
+
+    abbrev pub row15 : Check
+    row15 = 15 if not (otherUnder n d 1)
+
+    abbrev pub refineRows : List Check
+    refineRows = row6 n ∷ row7 n ∷ row8 n ∷ row9 ∷ row10 n ∷ row11 n ∷ []
+
+    unfoldable pub refineRefusal : ℕ
+    refineRefusal = refusal refineRows
+
+    abbrev pub sentenceRows : List Check
+    sentenceRows = row6 n ∷ row7 n ∷ row8 n ∷ row12-sentence ∷ []
+
+    unfoldable pub sentenceRefusal : ℕ
+    sentenceRefusal = refusal sentenceRows
+
+    abbrev pub killRows : List Check
+    killRows = row6 n ∷ row7 n ∷ row12-kill ∷ row8 n ∷ row15 ∷ []
+
+    unfoldable pub killRefusal : ℕ
+    killRefusal = refusal killRows

@@ -1,0 +1,111 @@
+// The refusal of each kind of request, 0 for none, by 01's checks in their order; d is the depth of level 0.
+ghost use mathlib.Core.Path.{_≡_};
+ghost use mathlib.Core.List.{[], _∷_};
+ghost use Prim.Native.Nat.{_+_, _*_, _≤_};
+ghost use lib.ListN.{length};
+ghost use Rattle.mesh.specs.Picture.{rowWords};
+ghost use Rattle.mesh.specs.Refusal.{refusal};
+ghost use Rattle.deciding.specs.Decide.{row6, row7, refineRefusal, sentenceRefusal, removeRefusal, killRefusal, setRefusal};
+use crate::asks::has_kids;
+use crate::asks::is_enough;
+use crate::asks::is_taken;
+use crate::asks::kids_doomed;
+use crate::asks::lack_count;
+use crate::asks::other_under;
+use table::values::is_finite;
+use table::words::depth;
+use table::words::flag;
+
+// The two checks that every kind begins with: the number is that of a patch, and the patch is a cell.
+fn cell_refusal(t: &[i32], cap: usize, n: usize) -> u32
+    requires { ⌜ cap * rowWords + rowWords ≤ length (now t) ⌝ }
+    ensures { λ r. ⌜ r ≡ refusal (row6 (now (t .entry)) cap n ∷ row7 (now (t .entry)) cap n ∷ []) ⌝ }
+{
+    if !is_taken(t, cap, n) {
+        return 6;
+    }
+    if flag(t, 0, n) { 0 } else { 7 }
+}
+
+pub fn refine_refusal(t: &[i32], cap: usize, d: u32, n: usize) -> u32
+    requires { ⌜ (cap * rowWords + rowWords ≤ length (now t)) × (d ≤ 32) ⌝ }
+    ensures { λ r. ⌜ r ≡ refineRefusal (now (t .entry)) cap d n ⌝ }
+{
+    let r = cell_refusal(t, cap, n);
+    if r != 0 {
+        return r;
+    }
+    if has_kids(t, cap, n) {
+        return 8;
+    }
+    if depth(t, d, n) == d + 12 {
+        return 9;
+    }
+    if flag(t, 12, n) {
+        return 10;
+    }
+    if is_enough(t, cap, lack_count(t, cap, n)) {
+        0
+    } else {
+        11
+    }
+}
+
+pub fn sentence_refusal(t: &[i32], cap: usize, d: u32, n: usize) -> u32
+    requires { ⌜ (cap * rowWords + rowWords ≤ length (now t)) × (d ≤ 32) ⌝ }
+    ensures { λ r. ⌜ r ≡ sentenceRefusal (now (t .entry)) cap d n ⌝ }
+{
+    let r = cell_refusal(t, cap, n);
+    if r != 0 {
+        return r;
+    }
+    if has_kids(t, cap, n) {
+        return 8;
+    }
+    if depth(t, d, n) == d { 12 } else { 0 }
+}
+
+pub fn remove_refusal(t: &[i32], cap: usize, n: usize) -> u32
+    requires { ⌜ cap * rowWords + rowWords ≤ length (now t) ⌝ }
+    ensures { λ r. ⌜ r ≡ removeRefusal (now (t .entry)) cap n ⌝ }
+{
+    let r = cell_refusal(t, cap, n);
+    if r != 0 {
+        return r;
+    }
+    if !has_kids(t, cap, n) {
+        return 13;
+    }
+    if kids_doomed(t, cap, n) { 0 } else { 14 }
+}
+
+pub fn kill_refusal(t: &[i32], cap: usize, d: u32, n: usize) -> u32
+    requires { ⌜ (cap * rowWords + rowWords ≤ length (now t)) × (1 ≤ cap) × (d ≤ 32) ⌝ }
+    ensures { λ r. ⌜ r ≡ killRefusal (now (t .entry)) cap d n ⌝ }
+{
+    let r = cell_refusal(t, cap, n);
+    if r != 0 {
+        return r;
+    }
+    if depth(t, d, n) != d {
+        return 12;
+    }
+    if has_kids(t, cap, n) {
+        return 8;
+    }
+    if other_under(t, cap, n, d, 1) { 0 } else { 15 }
+}
+
+pub fn set_refusal(t: &[i32], cap: usize, n: usize, x: f64) -> u32
+    requires { ⌜ cap * rowWords + rowWords ≤ length (now t) ⌝ }
+    ensures { λ r. ⌜ r ≡ setRefusal (now (t .entry)) cap n x ⌝ }
+{
+    let r = cell_refusal(t, cap, n);
+    if r != 0 {
+        return r;
+    }
+    if has_kids(t, cap, n) {
+        return 8;
+    }
+    if is_finite(x) { 0 } else { 16 }
+}

@@ -1,0 +1,7 @@
+-- Laws of signed words, of tests and of floats by their bits, for the functions of the table.
+pub mod Signed
+pub mod Tests
+pub mod Bits
+pub mod Flags
+pub mod Offsets
+pub mod Rows

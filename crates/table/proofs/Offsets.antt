@@ -1,0 +1,53 @@
+-- The table of winds by place: what the code reads there is the wind's compass and word.
+-- Assumes nothing.
+use mathlib.Core.Path.{_≡_, refl, ap, _∙_}
+use mathlib.Core.Bool.{_&&_, cond}
+use mathlib.Core.List.{List}
+use Prim.Native.Nat.{ℕ, zero, suc, _+_, _%_, _≤_, _<_}
+use native.Mathlib.Omega.{arith}
+use lib.Dec.{lit≤}
+use lib.ListN.{getD}
+use lib.IntN.{ℤ}
+use Rattle.mesh.specs.Place.{NE, compass}
+use Rattle.mesh.specs.Winds.{winds, wordOfWind, compassAt}
+use Rattle.mesh.specs.declared.Compass.{Compass}
+use Rattle.table.specs.Words.{wordOf, linkOf}
+use Rattle.table.specs.Worked.{kidWord, staysIn, sideOf}
+
+pub record At (i : ℕ) : Type 0 where
+  pub east : compassAt i .east ≡ compass (getD winds i NE) .east
+  pub north : compassAt i .north ≡ compass (getD winds i NE) .north
+  pub east-small : compassAt i .east ≤ 2
+  pub north-small : compassAt i .north ≤ 2
+  pub word : i + 1 ≡ wordOfWind (getD winds i NE)
+
+pub at : (i : ℕ) → i < 8 → At i
+at zero h = record { east = refl; north = refl; east-small = lit≤ tt; north-small = lit≤ tt; word = refl }
+at (suc zero) h = record { east = refl; north = refl; east-small = lit≤ tt; north-small = lit≤ tt; word = refl }
+at (suc (suc zero)) h = record { east = refl; north = refl; east-small = lit≤ tt; north-small = lit≤ tt; word = refl }
+at (suc (suc (suc zero))) h = record { east = refl; north = refl; east-small = lit≤ tt; north-small = lit≤ tt; word = refl }
+at (suc (suc (suc (suc zero)))) h = record { east = refl; north = refl; east-small = lit≤ tt; north-small = lit≤ tt; word = refl }
+at (suc (suc (suc (suc (suc zero))))) h = record { east = refl; north = refl; east-small = lit≤ tt; north-small = lit≤ tt; word = refl }
+at (suc (suc (suc (suc (suc (suc zero)))))) h = record { east = refl; north = refl; east-small = lit≤ tt; north-small = lit≤ tt; word = refl }
+at (suc (suc (suc (suc (suc (suc (suc zero))))))) h = record { east = refl; north = refl; east-small = lit≤ tt; north-small = lit≤ tt; word = refl }
+at (suc (suc (suc (suc (suc (suc (suc (suc i)))))))) h = let no : ⊥ = omega arith in absurd no
+
+-- the offsets of what is read there
+pub small : (x : Compass) (i : ℕ) → i < 8 → x ≡ compassAt i → (x .east ≤ 2) × (x .north ≤ 2)
+small x i h e = rw e (at i h .east-small, at i h .north-small)
+
+module _ (t : List ℤ) (cap n : ℕ) where
+  -- the row of a neighbour, by offsets and by the word of the parent's neighbour
+  abbrev pub beside : ℕ → ℕ → ℕ → ℕ
+  beside east north w =
+      let p = linkOf t cap n 0 in
+      let a = wordOf t n 10 % 2 + east in
+      let b = wordOf t n 11 % 2 + north in
+      linkOf t cap (cond (staysIn a && staysIn b) p (linkOf t cap p w)) (kidWord ((a + 1) % 2) ((b + 1) % 2))
+
+  pub side-at : (i : ℕ) → i < 8 → beside (compassAt i .east) (compassAt i .north) (i + 1) ≡ sideOf t cap n (getD winds i NE)
+  unfolding sideOf
+  side-at i h =
+      ap (λ e. beside e (compassAt i .north) (i + 1)) (at i h .east)
+      ∙ ap (λ m. beside (compass (getD winds i NE) .east) m (i + 1)) (at i h .north)
+      ∙ ap (beside (compass (getD winds i NE) .east) (compass (getD winds i NE) .north)) (at i h .word)

@@ -1,0 +1,41 @@
+-- What a branch says of a choice: the arm that a true test takes, and the arm that a false one takes.
+-- Assumes nothing.
+use mathlib.Core.Path.{_≡_, _∙_}
+use mathlib.Core.Bool.{Bool, true, false, cond}
+use Prim.Native.Nat.{ℕ, _≤_, _<_}
+use native.Mathlib.Omega.{arith}
+use borrow.Author.Tests.{eq-eqb, ne-eqb, lt-ltb, le-ltb, le-leb, lt-leb}
+use lib.Dec.{eqb, leb, ltb}
+
+pub chosen : {A : Type 0} (b : Bool) (x y : A) → b ≡ true → x ≡ cond b x y
+chosen b x y e = rw e
+
+pub passed : {A : Type 0} (b : Bool) (x y : A) → b ≡ false → y ≡ cond b x y
+passed b x y e = rw e
+
+-- a number that a bound keeps, and one that it does not
+pub kept : (x y m : ℕ) → x ≡ y → x ≤ m → x ≡ cond (leb y m) y 0
+kept x y m e h = let l : y ≤ m = omega arith in rw (le-leb y m l) e
+
+pub dropped : (x y m : ℕ) → x ≡ y → m < x → 0 ≡ cond (leb y m) y 0
+dropped x y m e h = let l : m < y = omega arith in rw (lt-leb y m l)
+
+-- a test of a definition, by a test of a number that equals it
+module _ {x y k : ℕ} (e : x ≡ y) where
+  pub is-eq : x ≡ k → eqb y k ≡ true
+  is-eq h = eq-eqb y k (omega arith)
+
+  pub is-other : (x ≡ k → ⊥) → eqb y k ≡ false
+  is-other h = ne-eqb y k (λ q. h (e ∙ q))
+
+  pub is-less : x < k → ltb y k ≡ true
+  is-less h = lt-ltb y k (omega arith)
+
+  pub is-least : k ≤ x → ltb y k ≡ false
+  is-least h = le-ltb y k (omega arith)
+
+  pub is-within : x ≤ k → leb y k ≡ true
+  is-within h = le-leb y k (omega arith)
+
+  pub is-past : k < x → leb y k ≡ false
+  is-past h = lt-leb y k (omega arith)

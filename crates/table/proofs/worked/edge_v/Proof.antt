@@ -1,0 +1,44 @@
+-- `table::edge_v` meets its contract.
+-- Assumes nothing.
+use Rattle.table.specs.Worked.{edgeV}
+use borrow.Author.Needs.{needs}
+use Rattle.table.proofs.worked.edge_v.Statement.{statement}
+use Rattle.table.proofs.worked.edge_v.Tie as tie
+
+flag-requires : tie.Need-flag-requires
+flag-requires c κs = search needs
+
+link-requires : tie.Need-link-requires
+link-requires c κs = search needs
+
+flag-requires-2 : tie.Need-flag-requires-2
+flag-requires-2 c κs = search needs
+
+depth-requires : tie.Need-depth-requires
+depth-requires c κs = search needs
+
+word-requires : tie.Need-word-requires
+word-requires c κs = search needs
+
+link-requires-2 : tie.Need-link-requires-2
+link-requires-2 c κs = search needs
+
+flag-requires-3 : tie.Need-flag-requires-3
+flag-requires-3 c κs = search needs
+
+returns : tie.Need-returns
+unfolding edgeV
+returns c = cc
+
+pub edge-v-spec : {M : Type 1} → statement M
+edge-v-spec =
+    tie.close
+    (tie.spec
+    flag-requires
+    link-requires
+    flag-requires-2
+    depth-requires
+    word-requires
+    link-requires-2
+    flag-requires-3
+    returns)

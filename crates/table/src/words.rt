@@ -1,0 +1,75 @@
+// The words of a row as numbers, and its links as rows of the table, whatever stands in it.
+ghost use mathlib.Core.Path.{_≡_};
+ghost use Prim.Native.Nat.{_+_, _*_, _<_, _≤_};
+ghost use lib.ListN.{length, getD};
+ghost use lib.IntN.{pos};
+ghost use Rattle.mesh.specs.Picture.{rowWords};
+ghost use Rattle.table.specs.Words.{code, wordOf, linkOf, flagOf, depthFrom, depthOf};
+
+// The words of a row.
+pub const ROW_WORDS: usize = 14;
+
+// A signed word as a number.
+pub fn coded(x: i32) -> u32
+    ensures { λ r. ⌜ r ≡ code x ⌝ }
+{
+    if x >= 0 {
+        x as u32
+    } else {
+        let y = !x;
+        let n = y as u32;
+        n + 2147483648
+    }
+}
+
+pub fn raw(t: &[i32], n: usize, w: usize) -> i32
+    requires { ⌜ n * rowWords + w < length (now t) ⌝ }
+    ensures { λ r. ⌜ r ≡ getD (now (t .entry)) (n * rowWords + w) (pos 0) ⌝ }
+{
+    t[n * ROW_WORDS + w]
+}
+
+// The word w of the row n.
+pub fn word(t: &[i32], n: usize, w: usize) -> u32
+    requires { ⌜ n * rowWords + w < length (now t) ⌝ }
+    ensures { λ r. ⌜ r ≡ wordOf (now (t .entry)) n w ⌝ }
+{
+    coded(raw(t, n, w))
+}
+
+// The row that the word w of the row n names, or 0 where it names none of 1 to the capacity.
+pub fn link(t: &[i32], cap: usize, n: usize, w: usize) -> usize
+    requires { ⌜ (cap * rowWords + rowWords ≤ length (now t)) × (n ≤ cap) × (w < rowWords) ⌝ }
+    ensures { λ r. ⌜ (r ≤ cap) × (r ≡ linkOf (now (t .entry)) cap n w) ⌝ }
+{
+    let k = word(t, n, w) as usize;
+    if k <= cap { k } else { 0 }
+}
+
+// The flag of bit k.
+pub fn flag(t: &[i32], k: u32, n: usize) -> bool
+    requires { ⌜ (n * rowWords + rowWords ≤ length (now t)) × (k < 32) ⌝ }
+    ensures { λ r. ⌜ r ≡ flagOf (now (t .entry)) k n ⌝ }
+{
+    (word(t, n, 12) >> k) % 2 == 1
+}
+
+// The depth that a level's word says, with level 0 at depth d.
+fn depth_from(d: u32, c: u32) -> u32
+    requires { ⌜ d ≤ 32 ⌝ }
+    ensures { λ r. ⌜ (r < 2147483680) × (r ≡ depthFrom d c) ⌝ }
+{
+    if c < 2147483648 {
+        return c + d;
+    }
+    let below = c - 2147483648;
+    if below < d { d - 1 - below } else { d + 13 }
+}
+
+// The depth of the row n.
+pub fn depth(t: &[i32], d: u32, n: usize) -> u32
+    requires { ⌜ (n * rowWords + rowWords ≤ length (now t)) × (d ≤ 32) ⌝ }
+    ensures { λ r. ⌜ (r < 2147483680) × (r ≡ depthOf (now (t .entry)) d n) ⌝ }
+{
+    depth_from(d, word(t, n, 9))
+}

@@ -1,0 +1,154 @@
+// The words that are worked out from other rows' words: neighbours and flags.
+ghost use mathlib.Core.Path.{_≡_};
+ghost use mathlib.Core.Bool.{cond, _&&_, _||_};
+ghost use Prim.Native.Nat.{_+_, _*_, _<_, _≤_};
+ghost use lib.ListN.{length, getD};
+ghost use Rattle.mesh.specs.Tools.{digits};
+ghost use Rattle.mesh.specs.Place.{NE};
+ghost use Rattle.mesh.specs.Winds.{winds};
+ghost use Rattle.mesh.specs.Picture.{rowWords};
+ghost use Rattle.table.specs.Digits.{four};
+ghost use Rattle.table.specs.Words.{linkOf, flagOf};
+ghost use Rattle.table.specs.Worked.{kidWord, staysIn, sideOf, edgeH, edgeV, innerH, innerV, flagsFrom};
+use crate::words::depth;
+use crate::words::flag;
+use crate::words::link;
+use crate::words::word;
+
+// The word of the kid whose column ends in the digit l and whose row ends in the digit m.
+pub fn kid_word(l: u32, m: u32) -> usize
+    requires { ⌜ m < 2 ⌝ }
+    ensures { λ r. ⌜ (r < 5) × (r ≡ kidWord l m) ⌝ }
+{
+    let k = m as usize;
+    if l == 1 { 2 - k } else { 3 + k }
+}
+
+// Whether a digit that was moved is still one of the same two.
+fn stays_in(a: u32) -> bool
+    ensures { λ r. ⌜ r ≡ staysIn a ⌝ }
+{
+    (1 <= a) & (a <= 2)
+}
+
+// The row that a neighbour is a kid of: the parent p, or the parent's neighbour.
+fn hub(t: &[i32], cap: usize, p: usize, w: usize, stays: bool) -> usize
+    requires { ⌜ (cap * rowWords + rowWords ≤ length (now t)) × (p ≤ cap) × (w < rowWords) ⌝ }
+    ensures { λ r. ⌜ (r ≤ cap) × (r ≡ cond stays p (linkOf (now (t .entry)) cap p w)) ⌝ }
+{
+    if stays { p } else { link(t, cap, p, w) }
+}
+
+// The row that is the neighbour in the wind at place w of the table of winds.
+pub fn side(t: &[i32], cap: usize, n: usize, w: usize) -> usize
+    requires { ⌜ (cap * rowWords + rowWords ≤ length (now t)) × (n ≤ cap) × (w < 8) ⌝ }
+    ensures { λ r. ⌜ (r ≤ cap) × (r ≡ sideOf (now (t .entry)) cap n (getD winds w NE)) ⌝ }
+{
+    let c = mesh::wind(w);
+    let a = word(t, n, 10) % 2 + c.east;
+    let b = word(t, n, 11) % 2 + c.north;
+    let p = link(t, cap, n, 0);
+    let q = hub(t, cap, p, w + 1, stays_in(a) & stays_in(b));
+    link(t, cap, q, kid_word((a + 1) % 2, (b + 1) % 2))
+}
+
+// A wall of the row with one cell that is boundary: below the place, and left of it.
+pub fn edge_h(t: &[i32], cap: usize, d: u32, n: usize) -> bool
+    requires { ⌜ (cap * rowWords + rowWords ≤ length (now t)) × (n ≤ cap) × (d ≤ 32) ⌝ }
+    ensures { λ r. ⌜ r ≡ edgeH (now (t .entry)) cap d n ⌝ }
+{
+    let one = flag(t, 0, n) != flag(t, 0, link(t, cap, n, 7));
+    let ground = depth(t, d, n) == d;
+    let even = word(t, n, 11) % 2 == 0;
+    one & (ground | (even & flag(t, 4, link(t, cap, n, 0))))
+}
+
+pub fn edge_v(t: &[i32], cap: usize, d: u32, n: usize) -> bool
+    requires { ⌜ (cap * rowWords + rowWords ≤ length (now t)) × (n ≤ cap) × (d ≤ 32) ⌝ }
+    ensures { λ r. ⌜ r ≡ edgeV (now (t .entry)) cap d n ⌝ }
+{
+    let one = flag(t, 0, n) != flag(t, 0, link(t, cap, n, 8));
+    let ground = depth(t, d, n) == d;
+    let even = word(t, n, 10) % 2 == 0;
+    one & (ground | (even & flag(t, 5, link(t, cap, n, 0))))
+}
+
+// A wall with one cell that is not.
+pub fn inner_h(t: &[i32], cap: usize, d: u32, n: usize) -> bool
+    requires { ⌜ (cap * rowWords + rowWords ≤ length (now t)) × (n ≤ cap) × (d ≤ 32) ⌝ }
+    ensures { λ r. ⌜ r ≡ innerH (now (t .entry)) cap d n ⌝ }
+{
+    let one = flag(t, 0, n) != flag(t, 0, link(t, cap, n, 7));
+    one & !edge_h(t, cap, d, n)
+}
+
+pub fn inner_v(t: &[i32], cap: usize, d: u32, n: usize) -> bool
+    requires { ⌜ (cap * rowWords + rowWords ≤ length (now t)) × (n ≤ cap) × (d ≤ 32) ⌝ }
+    ensures { λ r. ⌜ r ≡ innerV (now (t .entry)) cap d n ⌝ }
+{
+    let one = flag(t, 0, n) != flag(t, 0, link(t, cap, n, 8));
+    one & !edge_v(t, cap, d, n)
+}
+
+// Whether a cell stands under the number or under its neighbour of the word w.
+fn beside(t: &[i32], cap: usize, n: usize, w: usize) -> bool
+    requires { ⌜ (cap * rowWords + rowWords ≤ length (now t)) × (n ≤ cap) × (w < rowWords) ⌝ }
+    ensures { λ r. ⌜ r ≡ (flagOf (now (t .entry)) 0 n || flagOf (now (t .entry)) 0 (linkOf (now (t .entry)) cap n w)) ⌝ }
+{
+    flag(t, 0, n) | flag(t, 0, link(t, cap, n, w))
+}
+
+// Whether one of the walls that meet at the place is of the kind of bit k: h and v are the row's own.
+fn meets(t: &[i32], cap: usize, k: u32, n: usize, h: bool, v: bool) -> bool
+    requires { ⌜ (cap * rowWords + rowWords ≤ length (now t)) × (n ≤ cap) × (k < 31) ⌝ }
+    ensures { λ r. ⌜ r ≡ (h || (flagOf (now (t .entry)) k (linkOf (now (t .entry)) cap n 8) || (v || flagOf (now (t .entry)) (k + 1) (linkOf (now (t .entry)) cap n 7)))) ⌝ }
+{
+    let a = link(t, cap, n, 8);
+    let b = link(t, cap, n, 7);
+    h | (flag(t, k, a) | (v | flag(t, k + 1, b)))
+}
+
+// Whether the row is a cell with a wall of the kind of bit k.
+fn walled(t: &[i32], cap: usize, k: u32, n: usize, h: bool, v: bool) -> bool
+    requires { ⌜ (cap * rowWords + rowWords ≤ length (now t)) × (n ≤ cap) × (k < 31) ⌝ }
+    ensures { λ r. ⌜ r ≡ (flagOf (now (t .entry)) 0 n && (h || (flagOf (now (t .entry)) k (linkOf (now (t .entry)) cap n 5) || (v || flagOf (now (t .entry)) (k + 1) (linkOf (now (t .entry)) cap n 6))))) ⌝ }
+{
+    let a = link(t, cap, n, 5);
+    let b = link(t, cap, n, 6);
+    flag(t, 0, n) & (h | (flag(t, k, a) | (v | flag(t, k + 1, b))))
+}
+
+// The number whose four binary digits these are, lowest first.
+pub fn digits_of_four(a: bool, b: bool, c: bool, e: bool) -> u32
+    ensures { λ r. ⌜ (r < 16) × (r ≡ four a b c e) ⌝ }
+{
+    weigh(a, 1) + weigh(b, 2) + weigh(c, 4) + weigh(e, 8)
+}
+
+// The weight w where b holds, and otherwise 0.
+pub fn weigh(b: bool, w: u32) -> u32
+    ensures { λ r. ⌜ (r ≤ w) × (r ≡ w * cond b 1 0) ⌝ }
+{
+    if b { w } else { 0 }
+}
+
+// The flags of a row from level 0 up.
+pub fn flags_from(t: &[i32], cap: usize, d: u32, n: usize, sentenced: bool) -> u32
+    requires { ⌜ (cap * rowWords + rowWords ≤ length (now t)) × (n ≤ cap) × (d ≤ 32) ⌝ }
+    ensures { λ r. ⌜ r ≡ digits (flagsFrom (now (t .entry)) cap d n sentenced) ⌝ }
+{
+    let h = edge_h(t, cap, d, n);
+    let v = edge_v(t, cap, d, n);
+    let i = inner_h(t, cap, d, n);
+    let j = inner_v(t, cap, d, n);
+    let south = beside(t, cap, n, 7);
+    let west = beside(t, cap, n, 8);
+    let edges = meets(t, cap, 4, n, h, v);
+    let inners = meets(t, cap, 8, n, i, j);
+    let edged = walled(t, cap, 4, n, h, v);
+    let fenced = walled(t, cap, 8, n, i, j);
+    digits_of_four(flag(t, 0, n), south, west, edges)
+        + 16 * digits_of_four(h, v, edged, inners)
+        + 256 * digits_of_four(i, j, fenced, false)
+        + weigh(sentenced, 4096)
+}
