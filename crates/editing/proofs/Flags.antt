@@ -89,10 +89,10 @@ module _ {g : Grid} {cap : ℕ} {es : List Entry} (r : Rooted g cap es) (f : Fla
     unfolding flagOf
     flag-bit k = rw (flags-of g es f n p h)
 
-    link-around : (w : ℕ) → w < 9 → linkOf t cap n w ≡ numberOf es (getD (around g (some p)) w none)
+    pub link-around : (w : ℕ) → w < 9 → linkOf t cap n w ≡ numberOf es (getD (around g (some p)) w none)
     link-around w l = link-of r f n w l ∙ ap (λ (o : Option Place). numberOf es (getD (around g o) w none)) h
 
-    link-side : (w : Wind) → T (aside w) → linkOf t cap n (wordOfWind w) ≡ numberOf es (step g w p)
+    pub link-side : (w : Wind) → T (aside w) → linkOf t cap n (wordOfWind w) ≡ numberOf es (step g w p)
     link-side w a = link-around (wordOfWind w) (wind-lt w) ∙ ap (numberOf es) (around-side g w a (some p))
 
     link-parent : linkOf t cap n 0 ≡ numberOf es (parent p)

@@ -10,3 +10,11 @@ pub mod Removing
 pub mod Setting
 pub mod Flags
 pub mod Refreshing
+pub mod Named
+pub mod Renewing
+pub mod Celling
+pub mod Supplying
+pub mod Starting
+pub mod Nearby
+pub mod Refined
+pub mod RefinedValues

@@ -4,8 +4,8 @@
 use Prim.Native.Nat.{ℕ, suc, _+_, _-_, _≤_, _<_}
 use native.Mathlib.Omega.{arith}
 use native.Mathlib.Decide.{decLt, ℕ-discrete}
-use mathlib.Core.Path.{_≡_}
-use mathlib.Core.Option.{Option, none, some}
+use mathlib.Core.Path.{_≡_, sym, ap, _∙_}
+use mathlib.Core.Option.{Option, none, some, Option·map}
 use mathlib.Core.List.{List}
 use lib.Dec.{T}
 use lib.IntN.{subℕ}
@@ -17,10 +17,11 @@ use Rattle.mesh.specs.Mesh.{patch}
 use Rattle.mesh.specs.State.{State, Entry, placeOf, stands, entry, cells, number, numberOf, gridOf, capacity}
 use Rattle.mesh.specs.Valid.{Valid}
 use Rattle.geometry.proofs.Base.{base-range, depth-zero-root}
+use Rattle.geometry.proofs.Digits.{kidBy, kid-by-parent}
 use Rattle.geometry.proofs.Near.{corner-depth, touched-corner}
 use Rattle.geometry.proofs.Tree.{patch-parent, patch-touched}
 use Rattle.numbering.proofs.Entries.{in-list}
-use Rattle.numbering.proofs.Numbers.{Numbered, valid-numbered, number-place}
+use Rattle.numbering.proofs.Numbers.{Numbered, valid-numbered, number-place, numbered-not-zero}
 use Rattle.table.specs.Words.{code, wordOf, linkOf, depthFrom, depthOf}
 use Rattle.editing.specs.Linked.{Flags, tableWith}
 use Rattle.editing.proofs.Linked.{number-of, word-level}
@@ -81,6 +82,21 @@ module _ {g : Grid} {cap : ℕ} {es : List Entry} (r : Rooted g cap es) where
       go : Dec (number es p ≡ 0) → number es p ≤ cap
       go (yes z) = omega arith
       go (no z) = omega (arith, r .long, in-list es (number es p) p (number-place es p z))
+
+  -- a word of each row that names a kid, read at the number of a place: where no patch stands, no kid of it does
+  pub kid-read : (read : ℕ → ℕ) (Fit : Option Place → Type 0) (l m : ℕ) → l ≤ 1 → m ≤ 1 → Fit none
+      → ((n : ℕ) (o : Option Place) → placeOf (entry es n) ≡ o → Fit o → read n ≡ numberOf es (Option·map (kidBy l m) o))
+      → (o : Option Place) → Fit o → read (numberOf es o) ≡ numberOf es (Option·map (kidBy l m) o)
+  kid-read read Fit l m x y nowhere is none d = is 0 none (ap placeOf (r .numbered .zeroth)) nowhere
+  kid-read read Fit l m x y nowhere is (some q) d = go (ℕ-discrete (number es q) 0)
+    where
+      kidless : number es q ≡ 0 → Dec (number es (kidBy l m q) ≡ 0) → number es (kidBy l m q) ≡ 0
+      kidless z (yes k) = k
+      kidless z (no k) = absurd (numbered-not-zero es (r .numbered) q (r .parents (number es (kidBy l m q)) (kidBy l m q) q (number-place es (kidBy l m q) k) (kid-by-parent l m q x y)) z)
+
+      go : Dec (number es q ≡ 0) → read (number es q) ≡ number es (kidBy l m q)
+      go (no z) = is (number es q) (some q) (number-place es q z) d
+      go (yes z) = ap read z ∙ is 0 none (ap placeOf (r .numbered .zeroth)) nowhere ∙ sym (kidless z (ℕ-discrete (number es (kidBy l m q)) 0))
 
   module _ (f : Flags) where
     pub link-of : (n w : ℕ) → w < 9 → linkOf (tableWith g es f) cap n w ≡ numberOf es (getD (around g (placeOf (entry es n))) w none)

@@ -28,11 +28,11 @@ use Rattle.editing.proofs.Rooted.{Rooted}
 -- ---- rows of entries, one of them changed
 
 module _ {A B : Type 0} (h h′ : A → B) (d : A) where
-  map-same : (xs : List A) → ((n : ℕ) → h (getD xs n d) ≡ h′ (getD xs n d)) → map h xs ≡ map h′ xs
+  pub map-same : (xs : List A) → ((n : ℕ) → h (getD xs n d) ≡ h′ (getD xs n d)) → map h xs ≡ map h′ xs
   map-same [] e = refl
   map-same (x ∷ xs) e = ap₂ _∷_ (e 0) (map-same xs (λ n. e (suc n)))
 
-  map-but : (xs : List A) (n : ℕ) → ((m : ℕ) → m ≢ n → h (getD xs m d) ≡ h′ (getD xs m d)) → set (map h xs) n (h′ (getD xs n d)) ≡ map h′ xs
+  pub map-but : (xs : List A) (n : ℕ) → ((m : ℕ) → m ≢ n → h (getD xs m d) ≡ h′ (getD xs m d)) → set (map h xs) n (h′ (getD xs n d)) ≡ map h′ xs
   map-but [] n e = refl
   map-but (x ∷ xs) zero e = ap (λ (ys : List B). h′ x ∷ ys) (map-same xs (λ m. e (suc m) (λ z. omega arith)))
   map-but (x ∷ xs) (suc n) e = ap₂ _∷_ (e 0 (λ z. omega arith)) (map-but xs n (λ m z. e (suc m) (λ y. z (let i : m ≡ n = omega arith in i))))
@@ -83,12 +83,12 @@ row-numbers : (g : Grid) (es ds : List Entry) (f : Flags) → ((p : Place) → n
 unfolding rowWith
 row-numbers g es ds f h e = ap (λ (k : Place → ℕ). map (λ o. pos (orElse 0 k o)) (around g (placeOf e)) ++ fieldsWith g f e) (fun-ext h)
 
-filled-other : (ps : List Place) (y : Option Cell) (e : Entry) → ((p : Place) → placeOf e ≡ some p → In p ps → ⊥) → filled ps y e ≡ e
+pub filled-other : (ps : List Place) (y : Option Cell) (e : Entry) → ((p : Place) → placeOf e ≡ some p → In p ps → ⊥) → filled ps y e ≡ e
 filled-other ps y nil h = refl
 filled-other ps y free h = refl
 filled-other ps y (used p x) h = rw (no-is (any (same p) ps) (h p refl))
 
-filled-here : (ps : List Place) (y : Option Cell) (e : Entry) (q : Place) → placeOf e ≡ some q → In q ps → filled ps y e ≡ used q y
+pub filled-here : (ps : List Place) (y : Option Cell) (e : Entry) (q : Place) → placeOf e ≡ some q → In q ps → filled ps y e ≡ used q y
 filled-here ps y e q h i = ap (filled ps y) (place-used e q h) ∙ rw (yes-is (any (same q) ps) i)
 
 module _ (g : Grid) (es : List Entry) (u : Numbered es) (f : Flags) (n : ℕ) (q : Place) (there : placeOf (entry es n) ≡ some q) (y : Option Cell) where

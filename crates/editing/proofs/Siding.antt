@@ -16,7 +16,7 @@ use Rattle.mesh.specs.Place.{Place, Grid, then, step, parent, around, Wind}
 use Rattle.mesh.specs.Winds.{wordOfWind}
 use Rattle.mesh.specs.State.{Entry, placeOf, entry, number, numberOf}
 use Rattle.geometry.proofs.Kids.{parent-up, no-parent, parent-depth}
-use Rattle.geometry.proofs.Digits.{kidBy, kid-by-parent, aside, colMoved, rowMoved, stays, step-digits, step-depth}
+use Rattle.geometry.proofs.Digits.{kidBy, aside, colMoved, rowMoved, stays, step-digits, step-depth}
 use Rattle.numbering.proofs.Numbers.{number-place, numbered-not-zero}
 use Rattle.pictures.proofs.Links.{around-parent, around-side}
 use Rattle.table.specs.Words.{code, wordOf, linkOf}
@@ -24,7 +24,7 @@ use Rattle.table.specs.Worked.{kidWord, sideOf}
 use Rattle.editing.specs.Linked.{Flags, tableWith}
 use Rattle.editing.proofs.Spots.{word}
 use Rattle.editing.proofs.Linked.{word-col, word-row}
-use Rattle.editing.proofs.Rooted.{Rooted, link-of}
+use Rattle.editing.proofs.Rooted.{Rooted, link-of, kid-read}
 use Rattle.editing.proofs.Sides.{around-kid-by, kid-word-lt, side-word-lt, step-other}
 
 -- ---- the words that are read
@@ -57,28 +57,9 @@ module _ {g : Grid} {cap : ℕ} {es : List Entry} (r : Rooted g cap es) (f : Fla
 
   -- a kid of a place's patch, by the place's number; where no patch stands, no kid does
   kid-link : (l m : ℕ) → l ≤ 1 → m ≤ 1 → (o : Option Place) → Apart o → linkOf u cap (numberOf es o) (kidWord l m) ≡ numberOf es (Option·map (kidBy l m) o)
-  kid-link l m x y o d = go o d
-    where
-      v : ℕ
-      v = kidWord l m
-
-      small : v < 9
-      small = omega (arith, kid-word-lt l m x y)
-
-      nothing : linkOf u cap 0 v ≡ 0
-      nothing = link-at 0 v small none zeroth never ∙ ap (numberOf es) (around-kid-by g l m x y none)
-
-      one : (q : Place) → Apart (some q) → Dec (number es q ≡ 0) → linkOf u cap (number es q) v ≡ number es (kidBy l m q)
-      one q d (no z) = link-at (number es q) v small (some q) (number-place es q z) d ∙ ap (numberOf es) (around-kid-by g l m x y (some q))
-      one q d (yes z) = ap (λ (k : ℕ). linkOf u cap k v) z ∙ nothing ∙ sym (kidless (ℕ-discrete (number es (kidBy l m q)) 0))
-        where
-          kidless : Dec (number es (kidBy l m q) ≡ 0) → number es (kidBy l m q) ≡ 0
-          kidless (yes k) = k
-          kidless (no k) = absurd (numbered-not-zero es (r .numbered) q (r .parents (number es (kidBy l m q)) (kidBy l m q) q (number-place es (kidBy l m q) k) (kid-by-parent l m q x y)) z)
-
-      go : (o : Option Place) → Apart o → linkOf u cap (numberOf es o) v ≡ numberOf es (Option·map (kidBy l m) o)
-      go none d = nothing
-      go (some q) d = one q d (ℕ-discrete (number es q) 0)
+  kid-link l m x y o d =
+      let small : kidWord l m < 9 = omega (arith, kid-word-lt l m x y) in
+      kid-read r (λ k. linkOf u cap k (kidWord l m)) Apart l m x y never (λ k q e c. link-at k (kidWord l m) small q e c ∙ ap (numberOf es) (around-kid-by g l m x y q)) o d
 
   own-up : linkOf u cap n 0 ≡ numberOf es (parent p)
   own-up = linked n 0 (omega arith) (a .own-parent) ∙ ap (λ (o : Option Place). numberOf es (getD (around g o) 0 none)) h ∙ ap (numberOf es) (around-parent g (some p))

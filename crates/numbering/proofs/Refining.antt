@@ -41,7 +41,7 @@ pub record Refinable (s : State) (n : ℕ) (p : Place) (x : Cell) : Type 0 where
   pub low : p .depth < base (gridOf s) + 12
   pub room : lacking (s .entries) (wanted (gridOf s) p) ≤ freeCount (s .entries)
 
-refinable : (s : State) → Valid s → (n : ℕ) → refusal (checks s (refine n)) ≡ 0 → (p : Place) × (x : Cell) × Refinable s n p x
+pub refinable : (s : State) → Valid s → (n : ℕ) → refusal (checks s (refine n)) ≡ 0 → (p : Place) × (x : Cell) × Refinable s n p x
 unfolding checks missing
 refinable s v n ok =
     let (a₁, h₁) = passes 6 _ _ (λ z. omega arith) ok in
@@ -109,24 +109,24 @@ module _ (s : State) (v : Valid s) (n : ℕ) (p : Place) (x : Cell) (r : Refinab
   abbrev after : List Entry
   after = fill (kids p) (some (kidCell x)) (given .entries)
 
-  have : Gave s given (wanted g p)
+  pub have : Gave s given (wanted g p)
   have = gave (wanted g p) (wanted-distinct g p) s (valid-numbered v) (r .room)
 
-  here : T (c p)
+  pub here : T (c p)
   here = cell-there (s .entries) n p x (r .stood)
 
-  kids-there : (q : Place) → In q (kids p) → number (given .entries) q ≢ 0
+  pub kids-there : (q : Place) → In q (kids p) → number (given .entries) q ≢ 0
   kids-there q i = have .there q (kid-wanted g p q i)
 
-  after-numbered : Numbered after
+  pub after-numbered : Numbered after
   after-numbered = fill-numbered (kids p) (some (kidCell x)) (given .entries) (have .numbered)
 
-  after-contents : (q : Place) → contents after q ≡ cond (any (same q) (kids p)) (some (kidCell x)) (contents (s .entries) q)
+  pub after-contents : (q : Place) → contents after q ≡ cond (any (same q) (kids p)) (some (kidCell x)) (contents (s .entries) q)
   after-contents q =
       fill-contents (kids p) (some (kidCell x)) (given .entries) (have .numbered) kids-there q
       ∙ ap (cond (any (same q) (kids p)) (some (kidCell x))) (gave-contents have (valid-numbered v) q)
 
-  after-cells : cells after ≡ grown c (kids p)
+  pub after-cells : cells after ≡ grown c (kids p)
   after-cells = fun-ext (λ q.
       cells-contents after after-numbered q ∙ ap isSome (after-contents q)
       ∙ go (any (same q) (kids p)) (contents (s .entries) q)
@@ -185,7 +185,7 @@ module _ (s : State) (v : Valid s) (n : ℕ) (p : Place) (x : Cell) (r : Refinab
           let xy : x ≡ y = Option·some-injective _ _ (sym (entry-contents (s .entries) (valid-numbered v) n p (some x) (r .stood)) ∙ ap (contents (s .entries)) (sym qp) ∙ e) in
           subst T (ap (λ (z : Cell). z .sentenced) (sym xy) ∙ r .not-sentenced) t
 
-  after-valid : Valid (withEntries s after)
+  pub after-valid : Valid (withEntries s after)
   after-valid = record {
     sizes = rw long (v .sizes);
     rectangle = v .rectangle;
@@ -236,7 +236,7 @@ module _ (s : State) (v : Valid s) (n : ℕ) (p : Place) (x : Cell) (r : Refinab
 
   -- ---- it is what the request makes
 
-  effect-is : effect s (refine n) ≡ withEntries s after
+  pub effect-is : effect s (refine n) ≡ withEntries s after
   unfolding effect
   effect-is = rw (r .stood) (ap (λ (h : Header). record { header = h; entries = after }) (have .header-same))
 
