@@ -21,7 +21,7 @@ pub fn is_vacant(t: &[i32], n: usize) -> bool
 
 // Whether the number n is that of a patch.
 pub fn is_taken(t: &[i32], cap: usize, n: usize) -> bool
-    requires { ⌜ cap * rowWords + rowWords ≤ length (now t) ⌝ }
+    requires { ⌜ (cap * rowWords + rowWords ≤ length (now t)) × (cap ≤ 4095) ⌝ }
     ensures { λ r. ⌜ r ≡ taken (now (t .entry)) cap n ⌝ }
 {
     if n == 0 {
@@ -35,7 +35,7 @@ pub fn is_taken(t: &[i32], cap: usize, n: usize) -> bool
 
 // Whether the cell n has kids.
 pub fn has_kids(t: &[i32], cap: usize, n: usize) -> bool
-    requires { ⌜ (cap * rowWords + rowWords ≤ length (now t)) × (n ≤ cap) ⌝ }
+    requires { ⌜ (cap * rowWords + rowWords ≤ length (now t)) × (n ≤ cap) × (cap ≤ 4095) ⌝ }
     ensures { λ r. ⌜ r ≡ parental (now (t .entry)) cap n ⌝ }
 {
     link(t, cap, n, 1) != 0
@@ -43,7 +43,7 @@ pub fn has_kids(t: &[i32], cap: usize, n: usize) -> bool
 
 // Whether the patch that the word w of the row n names is sentenced.
 fn doomed(t: &[i32], cap: usize, n: usize, w: usize) -> bool
-    requires { ⌜ (cap * rowWords + rowWords ≤ length (now t)) × (n ≤ cap) × (w < rowWords) ⌝ }
+    requires { ⌜ (cap * rowWords + rowWords ≤ length (now t)) × (n ≤ cap) × (w < rowWords) × (cap ≤ 4095) ⌝ }
     ensures { λ r. ⌜ r ≡ flagOf (now (t .entry)) 12 (linkOf (now (t .entry)) cap n w) ⌝ }
 {
     flag(t, 12, link(t, cap, n, w))
@@ -51,7 +51,7 @@ fn doomed(t: &[i32], cap: usize, n: usize, w: usize) -> bool
 
 // Whether the four kids of the row n are sentenced.
 pub fn kids_doomed(t: &[i32], cap: usize, n: usize) -> bool
-    requires { ⌜ (cap * rowWords + rowWords ≤ length (now t)) × (n ≤ cap) ⌝ }
+    requires { ⌜ (cap * rowWords + rowWords ≤ length (now t)) × (n ≤ cap) × (cap ≤ 4095) ⌝ }
     ensures { λ r. ⌜ r ≡ kidsDoomed (now (t .entry)) cap n ⌝ }
 {
     let a = doomed(t, cap, n, 1);
@@ -63,7 +63,7 @@ pub fn kids_doomed(t: &[i32], cap: usize, n: usize) -> bool
 
 // 1 where the word w of the row n names none, and otherwise 0.
 fn lacks(t: &[i32], cap: usize, n: usize, w: usize) -> usize
-    requires { ⌜ (cap * rowWords + rowWords ≤ length (now t)) × (n ≤ cap) × (w < rowWords) ⌝ }
+    requires { ⌜ (cap * rowWords + rowWords ≤ length (now t)) × (n ≤ cap) × (w < rowWords) × (cap ≤ 4095) ⌝ }
     ensures { λ r. ⌜ (r ≤ 1) × (r ≡ cond (eqb (linkOf (now (t .entry)) cap n w) 0) 1 0) ⌝ }
 {
     if link(t, cap, n, w) == 0 { 1 } else { 0 }
@@ -71,7 +71,7 @@ fn lacks(t: &[i32], cap: usize, n: usize, w: usize) -> usize
 
 // How many of the nine patches that a refinement of the cell n wants are missing.
 pub fn lack_count(t: &[i32], cap: usize, n: usize) -> usize
-    requires { ⌜ (cap * rowWords + rowWords ≤ length (now t)) × (n ≤ cap) ⌝ }
+    requires { ⌜ (cap * rowWords + rowWords ≤ length (now t)) × (n ≤ cap) × (cap ≤ 4095) ⌝ }
     ensures { λ r. ⌜ (r ≤ 9) × (r ≡ lacking (now (t .entry)) cap n) ⌝ }
 {
     let north = link(t, cap, n, 5);
@@ -93,7 +93,7 @@ fn left_past(t: &[i32], k: usize, m: usize) -> usize
 
 // Whether m numbers are free: the search ends as soon as they are found.
 pub fn is_enough(t: &[i32], cap: usize, m: usize) -> bool
-    requires { ⌜ cap * rowWords + rowWords ≤ length (now t) ⌝ }
+    requires { ⌜ (cap * rowWords + rowWords ≤ length (now t)) × (cap ≤ 4095) ⌝ }
     ensures { λ r. ⌜ r ≡ enough (now (t .entry)) cap m ⌝ }
 {
     let mut left = m;
@@ -110,7 +110,7 @@ pub fn is_enough(t: &[i32], cap: usize, m: usize) -> bool
 
 // Whether a cell other than n lies l levels under the row m: the walk ends at the first one.
 pub fn other_under(t: &[i32], cap: usize, n: usize, l: u32, m: usize) -> bool
-    requires { ⌜ (cap * rowWords + rowWords ≤ length (now t)) × (m ≤ cap) ⌝ }
+    requires { ⌜ (cap * rowWords + rowWords ≤ length (now t)) × (m ≤ cap) × (cap ≤ 4095) ⌝ }
     ensures { λ r. ⌜ r ≡ otherUnder (now (t .entry)) cap n l m ⌝ }
 {
     if m == 0 {

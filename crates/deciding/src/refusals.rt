@@ -18,7 +18,7 @@ use table::words::flag;
 
 // The two checks that every kind begins with: the number is that of a patch, and the patch is a cell.
 fn cell_refusal(t: &[i32], cap: usize, n: usize) -> u32
-    requires { ⌜ cap * rowWords + rowWords ≤ length (now t) ⌝ }
+    requires { ⌜ (cap * rowWords + rowWords ≤ length (now t)) × (cap ≤ 4095) ⌝ }
     ensures { λ r. ⌜ r ≡ refusal (row6 (now (t .entry)) cap n ∷ row7 (now (t .entry)) cap n ∷ []) ⌝ }
 {
     if !is_taken(t, cap, n) {
@@ -28,7 +28,7 @@ fn cell_refusal(t: &[i32], cap: usize, n: usize) -> u32
 }
 
 pub fn refine_refusal(t: &[i32], cap: usize, d: u32, n: usize) -> u32
-    requires { ⌜ (cap * rowWords + rowWords ≤ length (now t)) × (d ≤ 32) ⌝ }
+    requires { ⌜ (cap * rowWords + rowWords ≤ length (now t)) × (d ≤ 32) × (cap ≤ 4095) ⌝ }
     ensures { λ r. ⌜ r ≡ refineRefusal (now (t .entry)) cap d n ⌝ }
 {
     let r = cell_refusal(t, cap, n);
@@ -52,7 +52,7 @@ pub fn refine_refusal(t: &[i32], cap: usize, d: u32, n: usize) -> u32
 }
 
 pub fn sentence_refusal(t: &[i32], cap: usize, d: u32, n: usize) -> u32
-    requires { ⌜ (cap * rowWords + rowWords ≤ length (now t)) × (d ≤ 32) ⌝ }
+    requires { ⌜ (cap * rowWords + rowWords ≤ length (now t)) × (d ≤ 32) × (cap ≤ 4095) ⌝ }
     ensures { λ r. ⌜ r ≡ sentenceRefusal (now (t .entry)) cap d n ⌝ }
 {
     let r = cell_refusal(t, cap, n);
@@ -66,7 +66,7 @@ pub fn sentence_refusal(t: &[i32], cap: usize, d: u32, n: usize) -> u32
 }
 
 pub fn remove_refusal(t: &[i32], cap: usize, n: usize) -> u32
-    requires { ⌜ cap * rowWords + rowWords ≤ length (now t) ⌝ }
+    requires { ⌜ (cap * rowWords + rowWords ≤ length (now t)) × (cap ≤ 4095) ⌝ }
     ensures { λ r. ⌜ r ≡ removeRefusal (now (t .entry)) cap n ⌝ }
 {
     let r = cell_refusal(t, cap, n);
@@ -80,7 +80,7 @@ pub fn remove_refusal(t: &[i32], cap: usize, n: usize) -> u32
 }
 
 pub fn kill_refusal(t: &[i32], cap: usize, d: u32, n: usize) -> u32
-    requires { ⌜ (cap * rowWords + rowWords ≤ length (now t)) × (1 ≤ cap) × (d ≤ 32) ⌝ }
+    requires { ⌜ (cap * rowWords + rowWords ≤ length (now t)) × (1 ≤ cap) × (d ≤ 32) × (cap ≤ 4095) ⌝ }
     ensures { λ r. ⌜ r ≡ killRefusal (now (t .entry)) cap d n ⌝ }
 {
     let r = cell_refusal(t, cap, n);
@@ -97,7 +97,7 @@ pub fn kill_refusal(t: &[i32], cap: usize, d: u32, n: usize) -> u32
 }
 
 pub fn set_refusal(t: &[i32], cap: usize, n: usize, x: f64) -> u32
-    requires { ⌜ cap * rowWords + rowWords ≤ length (now t) ⌝ }
+    requires { ⌜ (cap * rowWords + rowWords ≤ length (now t)) × (cap ≤ 4095) ⌝ }
     ensures { λ r. ⌜ r ≡ setRefusal (now (t .entry)) cap n x ⌝ }
 {
     let r = cell_refusal(t, cap, n);

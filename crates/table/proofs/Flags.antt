@@ -39,12 +39,12 @@ pub flags-sum : (t : List ℤ) (cap d n : ℕ) (sentenced : Bool) {h v i j south
     west ≡ (flagOf t 0 n || flagOf t 0 (linkOf t cap n 8)) →
     edges ≡ (h || (flagOf t 4 (linkOf t cap n 8) || (v || flagOf t 5 (linkOf t cap n 7)))) →
     inners ≡ (i || (flagOf t 8 (linkOf t cap n 8) || (j || flagOf t 9 (linkOf t cap n 7)))) →
-    edged ≡ (flagOf t 0 n && (h || (flagOf t 4 (linkOf t cap n 5) || (v || flagOf t 5 (linkOf t cap n 6))))) →
-    fenced ≡ (flagOf t 0 n && (i || (flagOf t 8 (linkOf t cap n 5) || (j || flagOf t 9 (linkOf t cap n 6))))) →
     c ≡ flagOf t 0 n →
+    edged ≡ (h || (flagOf t 4 (linkOf t cap n 5) || (v || flagOf t 5 (linkOf t cap n 6)))) →
+    fenced ≡ (i || (flagOf t 8 (linkOf t cap n 5) || (j || flagOf t 9 (linkOf t cap n 6)))) →
     p ≡ four c south west edges →
-    q ≡ four h v edged inners →
-    r ≡ four i j fenced false →
+    q ≡ four h v (c && edged) inners →
+    r ≡ four i j (c && fenced) false →
     u ≡ 4096 * cond sentenced 1 0 →
     p + 16 * q + 256 * r + u ≡ digits (flagsFrom t cap d n sentenced)
 flags-sum t cap d n sentenced a1 a2 a3 a4 a5 a6 a7 a8 a9 a10 a11 a12 a13 a14 a15 = cc (flags-by-four t cap d n sentenced)

@@ -8,11 +8,12 @@ use native.Mathlib.Omega.{arith}
 use lib.Dec.{lit≤}
 use lib.ListN.{getD}
 use lib.IntN.{ℤ}
-use Rattle.mesh.specs.Place.{NE, compass}
+use Rattle.mesh.specs.Place.{Wind, NE, compass}
 use Rattle.mesh.specs.Winds.{winds, wordOfWind, compassAt}
 use Rattle.mesh.specs.declared.Compass.{Compass}
 use Rattle.table.specs.Words.{wordOf, linkOf}
 use Rattle.table.specs.Worked.{kidWord, staysIn, sideOf}
+use Rattle.table.specs.Sides.{sideBy}
 
 pub record At (i : ℕ) : Type 0 where
   pub east : compassAt i .east ≡ compass (getD winds i NE) .east
@@ -36,18 +37,25 @@ at (suc (suc (suc (suc (suc (suc (suc (suc i)))))))) h = let no : ⊥ = omega ar
 pub small : (x : Compass) (i : ℕ) → i < 8 → x ≡ compassAt i → (x .east ≤ 2) × (x .north ≤ 2)
 small x i h e = rw e (at i h .east-small, at i h .north-small)
 
-module _ (t : List ℤ) (cap n : ℕ) where
+module _ (t : List ℤ) (cap p l m : ℕ) where
   -- the row of a neighbour, by offsets and by the word of the parent's neighbour
-  abbrev pub beside : ℕ → ℕ → ℕ → ℕ
-  beside east north w =
-      let p = linkOf t cap n 0 in
-      let a = wordOf t n 10 % 2 + east in
-      let b = wordOf t n 11 % 2 + north in
+  abbrev pub across : ℕ → ℕ → ℕ → ℕ
+  across east north w =
+      let a = l + east in
+      let b = m + north in
       linkOf t cap (cond (staysIn a && staysIn b) p (linkOf t cap p w)) (kidWord ((a + 1) % 2) ((b + 1) % 2))
 
-  pub side-at : (i : ℕ) → i < 8 → beside (compassAt i .east) (compassAt i .north) (i + 1) ≡ sideOf t cap n (getD winds i NE)
-  unfolding sideOf
+  pub side-at : (i : ℕ) → i < 8 → across (compassAt i .east) (compassAt i .north) (i + 1) ≡ sideBy t cap p l m (getD winds i NE)
+  unfolding sideBy
   side-at i h =
-      ap (λ e. beside e (compassAt i .north) (i + 1)) (at i h .east)
-      ∙ ap (λ m. beside (compass (getD winds i NE) .east) m (i + 1)) (at i h .north)
-      ∙ ap (beside (compass (getD winds i NE) .east) (compass (getD winds i NE) .north)) (at i h .word)
+      ap (λ e. across e (compassAt i .north) (i + 1)) (at i h .east)
+      ∙ ap (λ m. across (compass (getD winds i NE) .east) m (i + 1)) (at i h .north)
+      ∙ ap (across (compass (getD winds i NE) .east) (compass (getD winds i NE) .north)) (at i h .word)
+
+-- of a row
+pub side-digits : (t : List ℤ) (cap n : ℕ) (w : Wind) → sideOf t cap n w ≡ sideBy t cap (linkOf t cap n 0) (wordOf t n 10 % 2) (wordOf t n 11 % 2) w
+unfolding sideOf sideBy
+side-digits t cap n w = refl
+
+pub side-of : (t : List ℤ) (cap n i : ℕ) {p u w r : ℕ} → p ≡ linkOf t cap n 0 → u ≡ wordOf t n 10 → w ≡ wordOf t n 11 → r ≡ sideBy t cap p (u % 2) (w % 2) (getD winds i NE) → r ≡ sideOf t cap n (getD winds i NE)
+side-of t cap n i a b c e = rw (side-digits, ← a, ← b, ← c) e

@@ -1,17 +1,17 @@
 -- A signed word and its code: each law goes by the two signs.
 -- Assumes nothing.
-use mathlib.Core.Path.{_≡_, refl, ap, sym, subst}
-use mathlib.Core.Bool.{true, false}
+use mathlib.Core.Path.{_≡_, refl, ap, sym, subst, _∙_}
+use mathlib.Core.Bool.{true, false, _&&_, cond}
 use Prim.Native.Nat.{ℕ, suc, _+_, _-_, _<_, _≤_}
 use native.Mathlib.Omega.{arith}
-use lib.Dec.{T}
-use borrow.Author.Tests.{leb-false, lt-ltb, le-ltb}
-use lib.IntN.{ℤ, pos, negsuc, subℕ}
+use lib.Dec.{T, eqb, leb}
+use borrow.Author.Tests.{leb-true, leb-false, lt-ltb, le-ltb, le-leb, lt-leb, ne-eqb}
+use lib.IntN.{ℤ, pos, negsuc, natAbs, subℕ}
 use lib.Signed.{leZ}
 use mir.Syntax.{w32}
 use mir.Val.{SFits, toZ, ofZ}
 use mir.Facts.{toZ-ofZ, toZ-pos, toZ-neg}
-use Rattle.table.specs.Words.{code}
+use Rattle.table.specs.Words.{code, depthFrom}
 
 -- ---- what the test `x >= 0` leaves, in each arm
 
@@ -60,3 +60,65 @@ pub level-above : (a b : ℕ) → b ≤ a → a < 2147483648 → toZ w32 (a - b)
 level-above a b h k =
     let l : a - b < 2147483648 = omega arith in
     rw (le-ltb a b h) (toZ-pos w32 l)
+
+-- ---- what is known of a word by comparisons of the signed word
+
+-- at most a number below 2 ^ 31
+most : (m : ℕ) → m < 2147483648 → (z : ℤ) → leZ z (toZ w32 m) ≡ leZ z (pos m)
+most m h z = ap (leZ z) (toZ-pos w32 h)
+
+-- a word of a row is the number of a row or 0
+pub within-is : (m : ℕ) → m ≤ 4095 → {z : ℤ} → SFits w32 z → (leZ (pos 0) (toZ w32 (ofZ w32 z)) && leZ (toZ w32 (ofZ w32 z)) (toZ w32 m)) ≡ leb (code z) m
+within-is m h {z} f = rw (toZ-ofZ f, most m (omega arith) z) (go z f)
+  where
+    go : (z : ℤ) → SFits w32 z → (leZ (pos 0) z && leZ z (pos m)) ≡ leb (code z) m
+    go (pos n) f = rw (le-leb 0 n (omega arith))
+    go (negsuc n) f = sym (lt-leb (2147483648 + n) m (omega arith))
+
+-- a word that is compared with a number below 2 ^ 31, by their bits
+pub same-is : (k : ℕ) → k < 2147483648 → {z : ℤ} → SFits w32 z → eqb (ofZ w32 z) k ≡ eqb (code z) k
+same-is k h {z} f = go z f
+  where
+    go : (z : ℤ) → SFits w32 z → eqb (ofZ w32 z) k ≡ eqb (code z) k
+    go (pos n) f = refl
+    go (negsuc n) f =
+        let s : n < 2147483648 = f .sfits in
+        ne-eqb (4294967296 - suc n) k (λ e. omega arith) ∙ sym (ne-eqb (2147483648 + n) k (λ e. omega arith))
+
+-- the row that a word names, in each arm of the tests
+module _ (m : ℕ) (h : m ≤ 4095) {z : ℤ} where
+  pub link-kept : Plus z → leZ z (toZ w32 m) ≡ true → (natAbs z ≤ m) × (natAbs z ≡ cond (leb (code z) m) (code z) 0)
+  link-kept p e = rw (p .is) (kept (rw (p .is, most m (omega arith)) at e))
+    where
+      kept : leZ (pos (p .size)) (pos m) ≡ true → (p .size ≤ m) × (p .size ≡ cond (leb (p .size) m) (p .size) 0)
+      kept q = (leb-true (p .size) m q, rw q)
+
+  pub link-past : Plus z → leZ z (toZ w32 m) ≡ false → (0 ≤ m) × (0 ≡ cond (leb (code z) m) (code z) 0)
+  link-past p e = rw (p .is) (past (rw (p .is, most m (omega arith)) at e))
+    where
+      past : leZ (pos (p .size)) (pos m) ≡ false → (0 ≤ m) × (0 ≡ cond (leb (p .size) m) (p .size) 0)
+      past q = (omega arith, rw q)
+
+  pub link-none : Minus z → (0 ≤ m) × (0 ≡ cond (leb (code z) m) (code z) 0)
+  link-none n =
+      let l : m < 2147483648 + n .size = omega arith in
+      (omega arith, rw (n .is, lt-leb (2147483648 + n .size) m l))
+
+-- the depth that a level says, in each arm of the tests
+module _ (d : ℕ) {z : ℤ} where
+  pub depth-plus : (p : Plus z) → d ≤ 32 → (natAbs z + d < 2147483680) × (natAbs z + d ≡ depthFrom d (code z))
+  depth-plus p h =
+      let s : p .size < 2147483648 = p .small in
+      rw (p .is) (omega arith, rw (lt-ltb (p .size) 2147483648 s))
+
+  pub depth-minus : (m : Minus z) → m .size < d → d ≤ 32 → (d - 1 - m .size < 2147483680) × (d - 1 - m .size ≡ depthFrom d (code z))
+  depth-minus m l h =
+      let e : 2147483648 + m .size - 2147483648 ≡ m .size = omega arith in
+      let s : 2147483648 ≤ 2147483648 + m .size = omega arith in
+      (omega arith, rw (m .is, le-ltb (2147483648 + m .size) 2147483648 s, e, lt-ltb (m .size) d l))
+
+  pub depth-none : (m : Minus z) → d ≤ m .size → d ≤ 32 → (d + 13 < 2147483680) × (d + 13 ≡ depthFrom d (code z))
+  depth-none m l h =
+      let e : 2147483648 + m .size - 2147483648 ≡ m .size = omega arith in
+      let s : 2147483648 ≤ 2147483648 + m .size = omega arith in
+      (omega arith, rw (m .is, le-ltb (2147483648 + m .size) 2147483648 s, e, le-ltb (m .size) d l))

@@ -1,10 +1,10 @@
 -- What a branch says of a choice: the arm that a true test takes, and the arm that a false one takes.
 -- Assumes nothing.
-use mathlib.Core.Path.{_≡_, _∙_}
+use mathlib.Core.Path.{_≡_, refl, sym, _∙_}
 use mathlib.Core.Bool.{Bool, true, false, cond}
 use Prim.Native.Nat.{ℕ, _≤_, _<_}
 use native.Mathlib.Omega.{arith}
-use borrow.Author.Tests.{eq-eqb, ne-eqb, lt-ltb, le-ltb, le-leb, lt-leb}
+use borrow.Author.Tests.{eq-eqb, ne-eqb, lt-ltb, le-ltb, le-leb, lt-leb, leb-false}
 use lib.Dec.{eqb, leb, ltb}
 
 pub chosen : {A : Type 0} (b : Bool) (x y : A) → b ≡ true → x ≡ cond b x y
@@ -12,13 +12,6 @@ chosen b x y e = rw e
 
 pub passed : {A : Type 0} (b : Bool) (x y : A) → b ≡ false → y ≡ cond b x y
 passed b x y e = rw e
-
--- a number that a bound keeps, and one that it does not
-pub kept : (x y m : ℕ) → x ≡ y → x ≤ m → x ≡ cond (leb y m) y 0
-kept x y m e h = let l : y ≤ m = omega arith in rw (le-leb y m l) e
-
-pub dropped : (x y m : ℕ) → x ≡ y → m < x → 0 ≡ cond (leb y m) y 0
-dropped x y m e h = let l : m < y = omega arith in rw (lt-leb y m l)
 
 -- a test of a definition, by a test of a number that equals it
 module _ {x y k : ℕ} (e : x ≡ y) where
@@ -39,3 +32,11 @@ module _ {x y k : ℕ} (e : x ≡ y) where
 
   pub is-past : k < x → leb y k ≡ false
   is-past h = lt-leb y k (omega arith)
+
+-- a number equals what a bound keeps of it exactly where it is within the bound
+pub named-is : (y m : ℕ) → leb y m ≡ eqb y (cond (leb y m) y 0)
+named-is y m = go (leb y m) refl
+  where
+    go : (b : Bool) → leb y m ≡ b → b ≡ eqb y (cond b y 0)
+    go true e = sym (eq-eqb y y refl)
+    go false e = sym (ne-eqb y 0 (λ q. omega (arith, leb-false y m e)))

@@ -2,4 +2,5 @@
 pub mod Digits
 pub mod Words
 pub mod Worked
+pub mod Sides
 pub mod Writes

@@ -1,6 +1,7 @@
 // The words of a row as numbers, and its links as rows of the table, whatever stands in it.
 ghost use mathlib.Core.Path.{_≡_};
 ghost use Prim.Native.Nat.{_+_, _*_, _<_, _≤_};
+ghost use lib.Dec.{eqb};
 ghost use lib.ListN.{length, getD};
 ghost use lib.IntN.{pos};
 ghost use Rattle.mesh.specs.Picture.{rowWords};
@@ -39,11 +40,36 @@ pub fn word(t: &[i32], n: usize, w: usize) -> u32
 
 // The row that the word w of the row n names, or 0 where it names none of 1 to the capacity.
 pub fn link(t: &[i32], cap: usize, n: usize, w: usize) -> usize
-    requires { ⌜ (cap * rowWords + rowWords ≤ length (now t)) × (n ≤ cap) × (w < rowWords) ⌝ }
+    requires { ⌜ (cap * rowWords + rowWords ≤ length (now t)) × (n ≤ cap) × (w < rowWords) × (cap ≤ 4095) ⌝ }
     ensures { λ r. ⌜ (r ≤ cap) × (r ≡ linkOf (now (t .entry)) cap n w) ⌝ }
 {
-    let k = word(t, n, w) as usize;
-    if k <= cap { k } else { 0 }
+    // A capacity that is seen to fit 16 bits makes the two tests one.
+    let top = cap as u16 as i32;
+    let x = raw(t, n, w);
+    if x >= 0 {
+        if x <= top {
+            return x as usize;
+        }
+    }
+    0
+}
+
+// Whether the word w of the row n is the number of a row, or 0.
+pub fn named(t: &[i32], cap: usize, n: usize, w: usize) -> bool
+    requires { ⌜ (cap * rowWords + rowWords ≤ length (now t)) × (n ≤ cap) × (w < rowWords) × (cap ≤ 4095) ⌝ }
+    ensures { λ r. ⌜ r ≡ eqb (wordOf (now (t .entry)) n w) (linkOf (now (t .entry)) cap n w) ⌝ }
+{
+    let top = cap as u16 as i32;
+    let x = raw(t, n, w);
+    (x >= 0) & (x <= top)
+}
+
+// Whether the word w of the row n is the number k.
+pub fn says(t: &[i32], n: usize, w: usize, k: u32) -> bool
+    requires { ⌜ (n * rowWords + w < length (now t)) × (k < 2147483648) ⌝ }
+    ensures { λ r. ⌜ r ≡ eqb (wordOf (now (t .entry)) n w) k ⌝ }
+{
+    raw(t, n, w) == k as i32
 }
 
 // The flag of bit k.
@@ -55,14 +81,15 @@ pub fn flag(t: &[i32], k: u32, n: usize) -> bool
 }
 
 // The depth that a level's word says, with level 0 at depth d.
-fn depth_from(d: u32, c: u32) -> u32
+fn depth_from(d: u32, x: i32) -> u32
     requires { ⌜ d ≤ 32 ⌝ }
-    ensures { λ r. ⌜ (r < 2147483680) × (r ≡ depthFrom d c) ⌝ }
+    ensures { λ r. ⌜ (r < 2147483680) × (r ≡ depthFrom d (code x)) ⌝ }
 {
-    if c < 2147483648 {
-        return c + d;
+    if x >= 0 {
+        return x as u32 + d;
     }
-    let below = c - 2147483648;
+    let y = !x;
+    let below = y as u32;
     if below < d { d - 1 - below } else { d + 13 }
 }
 
@@ -71,5 +98,5 @@ pub fn depth(t: &[i32], d: u32, n: usize) -> u32
     requires { ⌜ (n * rowWords + rowWords ≤ length (now t)) × (d ≤ 32) ⌝ }
     ensures { λ r. ⌜ (r < 2147483680) × (r ≡ depthOf (now (t .entry)) d n) ⌝ }
 {
-    depth_from(d, word(t, n, 9))
+    depth_from(d, raw(t, n, 9))
 }

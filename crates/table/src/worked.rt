@@ -1,14 +1,16 @@
 // The words that are worked out from other rows' words: neighbours and flags.
 ghost use mathlib.Core.Path.{_≡_};
 ghost use mathlib.Core.Bool.{cond, _&&_, _||_};
-ghost use Prim.Native.Nat.{_+_, _*_, _<_, _≤_};
+ghost use Prim.Native.Nat.{_+_, _*_, _%_, _<_, _≤_};
+ghost use lib.Dec.{eqb};
 ghost use lib.ListN.{length, getD};
 ghost use Rattle.mesh.specs.Tools.{digits};
 ghost use Rattle.mesh.specs.Place.{NE};
 ghost use Rattle.mesh.specs.Winds.{winds};
 ghost use Rattle.mesh.specs.Picture.{rowWords};
 ghost use Rattle.table.specs.Digits.{four};
-ghost use Rattle.table.specs.Words.{linkOf, flagOf};
+ghost use Rattle.table.specs.Words.{wordOf, linkOf, flagOf, depthOf};
+ghost use Rattle.table.specs.Sides.{sideBy};
 ghost use Rattle.table.specs.Worked.{kidWord, staysIn, sideOf, edgeH, edgeV, innerH, innerV, flagsFrom};
 use crate::words::depth;
 use crate::words::flag;
@@ -33,49 +35,69 @@ fn stays_in(a: u32) -> bool
 
 // The row that a neighbour is a kid of: the parent p, or the parent's neighbour.
 fn hub(t: &[i32], cap: usize, p: usize, w: usize, stays: bool) -> usize
-    requires { ⌜ (cap * rowWords + rowWords ≤ length (now t)) × (p ≤ cap) × (w < rowWords) ⌝ }
+    requires { ⌜ (cap * rowWords + rowWords ≤ length (now t)) × (cap ≤ 4095) × (p ≤ cap) × (w < rowWords) ⌝ }
     ensures { λ r. ⌜ (r ≤ cap) × (r ≡ cond stays p (linkOf (now (t .entry)) cap p w)) ⌝ }
 {
     if stays { p } else { link(t, cap, p, w) }
 }
 
-// The row that is the neighbour in the wind at place w of the table of winds.
-pub fn side(t: &[i32], cap: usize, n: usize, w: usize) -> usize
-    requires { ⌜ (cap * rowWords + rowWords ≤ length (now t)) × (n ≤ cap) × (w < 8) ⌝ }
-    ensures { λ r. ⌜ (r ≤ cap) × (r ≡ sideOf (now (t .entry)) cap n (getD winds w NE)) ⌝ }
+// The row that is the neighbour in the wind at place w of the table of winds: p is the parent, and the place ends in the digits l and m.
+pub fn side_by(t: &[i32], cap: usize, p: usize, l: u32, m: u32, w: usize) -> usize
+    requires { ⌜ (cap * rowWords + rowWords ≤ length (now t)) × (cap ≤ 4095) × (p ≤ cap) × (l < 2) × (m < 2) × (w < 8) ⌝ }
+    ensures { λ r. ⌜ (r ≤ cap) × (r ≡ sideBy (now (t .entry)) cap p l m (getD winds w NE)) ⌝ }
 {
     let c = mesh::wind(w);
-    let a = word(t, n, 10) % 2 + c.east;
-    let b = word(t, n, 11) % 2 + c.north;
-    let p = link(t, cap, n, 0);
+    let a = l + c.east;
+    let b = m + c.north;
     let q = hub(t, cap, p, w + 1, stays_in(a) & stays_in(b));
     link(t, cap, q, kid_word((a + 1) % 2, (b + 1) % 2))
 }
 
+// The row that is the neighbour of the row n.
+pub fn side(t: &[i32], cap: usize, n: usize, w: usize) -> usize
+    requires { ⌜ (cap * rowWords + rowWords ≤ length (now t)) × (cap ≤ 4095) × (n ≤ cap) × (w < 8) ⌝ }
+    ensures { λ r. ⌜ (r ≤ cap) × (r ≡ sideOf (now (t .entry)) cap n (getD winds w NE)) ⌝ }
+{
+    let p = link(t, cap, n, 0);
+    let l = word(t, n, 10) % 2;
+    let m = word(t, n, 11) % 2;
+    side_by(t, cap, p, l, m, w)
+}
+
+// Whether a wall is boundary, if it has one cell: on level 0, and above where the wall of the parent is, by its bit k, and the word w is even.
+pub fn edge(t: &[i32], cap: usize, d: u32, n: usize, one: bool, w: usize, k: u32) -> bool
+    requires { ⌜ (cap * rowWords + rowWords ≤ length (now t)) × (cap ≤ 4095) × (n ≤ cap) × (d ≤ 32) × (w < rowWords) × (k < 32) ⌝ }
+    ensures { λ r. ⌜ r ≡ (one && (eqb (depthOf (now (t .entry)) d n) d || (eqb (wordOf (now (t .entry)) n w % 2) 0 && flagOf (now (t .entry)) k (linkOf (now (t .entry)) cap n 0)))) ⌝ }
+{
+    if !one {
+        return false;
+    }
+    if depth(t, d, n) == d {
+        return true;
+    }
+    (word(t, n, w) % 2 == 0) & flag(t, k, link(t, cap, n, 0))
+}
+
 // A wall of the row with one cell that is boundary: below the place, and left of it.
 pub fn edge_h(t: &[i32], cap: usize, d: u32, n: usize) -> bool
-    requires { ⌜ (cap * rowWords + rowWords ≤ length (now t)) × (n ≤ cap) × (d ≤ 32) ⌝ }
+    requires { ⌜ (cap * rowWords + rowWords ≤ length (now t)) × (cap ≤ 4095) × (n ≤ cap) × (d ≤ 32) ⌝ }
     ensures { λ r. ⌜ r ≡ edgeH (now (t .entry)) cap d n ⌝ }
 {
     let one = flag(t, 0, n) != flag(t, 0, link(t, cap, n, 7));
-    let ground = depth(t, d, n) == d;
-    let even = word(t, n, 11) % 2 == 0;
-    one & (ground | (even & flag(t, 4, link(t, cap, n, 0))))
+    edge(t, cap, d, n, one, 11, 4)
 }
 
 pub fn edge_v(t: &[i32], cap: usize, d: u32, n: usize) -> bool
-    requires { ⌜ (cap * rowWords + rowWords ≤ length (now t)) × (n ≤ cap) × (d ≤ 32) ⌝ }
+    requires { ⌜ (cap * rowWords + rowWords ≤ length (now t)) × (cap ≤ 4095) × (n ≤ cap) × (d ≤ 32) ⌝ }
     ensures { λ r. ⌜ r ≡ edgeV (now (t .entry)) cap d n ⌝ }
 {
     let one = flag(t, 0, n) != flag(t, 0, link(t, cap, n, 8));
-    let ground = depth(t, d, n) == d;
-    let even = word(t, n, 10) % 2 == 0;
-    one & (ground | (even & flag(t, 5, link(t, cap, n, 0))))
+    edge(t, cap, d, n, one, 10, 5)
 }
 
 // A wall with one cell that is not.
 pub fn inner_h(t: &[i32], cap: usize, d: u32, n: usize) -> bool
-    requires { ⌜ (cap * rowWords + rowWords ≤ length (now t)) × (n ≤ cap) × (d ≤ 32) ⌝ }
+    requires { ⌜ (cap * rowWords + rowWords ≤ length (now t)) × (cap ≤ 4095) × (n ≤ cap) × (d ≤ 32) ⌝ }
     ensures { λ r. ⌜ r ≡ innerH (now (t .entry)) cap d n ⌝ }
 {
     let one = flag(t, 0, n) != flag(t, 0, link(t, cap, n, 7));
@@ -83,7 +105,7 @@ pub fn inner_h(t: &[i32], cap: usize, d: u32, n: usize) -> bool
 }
 
 pub fn inner_v(t: &[i32], cap: usize, d: u32, n: usize) -> bool
-    requires { ⌜ (cap * rowWords + rowWords ≤ length (now t)) × (n ≤ cap) × (d ≤ 32) ⌝ }
+    requires { ⌜ (cap * rowWords + rowWords ≤ length (now t)) × (cap ≤ 4095) × (n ≤ cap) × (d ≤ 32) ⌝ }
     ensures { λ r. ⌜ r ≡ innerV (now (t .entry)) cap d n ⌝ }
 {
     let one = flag(t, 0, n) != flag(t, 0, link(t, cap, n, 8));
@@ -92,15 +114,15 @@ pub fn inner_v(t: &[i32], cap: usize, d: u32, n: usize) -> bool
 
 // Whether a cell stands under the number or under its neighbour of the word w.
 fn beside(t: &[i32], cap: usize, n: usize, w: usize) -> bool
-    requires { ⌜ (cap * rowWords + rowWords ≤ length (now t)) × (n ≤ cap) × (w < rowWords) ⌝ }
+    requires { ⌜ (cap * rowWords + rowWords ≤ length (now t)) × (cap ≤ 4095) × (n ≤ cap) × (w < rowWords) ⌝ }
     ensures { λ r. ⌜ r ≡ (flagOf (now (t .entry)) 0 n || flagOf (now (t .entry)) 0 (linkOf (now (t .entry)) cap n w)) ⌝ }
 {
     flag(t, 0, n) | flag(t, 0, link(t, cap, n, w))
 }
 
 // Whether one of the walls that meet at the place is of the kind of bit k: h and v are the row's own.
-fn meets(t: &[i32], cap: usize, k: u32, n: usize, h: bool, v: bool) -> bool
-    requires { ⌜ (cap * rowWords + rowWords ≤ length (now t)) × (n ≤ cap) × (k < 31) ⌝ }
+pub fn meets(t: &[i32], cap: usize, k: u32, n: usize, h: bool, v: bool) -> bool
+    requires { ⌜ (cap * rowWords + rowWords ≤ length (now t)) × (cap ≤ 4095) × (n ≤ cap) × (k < 31) ⌝ }
     ensures { λ r. ⌜ r ≡ (h || (flagOf (now (t .entry)) k (linkOf (now (t .entry)) cap n 8) || (v || flagOf (now (t .entry)) (k + 1) (linkOf (now (t .entry)) cap n 7)))) ⌝ }
 {
     let a = link(t, cap, n, 8);
@@ -108,14 +130,14 @@ fn meets(t: &[i32], cap: usize, k: u32, n: usize, h: bool, v: bool) -> bool
     h | (flag(t, k, a) | (v | flag(t, k + 1, b)))
 }
 
-// Whether the row is a cell with a wall of the kind of bit k.
-fn walled(t: &[i32], cap: usize, k: u32, n: usize, h: bool, v: bool) -> bool
-    requires { ⌜ (cap * rowWords + rowWords ≤ length (now t)) × (n ≤ cap) × (k < 31) ⌝ }
-    ensures { λ r. ⌜ r ≡ (flagOf (now (t .entry)) 0 n && (h || (flagOf (now (t .entry)) k (linkOf (now (t .entry)) cap n 5) || (v || flagOf (now (t .entry)) (k + 1) (linkOf (now (t .entry)) cap n 6))))) ⌝ }
+// Whether one of the walls of the far corners is, with those of the row.
+pub fn meets_far(t: &[i32], cap: usize, k: u32, n: usize, h: bool, v: bool) -> bool
+    requires { ⌜ (cap * rowWords + rowWords ≤ length (now t)) × (cap ≤ 4095) × (n ≤ cap) × (k < 31) ⌝ }
+    ensures { λ r. ⌜ r ≡ (h || (flagOf (now (t .entry)) k (linkOf (now (t .entry)) cap n 5) || (v || flagOf (now (t .entry)) (k + 1) (linkOf (now (t .entry)) cap n 6)))) ⌝ }
 {
     let a = link(t, cap, n, 5);
     let b = link(t, cap, n, 6);
-    flag(t, 0, n) & (h | (flag(t, k, a) | (v | flag(t, k + 1, b))))
+    h | (flag(t, k, a) | (v | flag(t, k + 1, b)))
 }
 
 // The number whose four binary digits these are, lowest first.
@@ -134,7 +156,7 @@ pub fn weigh(b: bool, w: u32) -> u32
 
 // The flags of a row from level 0 up.
 pub fn flags_from(t: &[i32], cap: usize, d: u32, n: usize, sentenced: bool) -> u32
-    requires { ⌜ (cap * rowWords + rowWords ≤ length (now t)) × (n ≤ cap) × (d ≤ 32) ⌝ }
+    requires { ⌜ (cap * rowWords + rowWords ≤ length (now t)) × (cap ≤ 4095) × (n ≤ cap) × (d ≤ 32) ⌝ }
     ensures { λ r. ⌜ r ≡ digits (flagsFrom (now (t .entry)) cap d n sentenced) ⌝ }
 {
     let h = edge_h(t, cap, d, n);
@@ -145,9 +167,10 @@ pub fn flags_from(t: &[i32], cap: usize, d: u32, n: usize, sentenced: bool) -> u
     let west = beside(t, cap, n, 8);
     let edges = meets(t, cap, 4, n, h, v);
     let inners = meets(t, cap, 8, n, i, j);
-    let edged = walled(t, cap, 4, n, h, v);
-    let fenced = walled(t, cap, 8, n, i, j);
-    digits_of_four(flag(t, 0, n), south, west, edges)
+    let c = flag(t, 0, n);
+    let edged = c & meets_far(t, cap, 4, n, h, v);
+    let fenced = c & meets_far(t, cap, 8, n, i, j);
+    digits_of_four(c, south, west, edges)
         + 16 * digits_of_four(h, v, edged, inners)
         + 256 * digits_of_four(i, j, fenced, false)
         + weigh(sentenced, 4096)

@@ -13,13 +13,13 @@ use Rattle.walk.specs.Written.{Wrote}
 
 -- ---- lists
 
-sets-append : (xs ys l : List ℕ) (i : ℕ) → sets l i (xs ++ ys) ≡ sets (sets l i xs) (i + length xs) ys
+pub sets-append : (xs ys l : List ℕ) (i : ℕ) → sets l i (xs ++ ys) ≡ sets (sets l i xs) (i + length xs) ys
 sets-append [] ys l i = rw add-zero
 sets-append (x ∷ xs) ys l i =
     let e : i + suc (length xs) ≡ suc i + length xs = omega arith in
     rw e (sets-append xs ys (set l i x) (suc i))
 
-sets-out : (ys l : List ℕ) (i : ℕ) → length l ≤ i → sets l i ys ≡ l
+pub sets-out : (ys l : List ℕ) (i : ℕ) → length l ≤ i → sets l i ys ≡ l
 sets-out [] l i h = refl
 sets-out (y ∷ ys) l i h =
     let e : set l i y ≡ l = set-out l i y h in

@@ -2,7 +2,6 @@
 -- Assumes nothing.
 use mathlib.Core.Path.{sym, subst}
 use lib.Dec.{T}
-use lib.Ieee.{binary64, fits}
 use Rattle.table.proofs.Bits.{bits-finite, same-no-nan, differs-other}
 use Rattle.table.proofs.values.is_finite.Statement.{statement}
 use Rattle.table.proofs.values.is_finite.Tie as tie

@@ -14,17 +14,8 @@ link-requires c κs = search needs
 flag-requires-2 : tie.Need-flag-requires-2
 flag-requires-2 c κs = search needs
 
-depth-requires : tie.Need-depth-requires
-depth-requires c κs = search needs
-
-word-requires : tie.Need-word-requires
-word-requires c κs = search needs
-
-link-requires-2 : tie.Need-link-requires-2
-link-requires-2 c κs = search needs
-
-flag-requires-3 : tie.Need-flag-requires-3
-flag-requires-3 c κs = search needs
+edge-requires : tie.Need-edge-requires
+edge-requires c κs = search needs
 
 returns : tie.Need-returns
 unfolding edgeH
@@ -32,13 +23,4 @@ returns c = cc
 
 pub edge-h-spec : {M : Type 1} → statement M
 edge-h-spec =
-    tie.close
-    (tie.spec
-    flag-requires
-    link-requires
-    flag-requires-2
-    depth-requires
-    word-requires
-    link-requires-2
-    flag-requires-3
-    returns)
+    tie.close (tie.spec flag-requires link-requires flag-requires-2 edge-requires returns)

@@ -29,14 +29,14 @@ meets-requires c κs = search needs
 meets-requires-2 : tie.Need-meets-requires-2
 meets-requires-2 c κs = search needs
 
-walled-requires : tie.Need-walled-requires
-walled-requires c κs = search needs
-
-walled-requires-2 : tie.Need-walled-requires-2
-walled-requires-2 c κs = search needs
-
 flag-requires : tie.Need-flag-requires
 flag-requires c κs = search needs
+
+meets-far-requires : tie.Need-meets-far-requires
+meets-far-requires c κs = search needs
+
+meets-far-requires-2 : tie.Need-meets-far-requires-2
+meets-far-requires-2 c κs = search needs
 
 digits-of-four-requires : tie.Need-digits-of-four-requires
 digits-of-four-requires c κs = search needs
@@ -67,24 +67,25 @@ add-result-3 c = search needs
 
 returns : tie.Need-returns
 returns c =
-    let b1 = c .before in
-    let b2 = b1 .before in
-    let b3 = b2 .before in
-    let b4 = b3 .before in
-    let b5 = b4 .before in
-    let b6 = b5 .before in
-    let b7 = b6 .before in
-    let b8 = b7 .before in
-    let b9 = b8 .before in
-    let b10 = b9 .before in
-    let b11 = b10 .before in
-    let b12 = b11 .before in
-    let b13 = b12 .before in
-    let b14 = b13 .before in
-    let b15 = b14 .before in
-    flags-sum (b15 .args .t .now) (b15 .args .cap) (b15 .args .d) (b15 .args .n) (b15 .args .sentenced)
-    (b14 .edge-h .ensures) (b13 .edge-v .ensures) (b12 .inner-h .ensures) (b11 .inner-v .ensures) (b10 .beside .ensures) (b9 .beside2 .ensures) (b8 .meets .ensures) (b7 .meets2 .ensures) (b6 .walled .ensures) (b5 .walled2 .ensures) (b4 .flag .ensures)
-    (b3 .digits-of-four .ensures .1) (b2 .digits-of-four2 .ensures .1) (b1 .digits-of-four3 .ensures .1) (c .weigh .ensures .1)
+    let p1 = c .before in
+    let p2 = p1 .before in
+    let p3 = p2 .before in
+    let p4 = p3 .before in
+    let p5 = p4 .before in
+    let p6 = p5 .before in
+    let p7 = p6 .before in
+    let p8 = p7 .before in
+    let p9 = p8 .before in
+    let p10 = p9 .before in
+    let p11 = p10 .before in
+    let p12 = p11 .before in
+    let p13 = p12 .before in
+    let p14 = p13 .before in
+    let p15 = p14 .before in
+    flags-sum (p15 .args .t .now) (p15 .args .cap) (p15 .args .d) (p15 .args .n) (p15 .args .sentenced)
+    (p14 .edge-h .ensures) (p13 .edge-v .ensures) (p12 .inner-h .ensures) (p11 .inner-v .ensures) (p10 .beside .ensures) (p9 .beside2 .ensures) (p8 .meets .ensures) (p7 .meets2 .ensures)
+    (p6 .flag .ensures) (p5 .meets-far .ensures) (p4 .meets-far2 .ensures)
+    (p3 .digits-of-four .ensures .1) (p2 .digits-of-four2 .ensures .1) (p1 .digits-of-four3 .ensures .1) (c .weigh .ensures .1)
 
 pub flags-from-spec : {M : Type 1} → statement M
 flags-from-spec =
@@ -98,9 +99,9 @@ flags-from-spec =
     beside-requires-2
     meets-requires
     meets-requires-2
-    walled-requires
-    walled-requires-2
     flag-requires
+    meets-far-requires
+    meets-far-requires-2
     digits-of-four-requires
     digits-of-four-requires-2
     mul-result

@@ -1,6 +1,5 @@
 -- `table::put_level` meets its contract.
 -- Assumes nothing.
-use mathlib.Core.Path.{_∙_}
 use mir.Facts.{toZ-ofZ}
 use borrow.Author.Needs.{needs, sfits-of}
 use borrow.Author.Needs.{needs}

@@ -1,0 +1,3 @@
+-- The dossier page, row by row, and what a pen draws.
+pub mod Rows
+pub mod Pens

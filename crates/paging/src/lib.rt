@@ -1,0 +1,1 @@
+// The page by rows is the dossier page.

@@ -1,0 +1,152 @@
+-- The tests of a ghost, of a point and of a cell, from the words and flags that were read.
+-- Assumes nothing.
+use mathlib.Core.Path.{_≡_, refl, sym, ap, _∙_}
+use mathlib.Core.Bool.{Bool, true, false, not, _&&_, _||_, Bool·beq, and-true, and-assoc}
+use mathlib.Core.List.{List}
+use Prim.Native.Nat.{ℕ}
+use native.Mathlib.Omega.{arith}
+use lib.Dec.{eqb}
+use lib.IntN.{ℤ}
+use lib.Ieee.{Float}
+use borrow.Author.Tests.{eqb-true}
+use Rattle.mesh.specs.Tools.{digits}
+use Rattle.mesh.specs.Place.{Grid, base}
+use Rattle.table.specs.Words.{wordOf, linkOf, flagOf, depthOf}
+use Rattle.table.specs.Worked.{flagsFrom}
+use Rattle.checking.specs.Rowwise.{ghostOk, touchedOk, cellOk, sentenceOk, pointOk}
+use Rattle.sound.specs.Parts.{kidCells, insideOf}
+
+clash : {A : Type 0} → false ≡ true → A
+clash h = let z : _≡_ {A = ℕ} 0 1 = cc in let no : ⊥ = omega arith in absurd no
+
+-- ---- the four kids
+
+module _ (t : List ℤ) (cap n : ℕ) where
+  pub kid-cells-is : (x : Bool) {a b c e : ℕ} {i j k l : Bool} →
+      a ≡ linkOf t cap n 1 →
+      i ≡ flagOf t 0 a →
+      b ≡ linkOf t cap n 2 →
+      j ≡ flagOf t 0 b →
+      c ≡ linkOf t cap n 3 →
+      k ≡ flagOf t 0 c →
+      e ≡ linkOf t cap n 4 →
+      l ≡ flagOf t 0 e →
+      (Bool·beq i x && Bool·beq j x && Bool·beq k x && Bool·beq l x) ≡ kidCells t cap n x
+  kid-cells-is x a i b j c k e l = rw (i, j, k, l, a, b, c, e) (simp (and-true, and-assoc))
+
+  -- four are alike where the first is like each other one
+  alike : (i j k l : Bool) →
+      (Bool·beq i j && Bool·beq i k && Bool·beq i l) ≡
+      ((Bool·beq i true && (Bool·beq j true && (Bool·beq k true && (Bool·beq l true && true)))) ||
+      (Bool·beq i false && (Bool·beq j false && (Bool·beq k false && (Bool·beq l false && true)))))
+  alike true true true true = refl
+  alike true true true false = refl
+  alike true true false l = refl
+  alike true false k l = refl
+  alike false true k l = refl
+  alike false false true l = refl
+  alike false false false true = refl
+  alike false false false false = refl
+
+  module _ {a b c e : ℕ} (p : a ≡ linkOf t cap n 1) (q : b ≡ linkOf t cap n 2) (r : c ≡ linkOf t cap n 3) (s : e ≡ linkOf t cap n 4) where
+    pub agree-is : {i j k l : Bool} → i ≡ flagOf t 0 a → j ≡ flagOf t 0 b → k ≡ flagOf t 0 c → l ≡ flagOf t 0 e → (Bool·beq i j && Bool·beq i k && Bool·beq i l) ≡ (kidCells t cap n true || kidCells t cap n false)
+    agree-is {i} {j} {k} {l} x y z u = rw (← p, ← q, ← r, ← s, ← x, ← y, ← z, ← u) (alike i j k l)
+
+    all-zero : (x y z u : Bool) → (x && y && z && u) ≡ true → (x ≡ true) × (y ≡ true) × (z ≡ true) × (u ≡ true)
+    all-zero true true true true h = (refl, refl, refl, refl)
+    all-zero true true true false h = (refl, refl, refl, h)
+    all-zero true true false u h = (refl, refl, h, clash h)
+    all-zero true false z u h = (refl, h, clash h, clash h)
+    all-zero false y z u h = (h, clash h, clash h, clash h)
+
+    one-flag : (i : Bool) → true ≡ (Bool·beq i i && Bool·beq i i && Bool·beq i i)
+    one-flag true = refl
+    one-flag false = refl
+
+    -- without kids all four are the nil patch
+    pub agree-none : (eqb a 0 && eqb b 0 && eqb c 0 && eqb e 0) ≡ true → true ≡ (kidCells t cap n true || kidCells t cap n false)
+    agree-none h =
+        let (x, y, z, u) = all-zero (eqb a 0) (eqb b 0) (eqb c 0) (eqb e 0) h in
+        one-flag (flagOf t 0 0) ∙ agree-is (ap (flagOf t 0) (sym (eqb-true a 0 x))) (ap (flagOf t 0) (sym (eqb-true b 0 y))) (ap (flagOf t 0) (sym (eqb-true c 0 z))) (ap (flagOf t 0) (sym (eqb-true e 0 u)))
+
+module _ (g : Grid) (cap : ℕ) (t : List ℤ) (v : List Float) (n : ℕ) where
+  -- ---- ghosts, and what touches a patch
+
+  pub ghost-is : {a b c e : ℕ} {f : Bool} →
+      a ≡ linkOf t cap n 1 →
+      b ≡ linkOf t cap n 2 →
+      c ≡ linkOf t cap n 3 →
+      e ≡ linkOf t cap n 4 →
+      f ≡ eqb (wordOf t n 12) 0 →
+      (f && not (eqb a 0 && eqb b 0 && eqb c 0 && eqb e 0)) ≡ ghostOk g cap t v n
+  unfolding ghostOk
+  ghost-is a b c e f = rw (a, b, c, e, f) (simp (and-true, and-assoc))
+
+  pub touched-own : {c : Bool} → c ≡ flagOf t 0 n → c ≡ true → true ≡ touchedOk g cap t v n
+  unfolding touchedOk
+  touched-own c h = rw (← c, h)
+
+  pub touched-is : {west south corner : ℕ} {o a b c : Bool} →
+      o ≡ flagOf t 0 n →
+      o ≡ false →
+      west ≡ linkOf t cap n 8 →
+      south ≡ linkOf t cap n 7 →
+      corner ≡ linkOf t cap west 7 →
+      a ≡ flagOf t 0 west →
+      b ≡ flagOf t 0 south →
+      c ≡ flagOf t 0 corner →
+      (a || (b || c)) ≡ touchedOk g cap t v n
+  unfolding touchedOk
+  touched-is o h w s k a b c = rw (← o, h, a, b, c, k, s, w)
+
+  -- ---- cells
+
+  pub cell-is : {d north east corner : ℕ} {inside kids : Bool} →
+      d ≡ base g →
+      north ≡ linkOf t cap n 5 →
+      east ≡ linkOf t cap n 6 →
+      corner ≡ linkOf t cap east 5 →
+      inside ≡ insideOf t cap (g .columns) (g .rows) d n →
+      kids ≡ (kidCells t cap n true || kidCells t cap n false) →
+      (not (eqb east 0) && not (eqb north 0) && not (eqb corner 0) && inside && kids) ≡ cellOk g cap t v n
+  unfolding cellOk
+  cell-is d u e k i w = rw (w, i, k, e, u, d) (simp (and-true, and-assoc))
+
+  pub sentence-is : {d e : ℕ} {c bare : Bool} →
+      d ≡ base g →
+      c ≡ flagOf t 0 n →
+      e ≡ depthOf t d n →
+      bare ≡ kidCells t cap n false →
+      (c && not (eqb e d) && bare) ≡ sentenceOk g cap t v n
+  unfolding sentenceOk
+  sentence-is d c e b = rw (c, e, b, d) (simp (and-true, and-assoc))
+
+  -- ---- points, by whether the row is a cell
+
+  module _ {d : ℕ} {s c : Bool} (ground : d ≡ base g) (mark : s ≡ flagOf t 12 n) (own : c ≡ flagOf t 0 n) where
+    module _ (cell : c ≡ true) {a : Bool} (first : a ≡ cellOk g cap t v n) where
+      pub point-no-cell : a ≡ false → false ≡ pointOk g cap t v n
+      unfolding pointOk touchedOk
+      point-no-cell h = rw (← own, cell, ← first, h)
+
+      module _ (one : a ≡ true) {b : Bool} (second : b ≡ (not s || sentenceOk g cap t v n)) where
+        pub point-no-sentence : b ≡ false → false ≡ pointOk g cap t v n
+        unfolding pointOk touchedOk
+        point-no-sentence h = rw (← own, cell, ← first, one, ← mark, ← second, h)
+
+        pub point-cell : b ≡ true → {w : ℕ} {r : Bool} → w ≡ digits (flagsFrom t cap d n s) → r ≡ eqb (wordOf t n 12) w → r ≡ pointOk g cap t v n
+        unfolding pointOk touchedOk
+        point-cell h w r = rw (← own, cell, ← first, one, ← mark, ← second, h, ← ground, ← w, and-true) r
+
+    module _ (bare : c ≡ false) {a : Bool} (first : a ≡ touchedOk g cap t v n) where
+      pub point-untouched : a ≡ false → false ≡ pointOk g cap t v n
+      unfolding pointOk
+      point-untouched h = rw (← first, h)
+
+      pub point-sentenced : a ≡ true → s ≡ true → false ≡ pointOk g cap t v n
+      unfolding pointOk sentenceOk
+      point-sentenced h k = rw (← first, h, ← own, bare, ← mark, k)
+
+      pub point-bare : a ≡ true → s ≡ false → {w : ℕ} {r : Bool} → w ≡ digits (flagsFrom t cap d n false) → r ≡ eqb (wordOf t n 12) w → r ≡ pointOk g cap t v n
+      unfolding pointOk
+      point-bare h k w r = rw (← first, h, ← own, bare, ← mark, k, ← ground, ← w, and-true) r

@@ -1,0 +1,8 @@
+-- The tests of a row, as the code makes them from what it read, are those of the definitions.
+pub mod EmptyRows
+pub mod Family
+pub mod FlagSums
+pub mod CellRows
+pub mod ValueRows
+pub mod Linked
+pub mod Loop

@@ -1,0 +1,96 @@
+-- `sound::rowwise` meets its contract. The invariant: the rows up to k pass.
+-- Assumes nothing.
+use mathlib.Core.Path.{_≡_, refl}
+use mathlib.Core.Bool.{true}
+use Prim.Native.Nat.{_-_, _≤_}
+use borrow.Author.Tests.{not-true, not-false}
+use Rattle.mesh.specs.Place.{rectangle}
+use Rattle.checking.specs.Rowwise.{below}
+use Rattle.sound.proofs.Loop.{good, rows-more, no-zero, no-root, no-row, all-rows}
+use borrow.Author.Needs.{needs}
+use native.Mathlib.Omega.{arith}
+use Rattle.sound.proofs.rowwise.Statement.{statement}
+use Rattle.sound.proofs.rowwise.Tie as tie
+
+abbrev Inv-loop : tie.InvT-loop
+Inv-loop t v cap columns rows d k₀ k = (k ≤ cap) × (below k (good (rectangle columns rows) cap t v) ≡ true)
+
+abbrev μ-loop : tie.MeasureT-loop
+μ-loop t v cap columns rows d k₀ k = cap - k
+
+zero-ok-requires : tie.Need-zero-ok-requires Inv-loop μ-loop
+zero-ok-requires c κs = search needs
+
+returns : tie.Need-returns Inv-loop μ-loop
+returns c =
+    let p1 = c .before in
+    no-zero _ _ _ _ (p1 .zero-ok .ensures) (not-true _ (c .if1 .taken))
+
+says-requires : tie.Need-says-requires Inv-loop μ-loop
+says-requires c κs = search needs
+
+returns-2 : tie.Need-returns-2 Inv-loop μ-loop
+returns-2 c =
+    let p1 = c .before in
+    let p2 = p1 .before in
+    let p3 = p2 .before in
+    no-root _ _ _ _ (p3 .zero-ok .ensures) (not-false _ (p2 .if1 .left)) (p1 .says .ensures) (c .if2 .taken)
+
+loop-holds : tie.Need-loop-holds Inv-loop μ-loop
+loop-holds c = (search needs, refl)
+
+add-row-ok : tie.Need-add-row-ok Inv-loop μ-loop
+add-row-ok c = search needs
+
+row-ok-requires : tie.Need-row-ok-requires Inv-loop μ-loop
+row-ok-requires c κs = search needs
+
+returns-3 : tie.Need-returns-3 Inv-loop μ-loop
+returns-3 c =
+    let p1 = c .before in
+    let p3 = p1 .before .before in
+    let p4 = p3 .before in
+    let p5 = p4 .before in
+    let p6 = p5 .before in
+    let p7 = p6 .before in
+    no-row _ _ _ _ (p7 .zero-ok .ensures) (not-false _ (p6 .if1 .left)) (p5 .says .ensures) (p4 .if2 .left) (p3 .loop .k) (omega arith) (p1 .row-ok .ensures) (not-true _ (c .if3 .taken))
+
+add-k : tie.Need-add-k Inv-loop μ-loop
+add-k c = search needs
+
+loop-less : tie.Need-loop-less Inv-loop μ-loop
+loop-less c = search needs
+
+loop-again : tie.Need-loop-again Inv-loop μ-loop
+loop-again c =
+    let p1 = c .before in
+    let p3 = p1 .before .before in
+    (search needs, rows-more _ _ _ _ (p3 .loop .k) (p3 .loop .inv .1) (p1 .row-ok .ensures) (not-false _ (c .if3 .left)))
+
+returns-4 : tie.Need-returns-4 Inv-loop μ-loop
+returns-4 c =
+    let p1 = c .before in
+    let p2 = p1 .before in
+    let p3 = p2 .before in
+    let p4 = p3 .before in
+    let p5 = p4 .before in
+    all-rows _ _ _ _ (p5 .zero-ok .ensures) (not-false _ (p4 .if1 .left)) (p3 .says .ensures) (p2 .if2 .left) (p1 .loop .k) (omega arith) (p1 .loop .inv .1)
+
+pub rowwise-spec : {M : Type 1} → statement M
+rowwise-spec =
+    tie.close
+    (tie.spec
+    Inv-loop
+    μ-loop
+    zero-ok-requires
+    returns
+    says-requires
+    returns-2
+    loop-holds
+    add-row-ok
+    row-ok-requires
+    returns-3
+    add-k
+    loop-less
+    loop-again
+    returns-4)

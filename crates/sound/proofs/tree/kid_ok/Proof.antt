@@ -1,0 +1,63 @@
+-- `sound::kid_ok` meets its contract, by whether there is a kid.
+-- Assumes nothing.
+use Rattle.sound.proofs.Family.{kid-none, kid-some}
+use borrow.Author.Needs.{needs}
+use Rattle.sound.proofs.tree.kid_ok.Statement.{statement}
+use Rattle.sound.proofs.tree.kid_ok.Tie as tie
+
+kid-word-requires : tie.Need-kid-word-requires
+kid-word-requires c κs = search needs
+
+link-requires : tie.Need-link-requires
+link-requires c κs = search needs
+
+named-requires : tie.Need-named-requires
+named-requires c κs = search needs
+
+returns : tie.Need-returns
+returns c =
+    let p1 = c .before in
+    let p2 = p1 .before in
+    let p3 = p2 .before in
+    kid-none _ _ _ _ _ _ _ (p3 .kid-word .ensures .1) (p2 .link .ensures .1) (p1 .named .ensures) (c .if1 .taken)
+
+says-requires : tie.Need-says-requires
+says-requires c κs = search needs
+
+cast-says : tie.Need-cast-says
+cast-says c = search needs
+
+says-requires-2 : tie.Need-says-requires-2
+says-requires-2 c κs = search needs
+
+word-requires : tie.Need-word-requires
+word-requires c κs = search needs
+
+word-requires-2 : tie.Need-word-requires-2
+word-requires-2 c κs = search needs
+
+returns-2 : tie.Need-returns-2
+returns-2 c =
+    let p1 = c .before in
+    let p2 = p1 .before in
+    let p3 = p2 .before in
+    let p4 = p3 .before in
+    let p5 = p4 .before in
+    let p6 = p5 .before in
+    let p7 = p6 .before in
+    kid-some _ _ _ _ _ _ _ (p7 .kid-word .ensures .1) (p6 .link .ensures .1) (p5 .named .ensures) (p4 .if1 .left) (p3 .says .ensures) (p2 .says2 .ensures) (p1 .word .ensures) (c .word2 .ensures)
+
+pub kid-ok-spec : {M : Type 1} → statement M
+kid-ok-spec =
+    tie.close
+    (tie.spec
+    kid-word-requires
+    link-requires
+    named-requires
+    returns
+    says-requires
+    cast-says
+    says-requires-2
+    word-requires
+    word-requires-2
+    returns-2)

@@ -1,0 +1,63 @@
+-- `sound::kids_ok` meets its contract: the kids in turn.
+-- Assumes nothing.
+use borrow.Author.Tests.{not-true, not-false}
+use Rattle.sound.proofs.Family.{kids-no1, kids-no2, kids-no3, kids-is}
+use borrow.Author.Needs.{needs}
+use Rattle.sound.proofs.tree.kids_ok.Statement.{statement}
+use Rattle.sound.proofs.tree.kids_ok.Tie as tie
+
+kid-ok-requires : tie.Need-kid-ok-requires
+kid-ok-requires c κs = search needs
+
+returns : tie.Need-returns
+returns c =
+    let p1 = c .before in
+    kids-no1 _ _ _ _ _ (p1 .kid-ok .ensures) (not-true _ (c .if1 .taken))
+
+kid-ok-requires-2 : tie.Need-kid-ok-requires-2
+kid-ok-requires-2 c κs = search needs
+
+returns-2 : tie.Need-returns-2
+returns-2 c =
+    let p1 = c .before in
+    let p2 = p1 .before in
+    let p3 = p2 .before in
+    kids-no2 _ _ _ _ _ (p3 .kid-ok .ensures) (not-false _ (p2 .if1 .left)) (p1 .kid-ok2 .ensures) (not-true _ (c .if2 .taken))
+
+kid-ok-requires-3 : tie.Need-kid-ok-requires-3
+kid-ok-requires-3 c κs = search needs
+
+returns-3 : tie.Need-returns-3
+returns-3 c =
+    let p1 = c .before in
+    let p2 = p1 .before in
+    let p3 = p2 .before in
+    let p4 = p3 .before in
+    let p5 = p4 .before in
+    kids-no3 _ _ _ _ _ (p5 .kid-ok .ensures) (not-false _ (p4 .if1 .left)) (p3 .kid-ok2 .ensures) (not-false _ (p2 .if2 .left)) (p1 .kid-ok3 .ensures) (not-true _ (c .if3 .taken))
+
+kid-ok-requires-4 : tie.Need-kid-ok-requires-4
+kid-ok-requires-4 c κs = search needs
+
+returns-4 : tie.Need-returns-4
+returns-4 c =
+    let p1 = c .before in
+    let p2 = p1 .before in
+    let p3 = p2 .before in
+    let p4 = p3 .before in
+    let p5 = p4 .before in
+    let p6 = p5 .before in
+    kids-is _ _ _ _ _ (p6 .kid-ok .ensures) (not-false _ (p5 .if1 .left)) (p4 .kid-ok2 .ensures) (not-false _ (p3 .if2 .left)) (p2 .kid-ok3 .ensures) (not-false _ (p1 .if3 .left)) (c .kid-ok4 .ensures)
+
+pub kids-ok-spec : {M : Type 1} → statement M
+kids-ok-spec =
+    tie.close
+    (tie.spec
+    kid-ok-requires
+    returns
+    kid-ok-requires-2
+    returns-2
+    kid-ok-requires-3
+    returns-3
+    kid-ok-requires-4
+    returns-4)

@@ -1,0 +1,17 @@
+-- A table and values that are long enough for a capacity, and the depth of level 0 of a rectangle.
+-- Assumes nothing.
+use Prim.Native.Nat.{ℕ, _+_, _*_, _≤_, _<_}
+use mathlib.Core.Path.{_≡_}
+use mathlib.Core.List.{List}
+use lib.ListN.{length}
+use lib.IntN.{ℤ}
+use lib.Ieee.{Float}
+use Rattle.mesh.specs.Place.{base, rectangle}
+use Rattle.mesh.specs.Picture.{rowWords}
+
+pub record Lent (t : List ℤ) (v : List Float) (cap columns rows d : ℕ) : Type 0 where
+  pub words : cap * rowWords + rowWords ≤ length t
+  pub values : cap < length v
+  pub small : cap ≤ 4095
+  pub depth : d ≡ base (rectangle columns rows)
+  pub shallow : d ≤ 32

@@ -1,0 +1,3 @@
+-- What a check of rows requires of what is lent to it.
+pub mod Lent
+pub mod Parts

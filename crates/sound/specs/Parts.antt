@@ -1,0 +1,43 @@
+-- Parts of the tests of a row that have no name there.
+-- Assumes nothing.
+use Prim.Native.Nat.{ℕ}
+use mathlib.Core.Bool.{Bool, not, _&&_, cond}
+use mathlib.Core.List.{List, [], _∷_}
+use lib.Dec.{eqb, ltb}
+use lib.ListN.{getD}
+use lib.IntN.{ℤ}
+use lib.Ieee.{Float}
+use Rattle.mesh.specs.Tools.{every}
+use Rattle.mesh.specs.Place.{rectangle, N, E, S, W}
+use Rattle.mesh.specs.State.{plusZero}
+use Rattle.mesh.specs.Test.{sameFloat}
+use Rattle.table.specs.Words.{wordOf, linkOf, flagOf, depthOf}
+use Rattle.table.specs.Sides.{sideBy}
+use Rattle.checking.specs.Rowwise.{below, kidCellsAre}
+
+module _ (t : List ℤ) (cap : ℕ) where
+  -- each of the four kids is a cell, or none is: the rectangle and the values play no part
+  abbrev pub kidCells : ℕ → Bool → Bool
+  kidCells n b = kidCellsAre (rectangle 0 0) cap t [] n b
+
+  -- a cell of level 0 lies in the rectangle, and any other in a cell of the level below
+  abbrev pub insideOf : ℕ → ℕ → ℕ → ℕ → Bool
+  insideOf columns rows d n = cond (eqb (depthOf t d n) d) (ltb (wordOf t n 10) columns && ltb (wordOf t n 11) rows) (flagOf t 0 (linkOf t cap n 0))
+
+  -- "its parent is not blank, and the value bits are the parent's"
+  abbrev pub carried : List Float → ℕ → Bool
+  carried v n = every (eqb (wordOf t n 13) 2 ∷ not (eqb (wordOf t (linkOf t cap n 0) 13) 0) ∷ sameFloat (getD v (linkOf t cap n 0) plusZero) (getD v n plusZero) ∷ [])
+
+  -- each link names a row or none
+  abbrev pub linked : ℕ → Bool
+  linked n = below 9 (λ w. eqb (wordOf t n w) (linkOf t cap n w))
+
+  -- each neighbour is the one that the parent p and the digits l and m give
+  unfoldable pub sidesBy : ℕ → ℕ → ℕ → ℕ → Bool
+  sidesBy n p l m =
+      every (
+      eqb (wordOf t n 5) (sideBy t cap p l m N) ∷
+      eqb (wordOf t n 6) (sideBy t cap p l m E) ∷
+      eqb (wordOf t n 7) (sideBy t cap p l m S) ∷
+      eqb (wordOf t n 8) (sideBy t cap p l m W) ∷
+      [])

@@ -1,0 +1,164 @@
+// Ghosts, points and cells.
+ghost use mathlib.Core.Path.{_≡_};
+ghost use mathlib.Core.Bool.{true, false, not, _||_};
+ghost use Prim.Native.Nat.{_+_, _*_, _≤_};
+ghost use lib.ListN.{length};
+ghost use Rattle.mesh.specs.Place.{rectangle};
+ghost use Rattle.mesh.specs.Picture.{rowWords};
+ghost use Rattle.checking.specs.Rowwise.{ghostOk, touchedOk, cellOk, sentenceOk, pointOk};
+ghost use Rattle.sound.specs.Lent.{Lent};
+ghost use Rattle.sound.specs.Parts.{kidCells, insideOf};
+use crate::flags::bare_flags;
+use crate::flags::cell_flags;
+use table::words::depth;
+use table::words::flag;
+use table::words::link;
+use table::words::says;
+use table::words::word;
+
+// A ghost has flags 0 and a kid.
+pub fn ghost_ok(t: &[i32], v: &[f64], cap: usize, columns: u32, rows: u32, d: u32, n: usize) -> bool
+    requires { ⌜ Lent (now t) (now v) cap columns rows d × (n ≤ cap) ⌝ }
+    ensures { λ r. ⌜ r ≡ ghostOk (rectangle columns rows) cap (now (t .entry)) (now (v .entry)) n ⌝ }
+{
+    let none = (link(t, cap, n, 1) == 0)
+        & (link(t, cap, n, 2) == 0)
+        & (link(t, cap, n, 3) == 0)
+        & (link(t, cap, n, 4) == 0);
+    says(t, n, 12, 0) & !none
+}
+
+// A patch is touched by a cell.
+pub fn touched_ok(
+    t: &[i32],
+    v: &[f64],
+    cap: usize,
+    columns: u32,
+    rows: u32,
+    d: u32,
+    n: usize,
+) -> bool
+    requires { ⌜ Lent (now t) (now v) cap columns rows d × (n ≤ cap) ⌝ }
+    ensures { λ r. ⌜ r ≡ touchedOk (rectangle columns rows) cap (now (t .entry)) (now (v .entry)) n ⌝ }
+{
+    if flag(t, 0, n) {
+        return true;
+    }
+    let west = link(t, cap, n, 8);
+    let south = link(t, cap, n, 7);
+    let corner = link(t, cap, west, 7);
+    flag(t, 0, west) | (flag(t, 0, south) | flag(t, 0, corner))
+}
+
+// Whether each of the four kids is a cell, or none is.
+fn kid_cells_are(t: &[i32], cap: usize, n: usize, b: bool) -> bool
+    requires { ⌜ (cap * rowWords + rowWords ≤ length (now t)) × (cap ≤ 4095) × (n ≤ cap) ⌝ }
+    ensures { λ r. ⌜ r ≡ kidCells (now (t .entry)) cap n b ⌝ }
+{
+    (flag(t, 0, link(t, cap, n, 1)) == b)
+        & (flag(t, 0, link(t, cap, n, 2)) == b)
+        & (flag(t, 0, link(t, cap, n, 3)) == b)
+        & (flag(t, 0, link(t, cap, n, 4)) == b)
+}
+
+// Whether the kids are four cells or none.
+fn kids_agree(t: &[i32], cap: usize, n: usize) -> bool
+    requires { ⌜ (cap * rowWords + rowWords ≤ length (now t)) × (cap ≤ 4095) × (n ≤ cap) ⌝ }
+    ensures { λ r. ⌜ r ≡ (kidCells (now (t .entry)) cap n true || kidCells (now (t .entry)) cap n false) ⌝ }
+{
+    let a = link(t, cap, n, 1);
+    let b = link(t, cap, n, 2);
+    let c = link(t, cap, n, 3);
+    let e = link(t, cap, n, 4);
+    if (a == 0) & (b == 0) & (c == 0) & (e == 0) {
+        return true;
+    }
+    let i = flag(t, 0, a);
+    (i == flag(t, 0, b)) & (i == flag(t, 0, c)) & (i == flag(t, 0, e))
+}
+
+// Whether a cell lies in the rectangle, or in a cell of the level below.
+fn inside(t: &[i32], cap: usize, columns: u32, rows: u32, d: u32, n: usize) -> bool
+    requires { ⌜ (cap * rowWords + rowWords ≤ length (now t)) × (cap ≤ 4095) × (n ≤ cap) × (d ≤ 32) ⌝ }
+    ensures { λ r. ⌜ r ≡ insideOf (now (t .entry)) cap columns rows d n ⌝ }
+{
+    if depth(t, d, n) == d {
+        return (word(t, n, 10) < columns) & (word(t, n, 11) < rows);
+    }
+    flag(t, 0, link(t, cap, n, 0))
+}
+
+// A cell has its patches E, N and NE, and its kids are four cells or none.
+pub fn cell_ok(t: &[i32], v: &[f64], cap: usize, columns: u32, rows: u32, d: u32, n: usize) -> bool
+    requires { ⌜ Lent (now t) (now v) cap columns rows d × (n ≤ cap) ⌝ }
+    ensures { λ r. ⌜ r ≡ cellOk (rectangle columns rows) cap (now (t .entry)) (now (v .entry)) n ⌝ }
+{
+    let north = link(t, cap, n, 5);
+    let east = link(t, cap, n, 6);
+    let corner = link(t, cap, east, 5);
+    (east != 0)
+        & (north != 0)
+        & (corner != 0)
+        & inside(t, cap, columns, rows, d, n)
+        & kids_agree(t, cap, n)
+}
+
+// A sentenced row is a leaf above level 0.
+pub fn sentence_ok(
+    t: &[i32],
+    v: &[f64],
+    cap: usize,
+    columns: u32,
+    rows: u32,
+    d: u32,
+    n: usize,
+) -> bool
+    requires { ⌜ Lent (now t) (now v) cap columns rows d × (n ≤ cap) ⌝ }
+    ensures { λ r. ⌜ r ≡ sentenceOk (rectangle columns rows) cap (now (t .entry)) (now (v .entry)) n ⌝ }
+{
+    flag(t, 0, n) & !(depth(t, d, n) == d) & kid_cells_are(t, cap, n, false)
+}
+
+// What is asked of a sentenced row, if the row is one.
+fn sentence_if(
+    t: &[i32],
+    v: &[f64],
+    cap: usize,
+    columns: u32,
+    rows: u32,
+    d: u32,
+    n: usize,
+    sentenced: bool,
+) -> bool
+    requires { ⌜ Lent (now t) (now v) cap columns rows d × (n ≤ cap) ⌝ }
+    ensures { λ r. ⌜ r ≡ (not sentenced || sentenceOk (rectangle columns rows) cap (now (t .entry)) (now (v .entry)) n) ⌝ }
+{
+    if sentenced {
+        return sentence_ok(t, v, cap, columns, rows, d, n);
+    }
+    true
+}
+
+// A row from level 0 up.
+pub fn point_ok(t: &[i32], v: &[f64], cap: usize, columns: u32, rows: u32, d: u32, n: usize) -> bool
+    requires { ⌜ Lent (now t) (now v) cap columns rows d × (n ≤ cap) ⌝ }
+    ensures { λ r. ⌜ r ≡ pointOk (rectangle columns rows) cap (now (t .entry)) (now (v .entry)) n ⌝ }
+{
+    let sentenced = flag(t, 12, n);
+    if flag(t, 0, n) {
+        if !cell_ok(t, v, cap, columns, rows, d, n) {
+            return false;
+        }
+        if !sentence_if(t, v, cap, columns, rows, d, n, sentenced) {
+            return false;
+        }
+        return says(t, n, 12, cell_flags(t, cap, d, n, sentenced));
+    }
+    if !touched_ok(t, v, cap, columns, rows, d, n) {
+        return false;
+    }
+    if sentenced {
+        return false;
+    }
+    says(t, n, 12, bare_flags(t, cap, d, n))
+}
