@@ -20,9 +20,12 @@ use Rattle.pictures.proofs.Decoding.{digits-back}
 
 -- ---- one word
 
--- no word is above 2 ^ 31 - 1
+-- no word is above 2 ^ 31 - 1: one of them, and all
+abbrev pub FitsAt : List ℤ → ℕ → Type 0
+FitsAt t i = (n : ℕ) → getD t i (pos 0) ≡ pos n → n < 2147483648
+
 abbrev pub Fits : List ℤ → Type 0
-Fits t = (i n : ℕ) → getD t i (pos 0) ≡ pos n → n < 2147483648
+Fits t = (i : ℕ) → FitsAt t i
 
 pub code-pos : (z : ℤ) → code z < 2147483648 → z ≡ pos (code z)
 code-pos (pos n) h = refl

@@ -6,3 +6,4 @@ pub mod CellRows
 pub mod ValueRows
 pub mod Linked
 pub mod Loop
+pub mod Checking

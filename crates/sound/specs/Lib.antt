@@ -1,3 +1,4 @@
 -- What a check of rows requires of what is lent to it.
 pub mod Lent
 pub mod Parts
+pub mod Called

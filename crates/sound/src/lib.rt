@@ -1,5 +1,6 @@
 // The test that a lent table is sound, row by row and by links.
 pub mod amounts;
+pub mod checks;
 pub mod empty;
 pub mod flags;
 pub mod points;

@@ -1,0 +1,112 @@
+-- The checker's answer: each early return is the first check that refuses, and past them all the test by rows is the test of soundness.
+-- Assumes nothing.
+use Prim.Native.Nat.{ℕ, _+_, _-_, _*_, _≤_, _<_, max}
+use native.Mathlib.Omega.{arith}
+use mathlib.Core.Path.{_≡_, refl, sym, ap, _∙_}
+use mathlib.Core.Logic.{_≢_}
+use mathlib.Core.Bool.{Bool, true, false, not, _&&_, _||_}
+use mathlib.Core.List.{List}
+use lib.Dec.{eqb, leb}
+use lib.Count.{leadingZeros}
+use lib.ListN.{length, getD, List·getD-eq-default}
+use lib.IntN.{ℤ, pos}
+use lib.Ieee.{Float}
+use lib.Signed.{mag}
+use native.Mathlib.Decide.{decLt}
+use borrow.Author.Tests.{eq-eqb, ne-eqb, le-leb, lt-leb}
+use Rattle.mesh.specs.Picture.{rowWords}
+use Rattle.mesh.specs.Test.{sound}
+use Rattle.mesh.specs.Refusal.{refusal}
+use Rattle.mesh.specs.Call.{outside, lentChecks, checkCall}
+use Rattle.mesh.specs.Place.{Grid, base, rectangle}
+use Rattle.checking.specs.Rowwise.{rowwise}
+use Rattle.checking.proofs.Words.{Fits, FitsAt}
+use Rattle.checking.proofs.Agreeing.{rowwise-is-sound}
+use Rattle.sound.specs.Called.{lentOf}
+
+below-out : (low high n : ℕ) → n < low → outside low high n ≡ true
+below-out low high n h = rw (lt-leb low n h)
+
+above-out : (low high n : ℕ) → high < n → outside low high n ≡ true
+above-out low high n h = rw (lt-leb n high h) (go (leb low n))
+  where
+    go : (b : Bool) → not (b && false) ≡ true
+    go true = refl
+    go false = refl
+
+in-range : (low high n : ℕ) → low ≤ n → n ≤ high → outside low high n ≡ false
+in-range low high n a b = rw (le-leb low n a, le-leb n high b)
+
+last : (a b c : Bool) → c ≡ true → (a || (b || c)) ≡ true
+last true b c e = refl
+last false true c e = refl
+last false false c e = e
+
+either : (a b : Bool) → b ≡ true → (a || b) ≡ true
+either true b e = refl
+either false b e = e
+
+-- a depth is at most a word's width
+pub shallow : (g : Grid) → base g ≤ 32
+unfolding base
+shallow g = let h : 32 - leadingZeros 32 (max (g .columns) (g .rows)) ≤ 32 = omega arith in h
+
+-- a word of 32 bits with a sign
+pub word-fits : (z : ℤ) → mag z < 2147483648 → (n : ℕ) → z ≡ pos n → n < 2147483648
+word-fits z h n e = let f : mag (pos n) < 2147483648 = rw e at h in f
+
+-- past the end there is nothing but 0
+pub all-fit : (t : List ℤ) (k : ℕ) → length t ≤ k → ((i : ℕ) → i < k → FitsAt t i) → Fits t
+all-fit t k l h i = go (decLt i k)
+  where
+    go : Dec (i < k) → FitsAt t i
+    go (yes x) = h i x
+    go (no x) = word-fits (getD t i (pos 0)) (rw (List·getD-eq-default t (pos 0) {n = i} (omega arith)) (omega arith))
+
+module _ (columns rows mark cap : ℕ) (t : List ℤ) (v : List Float) where
+  pub too-small : cap < 5 → 1 ≡ checkCall cap (lentOf columns rows mark t v)
+  unfolding checkCall lentChecks refusal
+  too-small h = rw (last (not (eqb (length t) (rowWords * (cap + 1)))) (not (eqb (length v) (cap + 1))) (outside 5 4095 cap) (below-out 5 4095 cap h))
+
+  pub too-large : 4095 < cap → 1 ≡ checkCall cap (lentOf columns rows mark t v)
+  unfolding checkCall lentChecks refusal
+  too-large h = rw (last (not (eqb (length t) (rowWords * (cap + 1)))) (not (eqb (length v) (cap + 1))) (outside 5 4095 cap) (above-out 5 4095 cap h))
+
+  pub wrong-table : length t ≢ rowWords * (cap + 1) → 1 ≡ checkCall cap (lentOf columns rows mark t v)
+  unfolding checkCall lentChecks refusal
+  wrong-table h = rw (ne-eqb (length t) (rowWords * (cap + 1)) h)
+
+  pub wrong-values : length v ≢ cap + 1 → 1 ≡ checkCall cap (lentOf columns rows mark t v)
+  unfolding checkCall lentChecks refusal
+  wrong-values h = rw (ne-eqb (length v) (cap + 1) h) (rw (either (not (eqb (length t) (rowWords * (cap + 1)))) true refl))
+
+  module _ (size : length t ≡ rowWords * (cap + 1)) (places : length v ≡ cap + 1) (low : 5 ≤ cap) (high : cap ≤ 4095) where
+    pub columns-below : columns < 1 → 2 ≡ checkCall cap (lentOf columns rows mark t v)
+    unfolding checkCall lentChecks refusal
+    columns-below h = rw (eq-eqb (length t) (rowWords * (cap + 1)) size, eq-eqb (length v) (cap + 1) places, in-range 5 4095 cap low high, below-out 1 32 columns h)
+
+    pub columns-above : 32 < columns → 2 ≡ checkCall cap (lentOf columns rows mark t v)
+    unfolding checkCall lentChecks refusal
+    columns-above h = rw (eq-eqb (length t) (rowWords * (cap + 1)) size, eq-eqb (length v) (cap + 1) places, in-range 5 4095 cap low high, above-out 1 32 columns h)
+
+    pub rows-below : rows < 1 → 2 ≡ checkCall cap (lentOf columns rows mark t v)
+    unfolding checkCall lentChecks refusal
+    rows-below h = rw (eq-eqb (length t) (rowWords * (cap + 1)) size, eq-eqb (length v) (cap + 1) places, in-range 5 4095 cap low high, either (outside 1 32 columns) (outside 1 32 rows) (below-out 1 32 rows h))
+
+    pub rows-above : 32 < rows → 2 ≡ checkCall cap (lentOf columns rows mark t v)
+    unfolding checkCall lentChecks refusal
+    rows-above h = rw (eq-eqb (length t) (rowWords * (cap + 1)) size, eq-eqb (length v) (cap + 1) places, in-range 5 4095 cap low high, either (outside 1 32 columns) (outside 1 32 rows) (above-out 1 32 rows h))
+
+    module _ (a : 1 ≤ columns) (b : columns ≤ 32) (c : 1 ≤ rows) (e : rows ≤ 32) (f : Fits t) where
+      is-sound : (x : Bool) → x ≡ rowwise (rectangle columns rows) cap t v → sound (lentOf columns rows mark t v .header) t v ≡ x
+      is-sound x h = sym (rowwise-is-sound (lentOf columns rows mark t v .header) cap t v size places low high (a, b, c, e) f) ∙ sym h
+
+      pub rows-pass : true ≡ rowwise (rectangle columns rows) cap t v → 0 ≡ checkCall cap (lentOf columns rows mark t v)
+      unfolding checkCall lentChecks refusal
+      rows-pass h =
+          rw (eq-eqb (length t) (rowWords * (cap + 1)) size, eq-eqb (length v) (cap + 1) places, in-range 5 4095 cap low high, in-range 1 32 columns a b, in-range 1 32 rows c e, is-sound true h)
+
+      pub rows-fail : false ≡ rowwise (rectangle columns rows) cap t v → 3 ≡ checkCall cap (lentOf columns rows mark t v)
+      unfolding checkCall lentChecks refusal
+      rows-fail h =
+          rw (eq-eqb (length t) (rowWords * (cap + 1)) size, eq-eqb (length v) (cap + 1) places, in-range 5 4095 cap low high, in-range 1 32 columns a b, in-range 1 32 rows c e, is-sound false h)
