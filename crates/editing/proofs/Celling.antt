@@ -84,7 +84,7 @@ put-cells {g} {cap} {es} r f x y (q ∷ qs) (one-more {xs = xs} n ns) there =
 abbrev pub valuesOf : List Entry → List Float
 valuesOf es = map (λ e. amount (valueOf e)) es
 
-put-value : (es : List Entry) → Numbered es → (q : Place) (y : Option Cell) → number es q ≢ 0
+pub put-value : (es : List Entry) → Numbered es → (q : Place) (y : Option Cell) → number es q ≢ 0
     → set (valuesOf es) (number es q) (amount (orElse blank (λ z. z .value) y)) ≡ valuesOf (fill (q ∷ []) y es)
 unfolding fill
 put-value es u q y z =

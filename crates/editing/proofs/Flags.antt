@@ -74,11 +74,11 @@ module _ {g : Grid} {cap : ℕ} {es : List Entry} (r : Rooted g cap es) (f : Fla
 
   -- ---- reading
 
-  zero-flag : (k : ℕ) → flagOf t k 0 ≡ false
+  pub zero-flag : (k : ℕ) → flagOf t k 0 ≡ false
   unfolding flagOf wordOf
   zero-flag k = rw (word-nil g es f 0 12 (lit< tt) (r .numbered .zeroth), zero-div)
 
-  zero-link : (w : Wind) → T (aside w) → linkOf t cap 0 (wordOfWind w) ≡ 0
+  pub zero-link : (w : Wind) → T (aside w) → linkOf t cap 0 (wordOfWind w) ≡ 0
   zero-link w a =
       link-of r f 0 (wordOfWind w) (wind-lt w)
       ∙ ap (λ (x : Entry). numberOf es (getD (around g (placeOf x)) (wordOfWind w) none)) (r .numbered .zeroth)
@@ -95,7 +95,7 @@ module _ {g : Grid} {cap : ℕ} {es : List Entry} (r : Rooted g cap es) (f : Fla
     pub link-side : (w : Wind) → T (aside w) → linkOf t cap n (wordOfWind w) ≡ numberOf es (step g w p)
     link-side w a = link-around (wordOfWind w) (wind-lt w) ∙ ap (numberOf es) (around-side g w a (some p))
 
-    link-parent : linkOf t cap n 0 ≡ numberOf es (parent p)
+    pub link-parent : linkOf t cap n 0 ≡ numberOf es (parent p)
     link-parent = link-around 0 (lit< tt) ∙ ap (numberOf es) (around-parent g (some p))
 
   module _ (n : ℕ) (p : Place) (h : placeOf (entry es n) ≡ some p) where
@@ -114,7 +114,7 @@ module _ {g : Grid} {cap : ℕ} {es : List Entry} (r : Rooted g cap es) (f : Fla
     Level o = (q : Place) → o ≡ some q → q .depth ≡ e
 
     -- a test of rows that fails at row 0 is a test of places that only touched places pass
-    by-place : (x : ℕ → Bool) (y : Place → Bool) → x 0 ≡ false → ((q : Place) → T (y q) → T (touched g c q))
+    pub by-place : (x : ℕ → Bool) (y : Place → Bool) → x 0 ≡ false → ((q : Place) → T (y q) → T (touched g c q))
         → ((n : ℕ) (q : Place) → placeOf (entry es n) ≡ some q → q .depth ≡ e → x n ≡ y q)
         → (q : Place) → q .depth ≡ e → x (number es q) ≡ y q
     by-place x y z only is q d = go (ℕ-discrete (number es q) 0)
@@ -125,17 +125,17 @@ module _ {g : Grid} {cap : ℕ} {es : List Entry} (r : Rooted g cap es) (f : Fla
 
     -- ---- cells
 
-    cell-of : (n : ℕ) (q : Place) → placeOf (entry es n) ≡ some q → q .depth ≡ e → flagOf t 0 n ≡ c q
+    pub cell-of : (n : ℕ) (q : Place) → placeOf (entry es n) ≡ some q → q .depth ≡ e → flagOf t 0 n ≡ c q
     cell-of n q h d = flag-bit n q h 0 ∙ ready .complete q d (stands-in es n q h)
 
     cell-at : (o : Option Place) → Level o → flagOf t 0 (numberOf es o) ≡ on g c o
     cell-at none l = zero-flag 0
     cell-at (some q) l = by-place (flagOf t 0) c (zero-flag 0) (λ q u. corner-touched g c c-here u) cell-of q (l q refl)
 
-    beside : (w : Wind) → T (aside w) → (q : Place) → q .depth ≡ e → Level (step g w q)
+    pub beside : (w : Wind) → T (aside w) → (q : Place) → q .depth ≡ e → Level (step g w q)
     beside w a q d s k = step-depth g w a q s k ∙ d
 
-    cell-side : (w : Wind) → T (aside w) → (n : ℕ) (q : Place) → placeOf (entry es n) ≡ some q → q .depth ≡ e
+    pub cell-side : (w : Wind) → T (aside w) → (n : ℕ) (q : Place) → placeOf (entry es n) ≡ some q → q .depth ≡ e
         → flagOf t 0 (linkOf t cap n (wordOfWind w)) ≡ on g c (step g w q)
     cell-side w a n q h d = ap (flagOf t 0) (link-side n q h w a) ∙ cell-at (step g w q) (beside w a q d)
 

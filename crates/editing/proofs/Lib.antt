@@ -18,3 +18,17 @@ pub mod Starting
 pub mod Nearby
 pub mod Refined
 pub mod RefinedValues
+pub mod Touching
+pub mod Thinning
+pub mod Losing
+pub mod Dropping
+pub mod Pruned
+pub mod Emptied
+pub mod Between
+pub mod Removal
+pub mod Redoing
+pub mod Descending
+pub mod Bordering
+pub mod Corners
+pub mod Withering
+pub mod Killing

@@ -90,7 +90,7 @@ module _ {g : Grid} {es : List Entry} {p : Place} {d : Place → Bool} {f : Flag
   below : (q : Place) → suc (q .depth) ≡ suc (p .depth) → T (any (stands q) es) → f q ≡ digits (flags g (cells es) q (markOf es q))
   below q e t = far q t (λ i. omega (arith, wanted-depth g p q i)) (λ k. omega (arith, fringe-depth g p q k))
 
-  ready : Ready g es f (cells es) (suc (p .depth))
+  pub ready : Ready g es f (cells es) (suc (p .depth))
   ready = record {
     mesh = a .mesh;
     stood = a .stood;

@@ -70,7 +70,7 @@ module _ (g : Grid) (c : Place → Bool) where
 
   module _ {cap : ℕ} {es : List Entry} (r : Rooted g cap es) where
     -- one place: the row that stands there, if one does
-    refresh-place : (f : Flags) (q : Option Place) → ((p : Place) → q ≡ some p → (base g ≤ p .depth) × Ready g es f c (p .depth))
+    pub refresh-place : (f : Flags) (q : Option Place) → ((p : Place) → q ≡ some p → (base g ≤ p .depth) × Ready g es f c (p .depth))
         → refreshUnlessNil (tableWith g es f) cap (base g) (numberOf es q) ≡ tableWith g es (anewAt (q ∷ []) f)
     refresh-place f none ready = refl
     refresh-place f (some q) ready = go (ℕ-discrete (number es q) 0)

@@ -93,15 +93,20 @@ module _ (s : State) (v : Valid s) (n : ℕ) where
       go none e u = absurd u
       go (some x) e u = rw (cells-held (s .entries) (valid-numbered v)) (valid-rules s v .each q x e .sentence u .1)
 
-  pub remove-kept : refusal (checks s (remove n)) ≡ 0 → Kept s (kids (placeAt (s .entries) n)) none (effect s (remove n))
-  unfolding checks effect
-  remove-kept h =
+  -- the cell and its kids, which are leaves
+  pub remove-passed : refusal (checks s (remove n)) ≡ 0 → Named s n × ((q : Place) → parent q ≡ some (placeAt (s .entries) n) → T (leaf (gridOf s) (cells (s .entries)) q))
+  unfolding checks
+  remove-passed h =
       let (d, h₁) = named s v n (no13 s n ∷ no14 s n ∷ []) h in
       let (_, h₂) = passes 13 (not (withKids s n)) (no14 s n ∷ []) (λ z. omega arith) h₁ in
       let (b, _) = passes 14 (not (kidsSentenced s n)) [] (λ z. omega arith) h₂ in
       let all : T (kidsSentenced s n) = is-yes (kidsSentenced s n) (not-false (kidsSentenced s n) b) in
-      let leaves : (q : Place) → parent q ≡ some p → T (leaf (gridOf s) (cells (s .entries)) q) =
-      λ q e. sentenced-leaf q (all-kids (λ q. isSentenced (entry (s .entries) (number (s .entries) q))) p all q e) in
+      (d, λ q e. sentenced-leaf q (all-kids (λ q. isSentenced (entry (s .entries) (number (s .entries) q))) p all q e))
+
+  pub remove-kept : refusal (checks s (remove n)) ≡ 0 → Kept s (kids (placeAt (s .entries) n)) none (effect s (remove n))
+  unfolding effect
+  remove-kept h =
+      let (d, leaves) = remove-passed h in
       taken-kept s v (kids p)
       (λ q i. leaf-cell (gridOf s) (cells (s .entries)) q (leaves q (in-parent q p i)))
       (kids-removable (gridOf s) (cells (s .entries)) (v .mesh) p (d .is-there) leaves)
@@ -119,15 +124,20 @@ module _ (s : State) (v : Valid s) (n : ℕ) where
       apart : (k : ℕ) (o : Place) (x : Cell) → entry (s .entries) k ≡ used o (some x) → k ≢ n → o ≡ p → ⊥
       apart k o x is other z = other (v .once k n p (ap placeOf is ∙ ap some z) (ap placeOf (d .is-entry)))
 
-  pub kill-kept : refusal (checks s (kill n)) ≡ 0 → Kept s (placeAt (s .entries) n ∷ []) none (effect s (kill n))
-  unfolding checks effect
-  kill-kept h =
+  -- the cell, which is a leaf on level 0, and another one there
+  pub kill-passed : refusal (checks s (kill n)) ≡ 0 → Named s n × (placeAt (s .entries) n .depth ≡ base (gridOf s)) × T (leaf (gridOf s) (cells (s .entries)) (placeAt (s .entries) n))
+      × ((o : Place) × (o .depth ≡ base (gridOf s)) × T (cells (s .entries) o) × (o ≡ placeAt (s .entries) n → ⊥))
+  unfolding checks
+  kill-passed h =
       let (d, h₁) = named s v n (no12-kill s n ∷ no8 s n ∷ no15 s n ∷ []) h in
       let (a, h₂) = passes 12 (not (onGround s n)) (no8 s n ∷ no15 s n ∷ []) (λ z. omega arith) h₁ in
       let (b, h₃) = passes 8 (withKids s n) (no15 s n ∷ []) (λ z. omega arith) h₂ in
       let (c, _) = passes 15 (eqb (groundCells s) 1) [] (λ z. omega arith) h₃ in
       let e : p .depth ≡ base (gridOf s) = eqb-true _ _ (not-false (onGround s n) a) in
-      let (o, f, t, other) = another-ground d e c in
-      taken-kept s v (p ∷ [])
-      (named-in d)
-      (ground-removable (gridOf s) (cells (s .entries)) (v .mesh) p o (named-leaf d b) e f t other)
+      (d, e, named-leaf d b, another-ground d e c)
+
+  pub kill-kept : refusal (checks s (kill n)) ≡ 0 → Kept s (placeAt (s .entries) n ∷ []) none (effect s (kill n))
+  unfolding effect
+  kill-kept h =
+      let (d, e, l, (o, f, t, other)) = kill-passed h in
+      taken-kept s v (p ∷ []) (named-in d) (ground-removable (gridOf s) (cells (s .entries)) (v .mesh) p o l e f t other)

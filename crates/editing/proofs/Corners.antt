@@ -1,0 +1,79 @@
+-- The four corners of a cell as a list: each stands in it once, and none lies south or west of the cell.
+-- Assumes nothing.
+use Prim.Native.Nat.{ℕ, suc, _≤_, _<_}
+use native.Mathlib.Omega.{arith}
+use mathlib.Core.Path.{_≡_, refl, ap}
+use mathlib.Core.Logic.{_≢_}
+use mathlib.Core.Option.{some}
+use mathlib.Core.List.{List, [], _∷_}
+use lib.Dec.{lit<}
+use lib.ListN.{getD}
+use Rattle.mesh.specs.Place.{Place, Grid, root, same, toNorth, toEast, toSouth, toWest}
+use Rattle.geometry.proofs.Lists.{any-at}
+use Rattle.geometry.proofs.Places.{In, same-refl, south-north, west-east}
+use Rattle.geometry.proofs.Distinct.{Distinct}
+use Rattle.geometry.proofs.Near.{Corner, c-here, c-east, c-north, c-both}
+use Rattle.geometry.proofs.Wanted.{Each, each-in}
+
+-- ---- places that differ
+
+apart : (x : Place) (ps : List Place) → Each (λ q. x ≢ q) ps → In x ps → ⊥
+apart x ps h i = each-in (λ q. x ≢ q) ps h x i refl
+
+other-col : (x y : Place) → x .col ≢ y .col → x ≢ y
+other-col x y h e = h (ap (λ (z : Place). z .col) e)
+
+other-row : (x y : Place) → x .row ≢ y .row → x ≢ y
+other-row x y h e = h (ap (λ (z : Place). z .row) e)
+
+more : (n : ℕ) → suc n ≢ n
+more n e = omega arith
+
+module _ (g : Grid) (p : Place) where
+  -- ---- the list
+
+  -- north-east, north, east, and the cell's own place
+  abbrev pub corners : List Place
+  corners = toNorth g (toEast g p) ∷ toNorth g p ∷ toEast g p ∷ p ∷ []
+
+  nth : (i : ℕ) → i < 4 → In (getD corners i root) corners
+  nth i l = any-at (same (getD corners i root)) root corners i l (same-refl (getD corners i root))
+
+  pub corner-in : {q : Place} → Corner g p q → In q corners
+  corner-in c-both = nth 0 (lit< tt)
+  corner-in c-north = nth 1 (lit< tt)
+  corner-in c-east = nth 2 (lit< tt)
+  corner-in c-here = nth 3 (lit< tt)
+
+  pub in-corner : (q : Place) → In q corners → Corner g p q
+  in-corner = each-in (Corner g p) corners (c-both, (c-north, (c-east, (c-here, tt))))
+
+  pub corners-distinct : Distinct corners
+  unfolding toNorth toEast
+  corners-distinct =
+      let n = toNorth g p in
+      let e = toEast g p in
+      let b = toNorth g e in (
+        apart b (n ∷ e ∷ p ∷ []) (other-col b n (more (p .col)), (other-row b e (more (p .row)), (other-row b p (more (p .row)), tt))),
+        (
+          apart n (e ∷ p ∷ []) (other-row n e (more (p .row)), (other-row n p (more (p .row)), tt)),
+          (apart e (p ∷ []) (other-col e p (more (p .col)), tt), (λ i. i, tt)),
+        ),
+      )
+
+  -- ---- what lies elsewhere
+
+  corner-past : {q : Place} → Corner g p q → (p .col ≤ q .col) × (p .row ≤ q .row)
+  unfolding toNorth toEast
+  corner-past c-here = (omega arith, omega arith)
+  corner-past c-east = (omega arith, omega arith)
+  corner-past c-north = (omega arith, omega arith)
+  corner-past c-both = (omega arith, omega arith)
+
+  pub south-off : (q : Place) → toSouth g p ≡ some q → Corner g p q → ⊥
+  unfolding toNorth
+  south-off q e k = let z : suc (q .row) ≡ p .row = ap (λ (x : Place). x .row) (south-north g p q e) in omega (arith, corner-past k)
+
+  pub west-off : (q : Place) → toWest g p ≡ some q → Corner g p q → ⊥
+  unfolding toEast
+  west-off q e k = let z : suc (q .col) ≡ p .col = ap (λ (x : Place). x .col) (west-east g p q e) in omega (arith, corner-past k)
