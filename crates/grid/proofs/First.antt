@@ -1,0 +1,86 @@
+-- The first checks of a call: where one refuses, the call's own do not matter; where none does, the lists have their lengths.
+-- Assumes nothing.
+use Prim.Native.Nat.{ℕ, zero, suc, _+_, _*_, _≤_}
+use native.Mathlib.Omega.{arith}
+use mathlib.Core.Path.{_≡_, refl, sym, ap, _∙_}
+use mathlib.Core.Logic.{_≢_}
+use mathlib.Core.Bool.{Bool, true, false, not, _&&_, _||_, cond}
+use mathlib.Core.List.{List, [], _∷_, _++_}
+use lib.Dec.{eqb, leb}
+use lib.ListN.{length}
+use borrow.Author.Tests.{eqb-true, leb-true, not-false}
+use Rattle.mesh.specs.Picture.{rowWords}
+use Rattle.mesh.specs.Refusal.{Check, _if_, refusal}
+use Rattle.mesh.specs.Call.{Lent, stateOf, outside, lentChecks, checkCall, Wrote, pageCall}
+use Rattle.mesh.specs.Place.{base}
+use Rattle.page.specs.Rows.{rowOut}
+use Rattle.paging.proofs.Called.{page-call}
+use Rattle.mesh.specs.Page.{pageChecks}
+use Rattle.numbering.proofs.Checks.{passes}
+use Rattle.laws.proofs.Refusals.{unless-refused}
+
+-- a list of checks that refuses, refuses also with more checks behind it
+first-refusal : (cs ds : List Check) → refusal cs ≢ 0 → refusal (cs ++ ds) ≡ refusal cs
+unfolding refusal
+first-refusal [] ds h = absurd (h refl)
+first-refusal ((n if b) ∷ cs) ds h = go b h (first-refusal cs ds)
+  where
+    go : (b : Bool) → cond b n (refusal cs) ≢ 0 → (refusal cs ≢ 0 → refusal (cs ++ ds) ≡ refusal cs) → cond b n (refusal (cs ++ ds)) ≡ cond b n (refusal cs)
+    go true h ih = refl
+    go false h ih = ih h
+
+both : (a b : Bool) → not (a && b) ≡ false → (a ≡ true) × (b ≡ true)
+both true true e = (refl, refl)
+both true false e = absurd (let z : _≡_ {A = ℕ} 0 1 = cc in omega arith)
+both false b e = absurd (let z : _≡_ {A = ℕ} 0 1 = cc in omega arith)
+
+neither : (a b : Bool) → (a || b) ≡ false → (a ≡ false) × (b ≡ false)
+neither true b e = absurd (let z : _≡_ {A = ℕ} 0 1 = cc in omega arith)
+neither false b e = (refl, e)
+
+pub record Sizes (cap : ℕ) (l : Lent) : Type 0 where
+  pub words : length (l .words) ≡ rowWords * (cap + 1)
+  pub values : length (l .values) ≡ cap + 1
+  pub low : 5 ≤ cap
+  pub high : cap ≤ 4095
+  pub columns : (1 ≤ l .header .grid .columns) × (l .header .grid .columns ≤ 32)
+  pub rows : (1 ≤ l .header .grid .rows) × (l .header .grid .rows ≤ 32)
+
+range : (low high n : ℕ) → outside low high n ≡ false → (low ≤ n) × (n ≤ high)
+range low high n e = let (a, b) = both (leb low n) (leb n high) e in (leb-true low n a, leb-true n high b)
+
+pub sizes : (cap : ℕ) (l : Lent) → checkCall cap l ≡ 0 → Sizes cap l
+unfolding checkCall lentChecks
+sizes cap l h =
+    let (a₁, h₁) = passes 1 _ _ (λ z. omega arith) h in
+    let (a₂, h₂) = passes 2 _ _ (λ z. omega arith) h₁ in
+    let (a, r) = neither (not (eqb (length (l .words)) (rowWords * (cap + 1)))) _ a₁ in
+    let (b, c) = neither (not (eqb (length (l .values)) (cap + 1))) (outside 5 4095 cap) r in
+    let (d, e) = neither (outside 1 32 (l .header .grid .columns)) (outside 1 32 (l .header .grid .rows)) a₂ in
+    let (low, high) = range 5 4095 cap c in
+    record {
+      words = eqb-true (length (l .words)) (rowWords * (cap + 1)) (not-false _ a);
+      values = eqb-true (length (l .values)) (cap + 1) (not-false _ b);
+      low = low;
+      high = high;
+      columns = range 1 32 (l .header .grid .columns) d;
+      rows = range 1 32 (l .header .grid .rows) e;
+    }
+
+-- a call that the first checks refuse
+module _ (cap : ℕ) (l : Lent) (r : ℕ) (is : r ≡ checkCall cap l) (no : r ≢ 0) where
+  refuses : refusal (lentChecks cap l) ≡ r
+  unfolding checkCall
+  refuses = sym is
+
+  pub page-first : (out : List ℕ) → record { why = r; count = 0; out = out } ≡ pageCall cap l out
+  unfolding pageCall
+  page-first out =
+      let e : refusal (lentChecks cap l ++ pageChecks (stateOf l) (length out)) ≡ r = first-refusal (lentChecks cap l) (pageChecks (stateOf l) (length out)) (λ z. no (sym refuses ∙ z)) ∙ refuses in
+      sym (rw e (unless-refused _ _ r no))
+
+-- a page call that they let through
+pub page-done : (cap : ℕ) (l : Lent) (out : List ℕ) (d : ℕ) (w : Wrote) → checkCall cap l ≡ 0 → d ≡ base (l .header .grid)
+    → w ≡ rowOut (l .header .grid .columns) (l .header .grid .rows) (l .header .mark) (l .words) (l .values) cap d out → w ≡ pageCall cap l out
+unfolding checkCall
+page-done cap l out d w ok e h = h ∙ ap (λ (d : ℕ). rowOut (l .header .grid .columns) (l .header .grid .rows) (l .header .mark) (l .words) (l .values) cap d out) e ∙ sym (page-call cap l out ok)

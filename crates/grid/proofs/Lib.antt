@@ -1,0 +1,2 @@
+-- What the first checks of a call leave for the rest of it.
+pub mod First

@@ -1,0 +1,22 @@
+-- What a public call lends and answers, as the definitions of `mesh` take it. Each contract is one equation with one of them.
+-- Assumes nothing.
+use Prim.Native.Nat.{ℕ}
+use mathlib.Core.List.{List}
+use lib.IntN.{ℤ}
+use lib.Ieee.{Float}
+use Rattle.mesh.specs.Place.{rectangle}
+use Rattle.mesh.specs.State as State
+use Rattle.mesh.specs.Call as Call
+use Rattle.grid.specs.declared.Header.{Header}
+use Rattle.grid.specs.declared.Wrote.{Wrote}
+
+-- "columns, rows, and a 16-bit edit mark"
+abbrev pub headerOf : Header → State.Header
+headerOf h = record { grid = rectangle (h .columns) (h .rows); mark = h .mark }
+
+abbrev pub lentOf : Header → List ℤ → List Float → Call.Lent
+lentOf h t v = record { header = headerOf h; words = t; values = v }
+
+-- the answer, and what the output holds
+abbrev pub wroteOf : Wrote → List ℕ → Call.Wrote
+wroteOf r out = record { why = r .refusal; count = r .count; out = out }

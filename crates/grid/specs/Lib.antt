@@ -1,0 +1,2 @@
+-- The public calls' answers as the calls' definitions take them.
+pub mod Calls
