@@ -32,3 +32,11 @@ pub mod Bordering
 pub mod Corners
 pub mod Withering
 pub mod Killing
+pub mod Growing
+pub mod Broods
+pub mod Started
+pub mod Grounding
+pub mod Alike
+pub mod Building
+pub mod Sprouts
+pub mod Blank

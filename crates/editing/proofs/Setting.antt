@@ -79,7 +79,7 @@ module _ (g : Grid) (es : List Entry) where
 -- ---- another cell, or none
 
 -- the rows know the entries by their numbers alone
-row-numbers : (g : Grid) (es ds : List Entry) (f : Flags) → ((p : Place) → number ds p ≡ number es p) → (e : Entry) → rowWith g ds f e ≡ rowWith g es f e
+pub row-numbers : (g : Grid) (es ds : List Entry) (f : Flags) → ((p : Place) → number ds p ≡ number es p) → (e : Entry) → rowWith g ds f e ≡ rowWith g es f e
 unfolding rowWith
 row-numbers g es ds f h e = ap (λ (k : Place → ℕ). map (λ o. pos (orElse 0 k o)) (around g (placeOf e)) ++ fieldsWith g f e) (fun-ext h)
 

@@ -11,6 +11,8 @@ pub mod Tree
 pub mod Walls
 pub mod Base
 pub mod Full
+pub mod Extent
+pub mod Blocks
 pub mod Points
 pub mod Tiling
 pub mod Wanted

@@ -152,6 +152,14 @@ module _ {A : Type 0} where
       go false true y z ih = rw (y, z) (omega arith)
       go false false y z ih = rw (y, z) (omega arith)
 
+  pub keep-append : (f : A → Bool) (xs ys : List A) → keep f (xs ++ ys) ≡ keep f xs ++ keep f ys
+  keep-append f [] ys = refl
+  keep-append f (x ∷ xs) ys = go (f x) (keep-append f xs ys)
+    where
+      go : (b : Bool) → keep f (xs ++ ys) ≡ keep f xs ++ keep f ys → cond b (x ∷ keep f (xs ++ ys)) (keep f (xs ++ ys)) ≡ cond b (x ∷ keep f xs) (keep f xs) ++ keep f ys
+      go true e = ap (λ (zs : List A). x ∷ zs) e
+      go false e = e
+
   pub keep-length : (f : A → Bool) (xs : List A) → length (keep f xs) ≤ length xs
   keep-length f [] = omega arith
   keep-length f (x ∷ xs) = go (f x) (keep-length f xs)

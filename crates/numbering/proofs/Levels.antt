@@ -87,14 +87,14 @@ module _ (g : Grid) (in-range : Rectangle g) where
     pub holds : (q : Place) → In q ps → (low ≤ q .depth) × (q .depth ≤ high) × T (patch g (full g) q)
     pub all-of : (q : Place) → low ≤ q .depth → q .depth ≤ high → T (patch g (full g) q) → In q ps
 
-  first-level : Patches 0 0 (root ∷ [])
+  pub first-level : Patches 0 0 (root ∷ [])
   first-level = record {
     once = (λ t. t, tt);
     holds = λ q t. rw (in-one q root t) (omega arith, omega arith, root-patch g (full g) (full-mesh g in-range) in-range);
     all-of = λ q l h t. in-here q root [] (depth-zero-root g (full g) (full-mesh g in-range) in-range q (omega arith) t);
   }
 
-  next-level : (e : ℕ) (ps : List Place) → Patches e e ps → Patches (suc e) (suc e) (nextLevel g ps)
+  pub next-level : (e : ℕ) (ps : List Place) → Patches e e ps → Patches (suc e) (suc e) (nextLevel g ps)
   unfolding nextLevel
   next-level e ps l = record {
     once = keep-distinct (patch g (full g)) (brood ps) (brood-distinct ps (l .once));

@@ -6,6 +6,7 @@ pub mod Levels
 pub mod Filling
 pub mod Written
 pub mod Building
+pub mod Sizes
 pub mod Giving
 pub mod Turns
 pub mod Refining

@@ -10,7 +10,7 @@ use mathlib.Core.Bool.{Bool, true, false, not, cond}
 use mathlib.Core.Option.{Option, none, some, Option·none-ne-some, Option·some-injective}
 use mathlib.Core.List.{List, [], _∷_, _++_, map}
 use lib.Dec.{T}
-use lib.ListN.{length, getD, replicate, length-append, length-map, length-replicate}
+use lib.ListN.{length, getD, set, replicate, length-append, length-map, length-replicate}
 use Rattle.mesh.specs.Tools.{any, count}
 use Rattle.mesh.specs.Place.{Place, same}
 use Rattle.mesh.specs.State.{Entry, nil, free, used, Cell, isNil, isUsed, placeOf, cellOf, entry, number}
@@ -94,3 +94,37 @@ module _ (x : Place → Option Cell) (k : ℕ) where
         go false e (no z) =
             let t : In p ps = written-entry (number (nil ∷ written ps) p) p (number-place (nil ∷ written ps) p z) .0 in
             absurd (let u : T false = rw e at t in u)
+
+  -- a place that is not in the list has no number
+  pub written-unnumbered : (ps : List Place) (p : Place) → (In p ps → ⊥) → number (nil ∷ written ps) p ≡ 0
+  written-unnumbered ps p h = go (ℕ-discrete (number (nil ∷ written ps) p) 0)
+    where
+      never : (n : ℕ) → placeOf (entry (nil ∷ written ps) n) ≡ some p → ⊥
+      never zero e = Option·none-ne-some _ e
+      never (suc n) e = h (written-given ps n p e .0)
+
+      go : Dec (number (nil ∷ written ps) p ≡ 0) → number (nil ∷ written ps) p ≡ 0
+      go (yes z) = z
+      go (no z) = absurd (never (number (nil ∷ written ps) p) (number-place (nil ∷ written ps) p z))
+
+  -- ---- one place more
+
+  -- the first free number
+  pub written-next : (ps : List Place) → getD (map (λ p. used p (x p)) ps ++ replicate (suc k) free) (length ps) nil ≡ free
+  written-next [] = refl
+  written-next (p ∷ ps) = written-next ps
+
+  pub written-set : (ps : List Place) (q : Place) → set (map (λ p. used p (x p)) ps ++ replicate (suc k) free) (length ps) (used q (x q)) ≡ written (ps ++ (q ∷ []))
+  written-set [] q = refl
+  written-set (p ∷ ps) q = ap (λ (es : List Entry). used p (x p) ∷ es) (written-set ps q)
+
+  -- the places that are written stay under their numbers
+  pub written-longer : (j : ℕ) (ps rs : List Place) (n : ℕ) (p : Place) → placeOf (getD (map (λ p. used p (x p)) ps ++ replicate j free) n nil) ≡ some p
+      → placeOf (getD (written (ps ++ rs)) n nil) ≡ some p
+  written-longer j [] rs n p e = absurd (Option·none-ne-some _ (sym (free-none j n) ∙ e))
+  written-longer j (q ∷ ps) rs zero p e = e
+  written-longer j (q ∷ ps) rs (suc n) p e = written-longer j ps rs n p e
+
+  pub written-at : (ps : List Place) (q : Place) (qs : List Place) → getD (written (ps ++ (q ∷ qs))) (length ps) nil ≡ used q (x q)
+  written-at [] q qs = refl
+  written-at (p ∷ ps) q qs = written-at ps q qs

@@ -1,0 +1,158 @@
+-- The table of a build, made step by step, is the picture of the built state: the levels grow from the root, level 0 gets its cells and its
+-- flags, and a ghost has none.
+-- Assumes nothing.
+use Prim.Native.Nat.{ℕ, suc, _+_, _-_, _≤_, _<_}
+use native.Mathlib.Omega.{arith}
+use native.Mathlib.Decide.{decLt}
+use mathlib.Core.Path.{_≡_, refl, sym, ap, _∙_, fun-ext}
+use mathlib.Core.Bool.{Bool, true, false, cond}
+use mathlib.Core.Option.{none, some}
+use mathlib.Core.List.{List, [], _∷_, _++_}
+use lib.Dec.{T}
+use lib.ListN.{length, length-append}
+use Rattle.mesh.specs.Tools.{any, keep, digits, orElse}
+use Rattle.mesh.specs.Place.{Place, Grid, same, root, base}
+use Rattle.mesh.specs.Mesh.{patch, flags}
+use Rattle.mesh.specs.State.{Entry, blank, status, placeOf, entry}
+use Rattle.mesh.specs.Picture.{table}
+use Rattle.mesh.specs.Build.{full, numbered, blankCell, built}
+use Rattle.geometry.proofs.Bools.{no-is, bool-ext}
+use Rattle.geometry.proofs.Places.{In}
+use Rattle.geometry.proofs.Distinct.{keep-in, in-keep}
+use Rattle.geometry.proofs.Tree.{touched-patch, cell-patch}
+use Rattle.geometry.proofs.Walls.{ghost-flags}
+use Rattle.geometry.proofs.Base.{Rectangle}
+use Rattle.geometry.proofs.Full.{full-cell, full-mesh, full-depth}
+use Rattle.numbering.proofs.Entries.{stands-in}
+use Rattle.numbering.proofs.Levels.{first-level, numbered-distinct, numbered-patch, patch-numbered}
+use Rattle.numbering.proofs.Written.{written-there, written-entry}
+use Rattle.numbering.proofs.Building.{built-numbered, built-contents, built-cells}
+use Rattle.editing.specs.Linked.{Flags, tableWith, flagsOf}
+use Rattle.editing.specs.Built.{Growth, growLevels, groundFrom, refreshRows, start, buildTable}
+use Rattle.editing.proofs.Linked.{picture-linked}
+use Rattle.editing.proofs.Setting.{flags-same}
+use Rattle.editing.proofs.Flags.{bit, Ready}
+use Rattle.editing.proofs.Growing.{dark, bare, Grown, InTurn, last-in-turn}
+use Rattle.editing.proofs.Broods.{Ground, grow-levels}
+use Rattle.editing.proofs.Started.{started}
+use Rattle.editing.proofs.Grounding.{withAll, complete, meshFlags, put-ground, refresh-rows}
+use Rattle.editing.proofs.Alike.{table-alike}
+
+module _ (g : Grid) (cap : ℕ) (in-range : Rectangle g) (low : 5 ≤ cap) (high : cap ≤ 4095) (fits : length (numbered g) ≤ cap) where
+  -- ---- all levels
+
+  -- the places of a build, those of level 0 last
+  abbrev Floor : Type 0
+  Floor = Ground g cap in-range (base g) (root ∷ [])
+
+  abbrev end : Growth
+  end = growLevels g cap (base g) (base g) 1 (start g cap (base g))
+
+  abbrev from : ℕ
+  from = groundFrom g cap (base g) (base g) 1 (start g cap (base g))
+
+  grown : (f : Floor) × Grown g cap (numbered g) end × (from ≡ length (f .ghosts) + 1)
+  unfolding numbered
+  grown = grow-levels g cap in-range (base g) 0 [] (root ∷ []) 1 (start g cap (base g)) (omega arith) (first-level g in-range) (started g cap in-range (omega arith) high) refl (numbered-distinct g in-range, fits)
+
+  pub build-next : growLevels g cap (base g) (base g) 1 (start g cap (base g)) .next ≡ length (numbered g) + 1
+  build-next = grown .1 .next-is
+
+  -- ---- level 0
+
+  abbrev es : List Entry
+  es = bare cap (numbered g)
+
+  module _ (f : Floor) where
+    in-order : numbered g ≡ f .ghosts ++ f .floor
+    unfolding numbered
+    in-order = f .in-order
+
+    on-floor : (q : Place) → In q (f .floor) → q .depth ≡ base g
+    on-floor q i = let (a, b, t) = f .on-floor .holds q i in omega arith
+
+    -- the cells are the places of level 0 in the rectangle
+    floor-cells : (q : Place) → any (same q) (keep (full g) (f .floor)) ≡ full g q
+    floor-cells q =
+        bool-ext (any (same q) (keep (full g) (f .floor))) (full g q)
+        (λ t. keep-in (full g) (f .floor) q t .1)
+        (λ t.
+        let d = full-cell g q t .0 in
+        in-keep (full g) (f .floor) q (f .on-floor .all-of q (omega arith) (omega arith) (cell-patch g (full g) (full-mesh g in-range) q t)) t)
+
+    abbrev marked : Flags
+    marked = withAll (keep (full g) (f .floor)) complete dark
+
+    ready : Ready g es marked (full g) (base g)
+    ready = record {
+      mesh = full-mesh g in-range;
+      stood = λ q d t.
+          let (n, h) = written-there (λ p. none) (cap - length (numbered g)) (numbered g) q (patch-numbered g in-range q (touched-patch g (full g) q (omega arith) t)) in
+          stands-in es (suc n) q (ap placeOf h);
+      complete = λ q d t. rw (floor-cells q) (one (full g q));
+      edgesH = λ q d l t. absurd (omega arith);
+      edgesV = λ q d l t. absurd (omega arith);
+    }
+      where
+        one : (b : Bool) → bit 0 (cond b 1 0) ≡ b
+        one true = refl
+        one false = refl
+
+    unsentenced : (q : Place) → bit 12 (marked q) ≡ false
+    unsentenced q = one (any (same q) (keep (full g) (f .floor)))
+      where
+        one : (b : Bool) → bit 12 (cond b 1 0) ≡ false
+        one true = refl
+        one false = refl
+
+    -- ---- the flags of every place
+
+    abbrev finished : Flags
+    finished = withAll (f .floor) (meshFlags g (full g)) marked
+
+    settled-flags : (n : ℕ) (p : Place) → placeOf (entry es n) ≡ some p → finished p ≡ meshFlags g (full g) p
+    settled-flags n p h = go (any (same p) (f .floor)) refl (decLt (p .depth) (base g))
+      where
+        t : T (patch g (full g) p)
+        t = numbered-patch g in-range p (written-entry (λ p. none) (cap - length (numbered g)) (numbered g) (numbered-distinct g in-range) n p h .0)
+
+        go : (b : Bool) → any (same p) (f .floor) ≡ b → Dec (p .depth < base g) → cond b (meshFlags g (full g) p) (marked p) ≡ meshFlags g (full g) p
+        go true e d = refl
+        go false e (yes l) =
+            rw (floor-cells p, no-is (full g p) (λ u. omega (arith, full-cell g p u .0))) (sym (ghost-flags g (full g) (full-mesh g in-range) p l))
+        go false e (no l) =
+            let i : In p (f .floor) = f .on-floor .all-of p (omega arith) (full-depth g p t) t in
+            absurd (let u : T false = rw e at i in u)
+
+    -- ---- the table
+
+    done : Grown g cap (numbered g) end → from ≡ length (f .ghosts) + 1 → buildTable g cap (base g) ≡ tableWith g es finished
+    unfolding buildTable
+    done u e =
+        let many : end .next - from ≡ length (f .floor) = omega (arith, u .next-is, ap length in-order, length-append (f .ghosts) (f .floor)) in
+        let turn : InTurn es from (f .floor) = rw in-order (last-in-turn cap (f .ghosts) (f .floor) from e) in
+        rw (many, u .words-are) (ap (refreshRows g cap (base g) (length (f .floor)) from) (put-ground (u .rooted) (f .floor) from dark turn on-floor) ∙ refresh-rows (u .rooted) (full g) (f .floor) from marked turn on-floor ready unsentenced)
+
+  -- ---- the picture of the built state
+
+  built-flags : (p : Place) → flagsOf g (built g cap .entries) p ≡ meshFlags g (full g) p
+  unfolding flagsOf
+  built-flags p = rw (built-contents g cap in-range p, fun-ext (built-cells g cap in-range)) (go (full g p))
+    where
+      go : (b : Bool) → digits (flags g (full g) p (orElse false (λ x. x .sentenced) (cond b (some blankCell) none))) ≡ meshFlags g (full g) p
+      go true = refl
+      go false = refl
+
+  built-linked : tableWith g es (meshFlags g (full g)) ≡ table (built g cap)
+  unfolding built
+  built-linked =
+      table-alike (λ p. none) (λ p. cond (full g p) (some blankCell) none) (cap - length (numbered g)) g (meshFlags g (full g)) (λ p. blank-status (full g p)) (numbered g)
+      ∙ ap (tableWith g (built g cap .entries)) (sym (fun-ext built-flags))
+      ∙ sym (picture-linked (built g cap) (built-numbered g cap in-range))
+    where
+      blank-status : (b : Bool) → status blank ≡ status (orElse blank (λ x. x .value) (cond b (some blankCell) none))
+      blank-status true = refl
+      blank-status false = refl
+
+  pub build-table : buildTable g cap (base g) ≡ table (built g cap)
+  build-table = let (f, u, e) = grown in done f u e ∙ flags-same g es (finished f) (meshFlags g (full g)) (settled-flags f) ∙ built-linked
