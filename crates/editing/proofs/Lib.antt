@@ -40,3 +40,4 @@ pub mod Alike
 pub mod Building
 pub mod Sprouts
 pub mod Blank
+pub mod Lengths

@@ -1,0 +1,66 @@
+-- The steps of a build, one after the other, make the picture of the built state.
+-- Assumes nothing.
+use Prim.Native.Nat.{ℕ, _+_, _-_, _≤_}
+use native.Mathlib.Omega.{arith}
+use mathlib.Core.Path.{_≡_, sym, ap, _∙_, subst}
+use mathlib.Core.List.{List}
+use lib.Ieee.{Float}
+use lib.IntN.{ℤ}
+use lib.ListN.{length, replicate}
+use Rattle.mesh.specs.Place.{Grid, base}
+use Rattle.mesh.specs.State.{plusZero}
+use Rattle.mesh.specs.Build.{numbered}
+use Rattle.geometry.proofs.Base.{Rectangle, base-range}
+use Rattle.numbering.proofs.Building.{built-in-use}
+use Rattle.editing.specs.Built.{Growth, rootTable, growLevels, groundFrom, putGround, refreshRows, start, buildTable}
+use Rattle.editing.proofs.Building.{build-table, build-next}
+use Rattle.editing.proofs.Sprouts.{LevelsToGrow, levels-start}
+use Rattle.editing.proofs.Blank.{built-amounts}
+use Rattle.build.specs.Steps.{growth, Reached, Made}
+
+module _ (g : Grid) (cap d : ℕ) (ground : d ≡ base g) (in-range : Rectangle g) (low : 5 ≤ cap) (high : cap ≤ 4095) (fits : length (numbered g) ≤ cap) where
+  pub depth-small : d ≤ 6
+  depth-small = omega (arith, base-range g in-range)
+
+  -- the root's table
+  started : (t : List ℤ) → t ≡ rootTable cap d → growth t 2 ≡ start g cap d
+  unfolding start
+  started t e = ap (λ (x : List ℤ). growth x 2) e
+
+  pub all-levels : (t : List ℤ) → t ≡ rootTable cap d → LevelsToGrow g cap d 1 (growth t 2)
+  all-levels t e =
+      subst (λ (x : Growth). LevelsToGrow g cap d 1 x) (sym (started t e)) (subst (λ (x : ℕ). LevelsToGrow g cap x 1 (start g cap x)) (sym ground) (levels-start g cap in-range (omega arith) high fits))
+
+  module _ (t u x y : List ℤ) (v : List Float) (a k : ℕ) (root-is : t ≡ rootTable cap d) (reached : Reached g cap d (growth t 2) (growth u k) a)
+      (cells : x ≡ putGround g cap d (k - a) a u) (flagged : y ≡ refreshRows g cap d (k - a) a x) (blank : v ≡ replicate (cap + 1) plusZero) where
+    abbrev end : Growth
+    end = growLevels g cap d d 1 (start g cap d)
+
+    abbrev from : ℕ
+    from = groundFrom g cap d d 1 (start g cap d)
+
+    end-is : growth u k ≡ end
+    end-is = reached .grown ∙ ap (growLevels g cap d d 1) (started t root-is)
+
+    from-is : a ≡ from
+    from-is = reached .from ∙ ap (groundFrom g cap d d 1) (started t root-is)
+
+    words-is : u ≡ end .words
+    words-is = ap (λ (r : Growth). r .words) end-is
+
+    next-is : k ≡ end .next
+    next-is = ap (λ (r : Growth). r .next) end-is
+
+    whole : y ≡ buildTable g cap d
+    unfolding buildTable
+    whole = flagged ∙ rw (cells, words-is, next-is, from-is)
+
+    pub made : Made g cap y v (k - 1)
+    made = record {
+      words-are = whole ∙ ap (buildTable g cap) ground ∙ build-table g cap in-range low high fits;
+      values-are = blank ∙ sym (built-amounts g cap fits);
+      in-use-is =
+          let e : k ≡ length (numbered g) + 1 = next-is ∙ subst (λ (x : ℕ). growLevels g cap x x 1 (start g cap x) .next ≡ length (numbered g) + 1) (sym ground) (build-next g cap in-range low high fits) in
+          let n : k - 1 ≡ length (numbered g) = omega arith in
+          n ∙ sym (built-in-use g cap);
+    }

@@ -1,0 +1,43 @@
+-- `build::ground::put_cell` meets its contract.
+-- Assumes nothing.
+use Rattle.build.proofs.Grounds.{row-out, row-in}
+use borrow.Author.Needs.{needs}
+use Rattle.build.proofs.ground.put_cell.Statement.{statement}
+use Rattle.build.proofs.ground.put_cell.Tie as tie
+
+word-requires : tie.Need-word-requires
+word-requires c κs = search needs
+
+word-requires-2 : tie.Need-word-requires-2
+word-requires-2 c κs = search needs
+
+same-length : tie.Need-same-length
+same-length c = search needs
+
+returns : tie.Need-returns
+returns c =
+    let a = c .before .before .before .before .before .args in
+    row-out (a .columns) (a .rows) (a .n) (a .t .now) (c .before .before .before .word .ensures) (c .before .word2 .ensures) (c .if1 .taken)
+
+put-requires : tie.Need-put-requires
+put-requires c κs = search needs
+
+same-length-2 : tie.Need-same-length-2
+same-length-2 c = search needs
+
+returns-2 : tie.Need-returns-2
+returns-2 c =
+    let a = c .before .before .before .before .before .before .before .before .args in
+    row-in (a .columns) (a .rows) (a .n) (a .t .now) (c .before .before .before .before .before .before .word .ensures) (c .before .before .before .before .word2 .ensures) (c .before .before .before .if1 .left) (c .before .put .ensures)
+
+pub put-cell-spec : {M : Type 1} → statement M
+put-cell-spec =
+    tie.close
+    (tie.spec
+    word-requires
+    word-requires-2
+    same-length
+    returns
+    put-requires
+    same-length-2
+    returns-2)

@@ -1,0 +1,79 @@
+-- `build::grow::grow_kid` meets its contract.
+-- Assumes nothing.
+use Rattle.build.proofs.Growths.{kid-room, kid-not, kid-new, kid-small}
+use native.Mathlib.Omega.{arith}
+use borrow.Author.Needs.{needs}
+use Rattle.build.proofs.grow.grow_kid.Statement.{statement}
+use Rattle.build.proofs.grow.grow_kid.Tie as tie
+
+word-requires : tie.Need-word-requires
+word-requires c κs = search needs
+
+mul-i : tie.Need-mul-i
+mul-i c = search needs
+
+add-i : tie.Need-add-i
+add-i c = search needs
+
+word-requires-2 : tie.Need-word-requires-2
+word-requires-2 c κs = search needs
+
+mul-j : tie.Need-mul-j
+mul-j c = search needs
+
+add-j : tie.Need-add-j
+add-j c = search needs
+
+in-full-requires : tie.Need-in-full-requires
+in-full-requires c κs = search needs
+
+same-length : tie.Need-same-length
+same-length c = search needs
+
+returns : tie.Need-returns
+returns c =
+    let a = c .before .before .before .before .before .before .args in
+    kid-not _ _ _ (a .up) (a .p) (a .l) (a .m) (a .next) (a .t .now) (c .before .before .before .before .before .before .pre .5) (c .before .before .before .before .word .ensures) (c .before .before .word2 .ensures) (c .before .in-full .ensures) (c .if1 .taken)
+
+link-in-requires : tie.Need-link-in-requires
+link-in-requires c κs =
+    let a = c .before .before .before .before .before .before .before .args in
+    let able = c .before .before .before .before .before .before .before .pre .5 in (
+      omega arith,
+      omega arith,
+      able .parent-in,
+      kid-room _ _ _ (a .up) (a .p) (a .l) (a .m) (a .next) (a .t .now) able (c .before .before .before .before .before .word .ensures) (c .before .before .before .word2 .ensures) (c .before .before .in-full .ensures) (c .before .if1 .left),
+      omega arith,
+      omega arith,
+      omega arith,
+      kid-small _ _ _ able,
+    )
+
+add-result : tie.Need-add-result
+add-result c = search needs
+
+same-length-2 : tie.Need-same-length-2
+same-length-2 c = search needs
+
+returns-2 : tie.Need-returns-2
+returns-2 c =
+    let a = c .before .before .before .before .before .before .before .before .before .args in
+    kid-new _ _ _ (a .up) (a .p) (a .l) (a .m) (a .next) (a .t .now) (c .before .before .before .before .before .before .before .before .before .pre .5) (c .before .before .before .before .before .before .before .word .ensures) (c .before .before .before .before .before .word2 .ensures) (c .before .before .before .before .in-full .ensures) (c .before .before .before .if1 .left) (c .before .link-in .ensures)
+
+pub grow-kid-spec : {M : Type 1} → statement M
+grow-kid-spec =
+    tie.close
+    (tie.spec
+    word-requires
+    mul-i
+    add-i
+    word-requires-2
+    mul-j
+    add-j
+    in-full-requires
+    same-length
+    returns
+    link-in-requires
+    add-result
+    same-length-2
+    returns-2)

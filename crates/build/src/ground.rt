@@ -1,0 +1,49 @@
+// The rows of level 0: their cells, and their flags.
+ghost use mathlib.Core.Path.{_≡_};
+ghost use Prim.Native.Nat.{_+_, _-_, _*_, _≤_};
+ghost use lib.ListN.{length};
+ghost use Rattle.mesh.specs.Place.{rectangle};
+ghost use Rattle.mesh.specs.Picture.{rowWords};
+ghost use Rattle.editing.specs.Built.{putGround, refreshRows};
+ghost use Rattle.build.specs.Steps.{groundRow};
+use edit::anew::refresh;
+use table::words::word;
+use table::writes::put;
+
+// The row n is a cell, if the rectangle has it.
+fn put_cell(t: &mut [i32], columns: u32, rows: u32, n: usize)
+    requires { ⌜ n * rowWords + rowWords ≤ length (now t) ⌝ }
+    ensures { λ _. ⌜ now (t .exit) ≡ groundRow (rectangle columns rows) n (now (t .entry)) ⌝ }
+{
+    let i = word(t, n, 10);
+    let j = word(t, n, 11);
+    let inside = (i < columns) & (j < rows);
+    if !inside {
+        return;
+    }
+    put(t, n, 12, 1);
+}
+
+// The rows from a up to b that the rectangle has are cells.
+pub fn put_ground(t: &mut [i32], cap: usize, columns: u32, rows: u32, d: u32, a: usize, b: usize)
+    requires { ⌜ (cap * rowWords + rowWords ≤ length (now t)) × (cap ≤ 4095) × (d ≤ 32) × (a ≤ b) × (b ≤ cap + 1) ⌝ }
+    ensures { λ _. ⌜ now (t .exit) ≡ putGround (rectangle columns rows) cap d (b - a) a (now (t .entry)) ⌝ }
+{
+    let mut n = a;
+    while n < b {
+        put_cell(t, columns, rows, n);
+        n += 1;
+    }
+}
+
+// The rows from a up to b have their flags anew.
+pub fn refresh_rows(t: &mut [i32], cap: usize, columns: u32, rows: u32, d: u32, a: usize, b: usize)
+    requires { ⌜ (cap * rowWords + rowWords ≤ length (now t)) × (cap ≤ 4095) × (d ≤ 32) × (a ≤ b) × (b ≤ cap + 1) ⌝ }
+    ensures { λ _. ⌜ now (t .exit) ≡ refreshRows (rectangle columns rows) cap d (b - a) a (now (t .entry)) ⌝ }
+{
+    let mut n = a;
+    while n < b {
+        refresh(t, cap, d, n);
+        n += 1;
+    }
+}

@@ -1,0 +1,111 @@
+// The patches of the full rectangle, level by level from the root.
+ghost use mathlib.Core.Path.{_≡_};
+ghost use Prim.Native.Nat.{_+_, _-_, _*_, _<_, _≤_};
+ghost use lib.ListN.{length};
+ghost use Rattle.mesh.specs.Place.{rectangle, base};
+ghost use Rattle.mesh.specs.Picture.{rowWords};
+ghost use Rattle.editing.specs.Built.{inFull, grow, growKids, growLevel};
+ghost use Rattle.editing.proofs.Sprouts.{Able, KidsToGrow, LevelToGrow, LevelsToGrow};
+ghost use Rattle.build.specs.Steps.{growth, inTurn, Reached};
+use edit::steps::link_in;
+use table::words::word;
+
+// Whether a place is a patch of the full rectangle, so many levels below level 0.
+fn in_full(columns: u32, rows: u32, up: u32, i: u32, j: u32) -> bool
+    requires { ⌜ up < 32 ⌝ }
+    ensures { λ r. ⌜ r ≡ inFull (rectangle columns rows) up i j ⌝ }
+{
+    (i <= columns >> up) & (j <= rows >> up)
+}
+
+// The kid of the row p with the digits l and m, where the rectangle has it; the next number.
+fn grow_kid(
+    t: &mut [i32],
+    cap: usize,
+    columns: u32,
+    rows: u32,
+    d: u32,
+    up: u32,
+    p: usize,
+    l: u32,
+    m: u32,
+    next: usize,
+) -> usize
+    requires { ⌜ (cap * rowWords + rowWords ≤ length (now t)) × (cap ≤ 4095) × (d ≤ 32) × (l < 2) × (m < 2) × Able (rectangle columns rows) cap d up p l m (growth (now t) next) ⌝ }
+    ensures { λ r. ⌜ growth (now (t .exit)) r ≡ grow (rectangle columns rows) cap d up p l m (growth (now (t .entry)) next) ⌝ }
+{
+    let i = 2 * word(t, p, 10) + l;
+    let j = 2 * word(t, p, 11) + m;
+    let there = in_full(columns, rows, up, i, j);
+    if !there {
+        return next;
+    }
+    link_in(t, cap, d, p, l, m, next);
+    next + 1
+}
+
+// The four kids of the row p, in the order SW, NW, SE, NE.
+fn grow_kids(
+    t: &mut [i32],
+    cap: usize,
+    columns: u32,
+    rows: u32,
+    d: u32,
+    up: u32,
+    p: usize,
+    next: usize,
+) -> usize
+    requires { ⌜ (cap * rowWords + rowWords ≤ length (now t)) × (cap ≤ 4095) × (d ≤ 32) × (d ≡ base (rectangle columns rows)) × KidsToGrow (rectangle columns rows) cap up p inTurn (growth (now t) next) ⌝ }
+    ensures { λ r. ⌜ growth (now (t .exit)) r ≡ growKids (rectangle columns rows) cap d up p (growth (now (t .entry)) next) ⌝ }
+{
+    let a = grow_kid(t, cap, columns, rows, d, up, p, 0, 0, next);
+    let b = grow_kid(t, cap, columns, rows, d, up, p, 0, 1, a);
+    let c = grow_kid(t, cap, columns, rows, d, up, p, 1, 0, b);
+    grow_kid(t, cap, columns, rows, d, up, p, 1, 1, c)
+}
+
+// The kids of the rows from p up to the next number.
+fn grow_level(
+    t: &mut [i32],
+    cap: usize,
+    columns: u32,
+    rows: u32,
+    d: u32,
+    up: u32,
+    p: usize,
+    next: usize,
+) -> usize
+    requires { ⌜ (cap * rowWords + rowWords ≤ length (now t)) × (cap ≤ 4095) × (d ≤ 32) × (d ≡ base (rectangle columns rows)) × (p ≤ next) × (next ≤ cap + 1) × LevelToGrow (rectangle columns rows) cap up (next - p) p (growth (now t) next) ⌝ }
+    ensures { λ r. ⌜ growth (now (t .exit)) r ≡ growLevel (rectangle columns rows) cap d up (next - p) p (growth (now (t .entry)) next) ⌝ }
+{
+    let mut q = p;
+    let mut k = next;
+    while q < next {
+        k = grow_kids(t, cap, columns, rows, d, up, q, k);
+        q += 1;
+    }
+    k
+}
+
+// The first number of level 0, and the next number.
+pub struct Reach {
+    pub ground: usize,
+    pub next: usize,
+}
+
+// Every level, from the root under number 1 on.
+pub fn grow_levels(t: &mut [i32], cap: usize, columns: u32, rows: u32, d: u32) -> Reach
+    requires { ⌜ (cap * rowWords + rowWords ≤ length (now t)) × (cap ≤ 4095) × (d ≤ 32) × (d ≡ base (rectangle columns rows)) × LevelsToGrow (rectangle columns rows) cap d 1 (growth (now t) 2) ⌝ }
+    ensures { λ r. ⌜ Reached (rectangle columns rows) cap d (growth (now (t .entry)) 2) (growth (now (t .exit)) (r .next)) (r .ground) ⌝ }
+{
+    let mut up = d;
+    let mut p: usize = 1;
+    let mut k: usize = 2;
+    while up > 0 {
+        up -= 1;
+        let n = grow_level(t, cap, columns, rows, d, up, p, k);
+        p = k;
+        k = n;
+    }
+    Reach { ground: p, next: k }
+}

@@ -1,0 +1,56 @@
+-- A refinement and a removal whole: each table is the one before with what a step does, and the places are those of the table at the start.
+-- Assumes nothing.
+use mathlib.Core.Path.{_≡_, sym, ap, _∙_}
+use mathlib.Core.Logic.{_≢_}
+use mathlib.Core.List.{List, _++_}
+use Prim.Native.Nat.{ℕ}
+use borrow.Author.Tests.{eq-eqb, ne-eqb}
+use lib.IntN.{ℤ}
+use lib.ListN.{getD}
+use lib.Ieee.{Float}
+use Rattle.mesh.specs.State.{plusZero}
+use Rattle.table.specs.Words.{wordOf, linkOf}
+use Rattle.editing.specs.Tables.{kidSpots, wantedSpots, outsideSpots, suppliedAll, putCells, putValues, refreshAt, dropAt, kidStatus, refineTable, refineValues, removeTable}
+use Rattle.edit.specs.Lent.{lending, cornerSpots}
+use Rattle.edit.proofs.Nearby.{wanted-is, supply-append, drop-append}
+
+module _ (t : List ℤ) (cap d n low : ℕ) where
+  pub refined : {north east both w st a b : ℕ} {t₁ t₂ t₃ t₄ : List ℤ} →
+      north ≡ linkOf t cap n 5 →
+      east ≡ linkOf t cap n 6 →
+      both ≡ linkOf t cap east 5 →
+      w ≡ wordOf t n 13 →
+      st ≡ kidStatus w →
+      lending t₁ a ≡ suppliedAll cap d (kidSpots t cap n) (lending t low) →
+      lending t₂ b ≡ suppliedAll cap d (cornerSpots north east both) (lending t₁ a) →
+      t₃ ≡ putCells (kidSpots t₂ cap n) t₂ cap 1 st →
+      t₄ ≡ refreshAt (wantedSpots t₃ cap n ++ outsideSpots t₃ cap n) t₃ cap d →
+      lending t₄ b ≡ refineTable cap d n (lending t low)
+  unfolding refineTable
+  refined {north} {east} {both} {b = b} {t₂ = t₂} h1 h2 h3 h4 h5 h6 h7 h8 h9 =
+      let all : suppliedAll cap d (wantedSpots t cap n) (lending t low) ≡ lending t₂ b = ap (λ xs. suppliedAll cap d xs (lending t low)) (wanted-is t cap n h1 h2 h3) ∙ supply-append cap d (kidSpots t cap n) (cornerSpots north east both) (lending t low) ∙ ap (suppliedAll cap d (cornerSpots north east both)) (sym h6) ∙ sym h7 in
+      rw (all, ← h4, ← h5, ← h8, h9)
+
+module _ (t : List ℤ) (cap n : ℕ) (v : List Float) where
+  pub values-blank : {w : ℕ} → w ≡ wordOf t n 13 → w ≡ 0 → v ≡ refineValues t cap n v
+  unfolding refineValues
+  values-blank e h = rw (eq-eqb (wordOf t n 13) 0 (sym e ∙ h))
+
+  pub values-carried : {w : ℕ} {y : Float} {u : List Float} → w ≡ wordOf t n 13 → w ≢ 0 → y ≡ getD v n plusZero → u ≡ putValues (kidSpots t cap n) t cap y v → u ≡ refineValues t cap n v
+  unfolding refineValues
+  values-carried e h i j = rw (ne-eqb (wordOf t n 13) 0 (λ z. h (e ∙ z)), j, i)
+
+module _ (t : List ℤ) (cap d n : ℕ) where
+  pub removed : {north east both : ℕ} {t₁ t₂ t₃ t₄ : List ℤ} →
+      t₁ ≡ putCells (kidSpots t cap n) t cap 0 0 →
+      north ≡ linkOf t₁ cap n 5 →
+      east ≡ linkOf t₁ cap n 6 →
+      both ≡ linkOf t₁ cap east 5 →
+      t₂ ≡ dropAt (kidSpots t₁ cap n) t₁ cap d →
+      t₃ ≡ dropAt (cornerSpots north east both) t₂ cap d →
+      t₄ ≡ refreshAt (wantedSpots t₃ cap n ++ outsideSpots t₃ cap n) t₃ cap d →
+      t₄ ≡ removeTable t cap d n
+  unfolding removeTable
+  removed {north} {east} {both} {t₁} {t₂} {t₃} h1 h2 h3 h4 h5 h6 h7 =
+      let gone : dropAt (wantedSpots t₁ cap n) t₁ cap d ≡ t₃ = ap (λ xs. dropAt xs t₁ cap d) (wanted-is t₁ cap n h2 h3 h4) ∙ drop-append cap d (kidSpots t₁ cap n) (cornerSpots north east both) t₁ ∙ ap (λ u. dropAt (cornerSpots north east both) u cap d) (sym h5) ∙ sym h6 in
+      rw (← h1, gone, h7)

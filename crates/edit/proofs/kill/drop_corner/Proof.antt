@@ -1,0 +1,54 @@
+-- `edit::kill::drop_corner` meets its contract.
+-- Assumes nothing.
+use borrow.Author.Needs.{needs}
+use Rattle.edit.proofs.Dropping.{corner-nil, corner-kept, corner-gone}
+use Rattle.edit.proofs.kill.drop_corner.Statement.{statement}
+use Rattle.edit.proofs.kill.drop_corner.Tie as tie
+
+returns : tie.Need-returns
+returns c = corner-nil _ _ _ _ (c .if1 .taken)
+
+touched-row-requires : tie.Need-touched-row-requires
+touched-row-requires c κs = search needs
+
+same-length : tie.Need-same-length
+same-length c = search needs
+
+returns-2 : tie.Need-returns-2
+returns-2 c = corner-kept _ _ _ _ (c .before .before .before .if1 .left) (c .before .touched-row .ensures) (c .if2 .taken)
+
+link-requires : tie.Need-link-requires
+link-requires c κs = search needs
+
+take-out-requires : tie.Need-take-out-requires
+take-out-requires c κs = search needs
+
+drop-up-requires : tie.Need-drop-up-requires
+drop-up-requires c κs = search needs
+
+same-length-2 : tie.Need-same-length-2
+same-length-2 c = search needs
+
+returns-3 : tie.Need-returns-3
+returns-3 c =
+    let b₁ = c .before in
+    let b₂ = b₁ .before .before .before in
+    let b₃ = b₂ .before .before in
+    let b₄ = b₃ .before .before in
+    let b₅ = b₄ .before in
+    let b₆ = b₅ .before .before in
+    corner-gone _ _ _ _ (b₆ .if1 .left) (b₅ .touched-row .ensures) (b₄ .if2 .left) (b₃ .link .ensures .1) (b₂ .take-out .ensures) (b₁ .drop-up .ensures)
+
+pub drop-corner-spec : {M : Type 1} → statement M
+drop-corner-spec =
+    tie.close
+    (tie.spec
+    returns
+    touched-row-requires
+    same-length
+    returns-2
+    link-requires
+    take-out-requires
+    drop-up-requires
+    same-length-2
+    returns-3)

@@ -1,0 +1,55 @@
+-- `edit::remove::remove_table` meets its contract.
+-- Assumes nothing.
+use borrow.Author.Needs.{needs}
+use Rattle.edit.proofs.Requests.{removed}
+use Rattle.edit.proofs.remove.remove_table.Statement.{statement}
+use Rattle.edit.proofs.remove.remove_table.Tie as tie
+
+put-cells-requires : tie.Need-put-cells-requires
+put-cells-requires c κs = search needs
+
+link-requires : tie.Need-link-requires
+link-requires c κs = search needs
+
+link-requires-2 : tie.Need-link-requires-2
+link-requires-2 c κs = search needs
+
+link-requires-3 : tie.Need-link-requires-3
+link-requires-3 c κs = search needs
+
+drop-kids-requires : tie.Need-drop-kids-requires
+drop-kids-requires c κs = search needs
+
+drop-corners-requires : tie.Need-drop-corners-requires
+drop-corners-requires c κs = search needs
+
+refresh-near-requires : tie.Need-refresh-near-requires
+refresh-near-requires c κs = search needs
+
+same-length : tie.Need-same-length
+same-length c = search needs
+
+returns : tie.Need-returns
+returns c =
+    let b₁ = c .before in
+    let b₂ = b₁ .before .before .before in
+    let b₃ = b₂ .before .before .before in
+    let b₄ = b₃ .before .before in
+    let b₅ = b₄ .before .before in
+    let b₆ = b₅ .before .before in
+    let b₇ = b₆ .before .before .before in
+    removed _ _ _ _ (b₇ .put-cells .ensures) (b₆ .link .ensures .1) (b₅ .link2 .ensures .1) (b₄ .link3 .ensures .1) (b₃ .drop-kids .ensures) (b₂ .drop-corners .ensures) (b₁ .refresh-near .ensures)
+
+pub remove-table-spec : {M : Type 1} → statement M
+remove-table-spec =
+    tie.close
+    (tie.spec
+    put-cells-requires
+    link-requires
+    link-requires-2
+    link-requires-3
+    drop-kids-requires
+    drop-corners-requires
+    refresh-near-requires
+    same-length
+    returns)

@@ -1,0 +1,40 @@
+-- `edit::spots::refresh_kids` meets its contract.
+-- Assumes nothing.
+use borrow.Author.Needs.{needs}
+use Rattle.edit.proofs.Nearby.{refresh-more, refresh-none}
+use Rattle.edit.proofs.spots.refresh_kids.Statement.{statement}
+use Rattle.edit.proofs.spots.refresh_kids.Tie as tie
+
+refresh-kid-requires : tie.Need-refresh-kid-requires
+refresh-kid-requires c κs = search needs
+
+refresh-kid-requires-2 : tie.Need-refresh-kid-requires-2
+refresh-kid-requires-2 c κs = search needs
+
+refresh-kid-requires-3 : tie.Need-refresh-kid-requires-3
+refresh-kid-requires-3 c κs = search needs
+
+refresh-kid-requires-4 : tie.Need-refresh-kid-requires-4
+refresh-kid-requires-4 c κs = search needs
+
+same-length : tie.Need-same-length
+same-length c = search needs
+
+returns : tie.Need-returns
+returns c =
+    let b₁ = c .before in
+    let b₂ = b₁ .before .before .before in
+    let b₃ = b₂ .before .before .before in
+    let b₄ = b₃ .before .before .before in
+    refresh-more _ _ _ _ _ (b₄ .refresh-kid .ensures) (refresh-more _ _ _ _ _ (b₃ .refresh-kid2 .ensures) (refresh-more _ _ _ _ _ (b₂ .refresh-kid3 .ensures) (refresh-more _ _ _ _ _ (b₁ .refresh-kid4 .ensures) (refresh-none _ _ _))))
+
+pub refresh-kids-spec : {M : Type 1} → statement M
+refresh-kids-spec =
+    tie.close
+    (tie.spec
+    refresh-kid-requires
+    refresh-kid-requires-2
+    refresh-kid-requires-3
+    refresh-kid-requires-4
+    same-length
+    returns)

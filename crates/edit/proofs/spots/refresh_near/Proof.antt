@@ -1,0 +1,60 @@
+-- `edit::spots::refresh_near` meets its contract.
+-- Assumes nothing.
+use borrow.Author.Needs.{needs}
+use Rattle.edit.proofs.Nearby.{near-refreshed}
+use Rattle.edit.proofs.spots.refresh_near.Statement.{statement}
+use Rattle.edit.proofs.spots.refresh_near.Tie as tie
+
+link-requires : tie.Need-link-requires
+link-requires c κs = search needs
+
+link-requires-2 : tie.Need-link-requires-2
+link-requires-2 c κs = search needs
+
+link-requires-3 : tie.Need-link-requires-3
+link-requires-3 c κs = search needs
+
+link-requires-4 : tie.Need-link-requires-4
+link-requires-4 c κs = search needs
+
+link-requires-5 : tie.Need-link-requires-5
+link-requires-5 c κs = search needs
+
+refresh-kids-requires : tie.Need-refresh-kids-requires
+refresh-kids-requires c κs = search needs
+
+refresh-corners-requires : tie.Need-refresh-corners-requires
+refresh-corners-requires c κs = search needs
+
+refresh-sides-requires : tie.Need-refresh-sides-requires
+refresh-sides-requires c κs = search needs
+
+same-length : tie.Need-same-length
+same-length c = search needs
+
+returns : tie.Need-returns
+returns c =
+    let b₁ = c .before in
+    let b₂ = b₁ .before .before .before in
+    let b₃ = b₂ .before .before .before in
+    let b₄ = b₃ .before .before in
+    let b₅ = b₄ .before .before in
+    let b₆ = b₅ .before .before in
+    let b₇ = b₆ .before .before in
+    let b₈ = b₇ .before .before in
+    near-refreshed _ _ _ _ (b₈ .link .ensures .1) (b₇ .link2 .ensures .1) (b₆ .link3 .ensures .1) (b₅ .link4 .ensures .1) (b₄ .link5 .ensures .1) (b₃ .refresh-kids .ensures) (b₂ .refresh-corners .ensures) (b₁ .refresh-sides .ensures)
+
+pub refresh-near-spec : {M : Type 1} → statement M
+refresh-near-spec =
+    tie.close
+    (tie.spec
+    link-requires
+    link-requires-2
+    link-requires-3
+    link-requires-4
+    link-requires-5
+    refresh-kids-requires
+    refresh-corners-requires
+    refresh-sides-requires
+    same-length
+    returns)

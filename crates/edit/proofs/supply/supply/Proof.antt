@@ -1,0 +1,61 @@
+-- `edit::supply::supply` meets its contract.
+-- Assumes nothing.
+use native.Mathlib.Omega.{arith}
+use borrow.Author.Needs.{needs}
+use Rattle.edit.proofs.Supplying.{supplied-there, supplied-new}
+use Rattle.edit.proofs.supply.supply.Statement.{statement}
+use Rattle.edit.proofs.supply.supply.Tie as tie
+
+kid-requires : tie.Need-kid-requires
+kid-requires c κs = search needs
+
+same-length : tie.Need-same-length
+same-length c = search needs
+
+returns : tie.Need-returns
+returns c = (omega arith, supplied-there _ _ _ _ _ _ _ (c .before .kid .ensures .1) (c .if1 .taken))
+
+next-free-requires : tie.Need-next-free-requires
+next-free-requires c κs = search needs
+
+link-in-requires : tie.Need-link-in-requires
+link-in-requires c κs = (
+  omega arith,
+  omega arith,
+  omega arith,
+  omega arith,
+  omega arith,
+  omega arith,
+  omega arith,
+  let b₁ = c .before .before .before .before .before .before in
+      b₁ .pre .7 (b₁ .args .p) (b₁ .pre .2),
+)
+
+add-result : tie.Need-add-result
+add-result c = search needs
+
+same-length-2 : tie.Need-same-length-2
+same-length-2 c = search needs
+
+returns-2 : tie.Need-returns-2
+returns-2 c = (
+  omega arith,
+  let b₁ = c .before in
+      let b₂ = b₁ .before .before in
+      let b₃ = b₂ .before .before in
+      let b₄ = b₃ .before in
+      supplied-new _ _ _ _ _ _ _ (b₄ .kid .ensures .1) (b₃ .if1 .left) (b₂ .next-free .ensures .1) (b₁ .link-in .ensures),
+)
+
+pub supply-spec : {M : Type 1} → statement M
+supply-spec =
+    tie.close
+    (tie.spec
+    kid-requires
+    same-length
+    returns
+    next-free-requires
+    link-in-requires
+    add-result
+    same-length-2
+    returns-2)

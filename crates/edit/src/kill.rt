@@ -1,0 +1,214 @@
+// An accepted kill.
+ghost use mathlib.Core.Path.{_≡_};
+ghost use mathlib.Core.List.{[], _∷_};
+ghost use Prim.Native.Nat.{_+_, _*_, _<_, _≤_};
+ghost use lib.Dec.{T};
+ghost use lib.ListN.{length, getD};
+ghost use Rattle.mesh.specs.Tools.{all};
+ghost use Rattle.mesh.specs.Picture.{rowWords};
+ghost use Rattle.table.specs.Words.{linkOf};
+ghost use Rattle.editing.specs.Tables.{kidless, dropUp, dropCorner, refreshDown, refreshLevel, refreshLevels, stillUsed, killTable, killValues};
+ghost use Rattle.edit.specs.Edges.{ofRow, Within, borderOf, stillBorder, cleared};
+use crate::anew::refresh_unless_nil;
+use crate::remove::touched_row;
+use crate::steps::take_out;
+use table::words::link;
+use table::words::word;
+use table::writes::put;
+use table::writes::put_value;
+
+// Whether the row n has no kid.
+fn kidless(t: &[i32], cap: usize, n: usize) -> bool
+    requires { ⌜ (cap * rowWords + rowWords ≤ length (now t)) × (cap ≤ 4095) × (n ≤ cap) ⌝ }
+    ensures { λ r. ⌜ r ≡ kidless (now (t .entry)) cap n ⌝ }
+{
+    let a = link(t, cap, n, 1);
+    let b = link(t, cap, n, 2);
+    let c = link(t, cap, n, 3);
+    let e = link(t, cap, n, 4);
+    (a == 0) & ((b == 0) & ((c == 0) & (e == 0)))
+}
+
+// A ghost without a kid goes, and then its parent if that has none left, up to so many levels.
+fn drop_up(t: &mut [i32], cap: usize, levels: u32, n: usize)
+    requires { ⌜ (cap * rowWords + rowWords ≤ length (now t)) × (cap ≤ 4095) × (n ≤ cap) ⌝ }
+    ensures { λ _. ⌜ now (t .exit) ≡ dropUp levels (now (t .entry)) cap n ⌝ }
+{
+    let mut e = levels;
+    let mut k = n;
+    while e > 0 {
+        if k == 0 {
+            return;
+        }
+        if !kidless(t, cap, k) {
+            return;
+        }
+        let p = link(t, cap, k, 0);
+        take_out(t, cap, k);
+        k = p;
+        e -= 1;
+    }
+}
+
+// A corner of the killed cell that no cell touches goes, and the ghosts above it that have no kid left.
+fn drop_corner(t: &mut [i32], cap: usize, d: u32, n: usize)
+    requires { ⌜ (cap * rowWords + rowWords ≤ length (now t)) × (cap ≤ 4095) × (n ≤ cap) ⌝ }
+    ensures { λ _. ⌜ now (t .exit) ≡ dropCorner (now (t .entry)) cap d n ⌝ }
+{
+    if n == 0 {
+        return;
+    }
+    if touched_row(t, cap, d, n) {
+        return;
+    }
+    let p = link(t, cap, n, 0);
+    take_out(t, cap, n);
+    drop_up(t, cap, d, p);
+}
+
+// The row that the word at place q of ws names.
+fn kid_at(t: &[i32], cap: usize, n: usize, ws: &[u8], q: usize) -> usize
+    requires { ⌜ (cap * rowWords + rowWords ≤ length (now t)) × (cap ≤ 4095) × (n ≤ cap) × T (all ofRow (now ws)) × (q < length (now ws)) ⌝ }
+    ensures { λ r. ⌜ (r ≤ cap) × (r ≡ linkOf (now (t .entry)) cap n (getD (now (ws .entry)) q 0)) ⌝ }
+{
+    let w = ws[q] as usize;
+    link(t, cap, n, w)
+}
+
+// The rows so many levels down from n, by kids that the words of ws name, with their flags anew.
+fn refresh_down(t: &mut [i32], cap: usize, d: u32, ws: &[u8], e: u32, n: usize)
+    requires { ⌜ (cap * rowWords + rowWords ≤ length (now t)) × (cap ≤ 4095) × (n ≤ cap) × (d ≤ 32) × T (all ofRow (now ws)) ⌝ }
+    ensures { λ _. ⌜ now (t .exit) ≡ refreshDown (now (ws .entry)) e (now (t .entry)) cap d n ⌝ }
+{
+    if e == 0 {
+        refresh_unless_nil(t, cap, d, n);
+        return;
+    }
+    if n == 0 {
+        return;
+    }
+    let mut q = 0;
+    while q < ws.len() {
+        let k = kid_at(t, cap, n, ws, q);
+        refresh_down(t, cap, d, ws, e - 1, k);
+        q += 1;
+    }
+}
+
+// The rows on and beside the border of a level-0 cell: its own, and those north, east, north-east, south and west of it.
+pub struct Border {
+    pub own: usize,
+    pub north: usize,
+    pub east: usize,
+    pub both: usize,
+    pub south: usize,
+    pub west: usize,
+}
+
+// On one level, the rows that lie along the border.
+fn refresh_level(t: &mut [i32], cap: usize, d: u32, b: Border, e: u32)
+    requires { ⌜ (cap * rowWords + rowWords ≤ length (now t)) × (cap ≤ 4095) × (d ≤ 32) × Within cap b ⌝ }
+    ensures { λ _. ⌜ now (t .exit) ≡ refreshLevel (borderOf b) e (now (t .entry)) cap d ⌝ }
+{
+    let own = [3u8, 2, 4, 1];
+    refresh_down(t, cap, d, &own, e, b.own);
+    let north = [3u8, 2];
+    refresh_down(t, cap, d, &north, e, b.north);
+    let east = [3u8, 4];
+    refresh_down(t, cap, d, &east, e, b.east);
+    let both = [3u8];
+    refresh_down(t, cap, d, &both, e, b.both);
+    let south = [4u8, 1];
+    refresh_down(t, cap, d, &south, e, b.south);
+    let west = [2u8, 1];
+    refresh_down(t, cap, d, &west, e, b.west);
+}
+
+// Level by level from level 0, so that the walls of the level below are right.
+fn refresh_levels(t: &mut [i32], cap: usize, d: u32, b: Border)
+    requires { ⌜ (cap * rowWords + rowWords ≤ length (now t)) × (cap ≤ 4095) × (d ≤ 32) × Within cap b ⌝ }
+    ensures { λ _. ⌜ now (t .exit) ≡ refreshLevels 13 (borderOf b) 0 (now (t .entry)) cap d ⌝ }
+{
+    let mut e = 0;
+    while e < 13 {
+        refresh_level(t, cap, d, b, e);
+        e += 1;
+    }
+}
+
+// The row n, or 0 if it is free.
+fn still_used(t: &[i32], n: usize) -> usize
+    requires { ⌜ n * rowWords + rowWords ≤ length (now t) ⌝ }
+    ensures { λ r. ⌜ (r ≤ n) × (r ≡ stillUsed (now (t .entry)) n) ⌝ }
+{
+    if word(t, n, 12) == 8192 { 0 } else { n }
+}
+
+// The border of the cell n, without the rows that are free.
+fn still_border(
+    t: &[i32],
+    cap: usize,
+    n: usize,
+    north: usize,
+    east: usize,
+    both: usize,
+    south: usize,
+    west: usize,
+) -> Border
+    requires { ⌜ (cap * rowWords + rowWords ≤ length (now t)) × (cap ≤ 4095) × (n ≤ cap) × (north ≤ cap) × (east ≤ cap) × (both ≤ cap) × (south ≤ cap) × (west ≤ cap) ⌝ }
+    ensures { λ r. ⌜ Within cap r × (borderOf r ≡ stillBorder (now (t .entry)) n north east both south west) ⌝ }
+{
+    Border {
+        own: still_used(t, n),
+        north: still_used(t, north),
+        east: still_used(t, east),
+        both: still_used(t, both),
+        south,
+        west,
+    }
+}
+
+// The cell n is none, and those of its corners that no cell touches any more go.
+fn clear_cell(t: &mut [i32], cap: usize, d: u32, n: usize, north: usize, east: usize, both: usize)
+    requires { ⌜ (cap * rowWords + rowWords ≤ length (now t)) × (cap ≤ 4095) × (n ≤ cap) × (north ≤ cap) × (east ≤ cap) × (both ≤ cap) ⌝ }
+    ensures { λ _. ⌜ now (t .exit) ≡ cleared (now (t .entry)) cap d n north east both ⌝ }
+{
+    put(t, n, 12, 0);
+    put(t, n, 13, 0);
+    drop_corner(t, cap, d, both);
+    drop_corner(t, cap, d, north);
+    drop_corner(t, cap, d, east);
+    drop_corner(t, cap, d, n);
+}
+
+// Kills the cell n.
+pub fn kill_table(t: &mut [i32], cap: usize, d: u32, n: usize)
+    requires { ⌜ (cap * rowWords + rowWords ≤ length (now t)) × (cap ≤ 4095) × (n ≤ cap) × (d ≤ 32) ⌝ }
+    ensures { λ _. ⌜ now (t .exit) ≡ killTable (now (t .entry)) cap d n ⌝ }
+{
+    let north = link(t, cap, n, 5);
+    let east = link(t, cap, n, 6);
+    let both = link(t, cap, east, 5);
+    let south = link(t, cap, n, 7);
+    let west = link(t, cap, n, 8);
+    clear_cell(t, cap, d, n, north, east, both);
+    let b = still_border(t, cap, n, north, east, both, south, west);
+    refresh_levels(t, cap, d, b);
+}
+
+// The values.
+pub fn kill_values(v: &mut [f64], n: usize)
+    requires { ⌜ n < length (now v) ⌝ }
+    ensures { λ _. ⌜ now (v .exit) ≡ killValues n (now (v .entry)) ⌝ }
+{
+    put_value(v, n, 0.0);
+}
+
+// Kills the cell n, its value too.
+pub fn kill(t: &mut [i32], v: &mut [f64], cap: usize, d: u32, n: usize)
+    requires { ⌜ (cap * rowWords + rowWords ≤ length (now t)) × (cap ≤ 4095) × (cap < length (now v)) × (n ≤ cap) × (d ≤ 32) ⌝ }
+    ensures { λ _. ⌜ (now (t .exit) ≡ killTable (now (t .entry)) cap d n) × (now (v .exit) ≡ killValues n (now (v .entry))) ⌝ }
+{
+    kill_table(t, cap, d, n);
+    kill_values(v, n);
+}

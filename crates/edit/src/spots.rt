@@ -1,0 +1,108 @@
+// Steps at the kids near a cell: its own four; the corners north, east and north-east; the sides south and west.
+ghost use mathlib.Core.Path.{_≡_};
+ghost use mathlib.Core.List.{[], _∷_, _++_};
+ghost use Prim.Native.Nat.{_+_, _*_, _<_, _≤_};
+ghost use lib.ListN.{length};
+ghost use Rattle.mesh.specs.Picture.{rowWords};
+ghost use Rattle.editing.specs.Tables.{spot, kidAt, kidSpots, wantedSpots, outsideSpots, refreshUnlessNil, refreshAt, putCells, putValues};
+ghost use Rattle.edit.specs.Lent.{cornerSpots, sideSpots};
+use crate::anew::refresh_unless_nil;
+use crate::steps::put_unless_nil;
+use table::words::link;
+use table::worked::kid_word;
+use table::writes::put_value;
+
+// The kid l, m of the row p, or 0.
+pub fn kid(t: &[i32], cap: usize, p: usize, l: u32, m: u32) -> usize
+    requires { ⌜ (cap * rowWords + rowWords ≤ length (now t)) × (cap ≤ 4095) × (p ≤ cap) × (m < 2) ⌝ }
+    ensures { λ r. ⌜ (r ≤ cap) × (r ≡ kidAt (now (t .entry)) cap (spot p l m)) ⌝ }
+{
+    link(t, cap, p, kid_word(l, m))
+}
+
+// Flags anew.
+fn refresh_kid(t: &mut [i32], cap: usize, d: u32, p: usize, l: u32, m: u32)
+    requires { ⌜ (cap * rowWords + rowWords ≤ length (now t)) × (cap ≤ 4095) × (p ≤ cap) × (m < 2) × (d ≤ 32) ⌝ }
+    ensures { λ _. ⌜ now (t .exit) ≡ refreshUnlessNil (now (t .entry)) cap d (kidAt (now (t .entry)) cap (spot p l m)) ⌝ }
+{
+    let k = kid(t, cap, p, l, m);
+    refresh_unless_nil(t, cap, d, k);
+}
+
+fn refresh_kids(t: &mut [i32], cap: usize, d: u32, n: usize)
+    requires { ⌜ (cap * rowWords + rowWords ≤ length (now t)) × (cap ≤ 4095) × (n ≤ cap) × (d ≤ 32) ⌝ }
+    ensures { λ _. ⌜ now (t .exit) ≡ refreshAt (kidSpots (now (t .entry)) cap n) (now (t .entry)) cap d ⌝ }
+{
+    refresh_kid(t, cap, d, n, 0, 0);
+    refresh_kid(t, cap, d, n, 1, 0);
+    refresh_kid(t, cap, d, n, 0, 1);
+    refresh_kid(t, cap, d, n, 1, 1);
+}
+
+fn refresh_corners(t: &mut [i32], cap: usize, d: u32, north: usize, east: usize, both: usize)
+    requires { ⌜ (cap * rowWords + rowWords ≤ length (now t)) × (cap ≤ 4095) × (north ≤ cap) × (east ≤ cap) × (both ≤ cap) × (d ≤ 32) ⌝ }
+    ensures { λ _. ⌜ now (t .exit) ≡ refreshAt (cornerSpots north east both) (now (t .entry)) cap d ⌝ }
+{
+    refresh_kid(t, cap, d, north, 0, 0);
+    refresh_kid(t, cap, d, north, 1, 0);
+    refresh_kid(t, cap, d, east, 0, 1);
+    refresh_kid(t, cap, d, east, 0, 0);
+    refresh_kid(t, cap, d, both, 0, 0);
+}
+
+fn refresh_sides(t: &mut [i32], cap: usize, d: u32, south: usize, west: usize)
+    requires { ⌜ (cap * rowWords + rowWords ≤ length (now t)) × (cap ≤ 4095) × (south ≤ cap) × (west ≤ cap) × (d ≤ 32) ⌝ }
+    ensures { λ _. ⌜ now (t .exit) ≡ refreshAt (sideSpots south west) (now (t .entry)) cap d ⌝ }
+{
+    refresh_kid(t, cap, d, south, 0, 1);
+    refresh_kid(t, cap, d, south, 1, 1);
+    refresh_kid(t, cap, d, west, 1, 0);
+    refresh_kid(t, cap, d, west, 1, 1);
+}
+
+// The flags of the thirteen rows whose flags a refinement or a removal can change.
+pub fn refresh_near(t: &mut [i32], cap: usize, d: u32, n: usize)
+    requires { ⌜ (cap * rowWords + rowWords ≤ length (now t)) × (cap ≤ 4095) × (n ≤ cap) × (d ≤ 32) ⌝ }
+    ensures { λ _. ⌜ now (t .exit) ≡ refreshAt (wantedSpots (now (t .entry)) cap n ++ outsideSpots (now (t .entry)) cap n) (now (t .entry)) cap d ⌝ }
+{
+    let north = link(t, cap, n, 5);
+    let east = link(t, cap, n, 6);
+    let both = link(t, cap, east, 5);
+    let south = link(t, cap, n, 7);
+    let west = link(t, cap, n, 8);
+    refresh_kids(t, cap, d, n);
+    refresh_corners(t, cap, d, north, east, both);
+    refresh_sides(t, cap, d, south, west);
+}
+
+// The flags' word and the status word of a kid.
+fn put_cell(t: &mut [i32], cap: usize, p: usize, l: u32, m: u32, f: u32, st: u32)
+    requires { ⌜ (cap * rowWords + rowWords ≤ length (now t)) × (cap ≤ 4095) × (p ≤ cap) × (m < 2) × (f < 2147483648) × (st < 2147483648) ⌝ }
+    ensures { λ _. ⌜ now (t .exit) ≡ putCells (spot p l m ∷ []) (now (t .entry)) cap f st ⌝ }
+{
+    let k = kid(t, cap, p, l, m);
+    put_unless_nil(t, k, 12, f);
+    put_unless_nil(t, k, 13, st);
+}
+
+// The flags' word and the status word of the four kids.
+pub fn put_cells(t: &mut [i32], cap: usize, n: usize, f: u32, st: u32)
+    requires { ⌜ (cap * rowWords + rowWords ≤ length (now t)) × (cap ≤ 4095) × (n ≤ cap) × (f < 2147483648) × (st < 2147483648) ⌝ }
+    ensures { λ _. ⌜ now (t .exit) ≡ putCells (kidSpots (now (t .entry)) cap n) (now (t .entry)) cap f st ⌝ }
+{
+    put_cell(t, cap, n, 0, 0, f, st);
+    put_cell(t, cap, n, 1, 0, f, st);
+    put_cell(t, cap, n, 0, 1, f, st);
+    put_cell(t, cap, n, 1, 1, f, st);
+}
+
+// The value y for the four kids.
+pub fn put_values(t: &[i32], cap: usize, n: usize, v: &mut [f64], y: f64)
+    requires { ⌜ (cap * rowWords + rowWords ≤ length (now t)) × (cap ≤ 4095) × (n ≤ cap) × (cap < length (now v)) ⌝ }
+    ensures { λ _. ⌜ now (v .exit) ≡ putValues (kidSpots (now (t .entry)) cap n) (now (t .entry)) cap y (now (v .entry)) ⌝ }
+{
+    put_value(v, kid(t, cap, n, 0, 0), y);
+    put_value(v, kid(t, cap, n, 1, 0), y);
+    put_value(v, kid(t, cap, n, 0, 1), y);
+    put_value(v, kid(t, cap, n, 1, 1), y);
+}
