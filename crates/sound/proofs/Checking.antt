@@ -4,8 +4,8 @@ use Prim.Native.Nat.{ℕ, _+_, _-_, _*_, _≤_, _<_, max}
 use native.Mathlib.Omega.{arith}
 use mathlib.Core.Path.{_≡_, refl, sym, ap, _∙_}
 use mathlib.Core.Logic.{_≢_}
-use mathlib.Core.Bool.{Bool, true, false, not, _&&_, _||_}
-use mathlib.Core.List.{List}
+use mathlib.Core.Bool.{Bool, true, false, not, _&&_, _||_, cond}
+use mathlib.Core.List.{List, [], _∷_}
 use lib.Dec.{eqb, leb}
 use lib.Count.{leadingZeros}
 use lib.ListN.{length, getD, List·getD-eq-default}
@@ -15,10 +15,10 @@ use lib.Signed.{mag}
 use native.Mathlib.Decide.{decLt}
 use borrow.Author.Tests.{eq-eqb, ne-eqb, le-leb, lt-leb}
 use Rattle.mesh.specs.Picture.{rowWords}
-use Rattle.mesh.specs.Test.{sound}
-use Rattle.mesh.specs.Refusal.{refusal}
-use Rattle.mesh.specs.Call.{outside, lentChecks, checkCall}
+use Rattle.mesh.specs.Refusal.{Check, refusal}
+use Rattle.mesh.specs.Call.{Lent, outside, no1, no2, no3, lentChecks, checkCall}
 use Rattle.mesh.specs.Place.{Grid, base, rectangle}
+use Rattle.geometry.proofs.Base.{Rectangle}
 use Rattle.checking.specs.Rowwise.{rowwise}
 use Rattle.checking.proofs.Words.{Fits, FitsAt}
 use Rattle.checking.proofs.Agreeing.{rowwise-is-sound}
@@ -63,50 +63,84 @@ all-fit t k l h i = go (decLt i k)
     go (yes x) = h i x
     go (no x) = word-fits (getD t i (pos 0)) (rw (List·getD-eq-default t (pos 0) {n = i} (omega arith)) (omega arith))
 
-module _ (columns rows mark cap : ℕ) (t : List ℤ) (v : List Float) where
-  pub too-small : cap < 5 → 1 ≡ checkCall cap (lentOf columns rows mark t v)
-  unfolding checkCall lentChecks refusal
+-- ---- the first two checks, whatever checks stand behind them
+
+module _ (cap : ℕ) (l : Lent) (cs : List Check) where
+  abbrev t : List ℤ
+  t = l .words
+
+  abbrev v : List Float
+  v = l .values
+
+  pub too-small : cap < 5 → 1 ≡ refusal (no1 cap l ∷ cs)
+  unfolding refusal
   too-small h = rw (last (not (eqb (length t) (rowWords * (cap + 1)))) (not (eqb (length v) (cap + 1))) (outside 5 4095 cap) (below-out 5 4095 cap h))
 
-  pub too-large : 4095 < cap → 1 ≡ checkCall cap (lentOf columns rows mark t v)
-  unfolding checkCall lentChecks refusal
+  pub too-large : 4095 < cap → 1 ≡ refusal (no1 cap l ∷ cs)
+  unfolding refusal
   too-large h = rw (last (not (eqb (length t) (rowWords * (cap + 1)))) (not (eqb (length v) (cap + 1))) (outside 5 4095 cap) (above-out 5 4095 cap h))
 
-  pub wrong-table : length t ≢ rowWords * (cap + 1) → 1 ≡ checkCall cap (lentOf columns rows mark t v)
-  unfolding checkCall lentChecks refusal
+  pub wrong-table : length t ≢ rowWords * (cap + 1) → 1 ≡ refusal (no1 cap l ∷ cs)
+  unfolding refusal
   wrong-table h = rw (ne-eqb (length t) (rowWords * (cap + 1)) h)
 
-  pub wrong-values : length v ≢ cap + 1 → 1 ≡ checkCall cap (lentOf columns rows mark t v)
-  unfolding checkCall lentChecks refusal
+  pub wrong-values : length v ≢ cap + 1 → 1 ≡ refusal (no1 cap l ∷ cs)
+  unfolding refusal
   wrong-values h = rw (ne-eqb (length v) (cap + 1) h) (rw (either (not (eqb (length t) (rowWords * (cap + 1)))) true refl))
 
   module _ (size : length t ≡ rowWords * (cap + 1)) (places : length v ≡ cap + 1) (low : 5 ≤ cap) (high : cap ≤ 4095) where
-    pub columns-below : columns < 1 → 2 ≡ checkCall cap (lentOf columns rows mark t v)
-    unfolding checkCall lentChecks refusal
-    columns-below h = rw (eq-eqb (length t) (rowWords * (cap + 1)) size, eq-eqb (length v) (cap + 1) places, in-range 5 4095 cap low high, below-out 1 32 columns h)
+    -- past the first check
+    sized : refusal (no1 cap l ∷ cs) ≡ refusal cs
+    unfolding refusal
+    sized = rw (eq-eqb (length t) (rowWords * (cap + 1)) size, eq-eqb (length v) (cap + 1) places, in-range 5 4095 cap low high)
 
-    pub columns-above : 32 < columns → 2 ≡ checkCall cap (lentOf columns rows mark t v)
-    unfolding checkCall lentChecks refusal
-    columns-above h = rw (eq-eqb (length t) (rowWords * (cap + 1)) size, eq-eqb (length v) (cap + 1) places, in-range 5 4095 cap low high, above-out 1 32 columns h)
+-- the second check
+module _ (g : Grid) (cs : List Check) where
+  wide : outside 1 32 (g .columns) ≡ true → refusal (no2 g ∷ cs) ≡ 2
+  unfolding refusal
+  wide h = rw h
 
-    pub rows-below : rows < 1 → 2 ≡ checkCall cap (lentOf columns rows mark t v)
-    unfolding checkCall lentChecks refusal
-    rows-below h = rw (eq-eqb (length t) (rowWords * (cap + 1)) size, eq-eqb (length v) (cap + 1) places, in-range 5 4095 cap low high, either (outside 1 32 columns) (outside 1 32 rows) (below-out 1 32 rows h))
+  tall : outside 1 32 (g .rows) ≡ true → refusal (no2 g ∷ cs) ≡ 2
+  unfolding refusal
+  tall h = rw (either (outside 1 32 (g .columns)) (outside 1 32 (g .rows)) h)
 
-    pub rows-above : 32 < rows → 2 ≡ checkCall cap (lentOf columns rows mark t v)
-    unfolding checkCall lentChecks refusal
-    rows-above h = rw (eq-eqb (length t) (rowWords * (cap + 1)) size, eq-eqb (length v) (cap + 1) places, in-range 5 4095 cap low high, either (outside 1 32 columns) (outside 1 32 rows) (above-out 1 32 rows h))
+  within : Rectangle g → refusal (no2 g ∷ cs) ≡ refusal cs
+  unfolding refusal
+  within r = rw (in-range 1 32 (g .columns) (r .0) (r .1), in-range 1 32 (g .rows) (r .2) (r .3))
 
-    module _ (a : 1 ≤ columns) (b : columns ≤ 32) (c : 1 ≤ rows) (e : rows ≤ 32) (f : Fits t) where
-      is-sound : (x : Bool) → x ≡ rowwise (rectangle columns rows) cap t v → sound (lentOf columns rows mark t v .header) t v ≡ x
-      is-sound x h = sym (rowwise-is-sound (lentOf columns rows mark t v .header) cap t v size places low high (a, b, c, e) f) ∙ sym h
+module _ (cap : ℕ) (l : Lent) (g : Grid) (cs : List Check) (size : length (l .words) ≡ rowWords * (cap + 1)) (places : length (l .values) ≡ cap + 1) (low : 5 ≤ cap) (high : cap ≤ 4095) where
+  pub columns-below : g .columns < 1 → 2 ≡ refusal (no1 cap l ∷ no2 g ∷ cs)
+  columns-below h = sym (sized cap l (no2 g ∷ cs) size places low high ∙ wide g cs (below-out 1 32 (g .columns) h))
 
-      pub rows-pass : true ≡ rowwise (rectangle columns rows) cap t v → 0 ≡ checkCall cap (lentOf columns rows mark t v)
-      unfolding checkCall lentChecks refusal
-      rows-pass h =
-          rw (eq-eqb (length t) (rowWords * (cap + 1)) size, eq-eqb (length v) (cap + 1) places, in-range 5 4095 cap low high, in-range 1 32 columns a b, in-range 1 32 rows c e, is-sound true h)
+  pub columns-above : 32 < g .columns → 2 ≡ refusal (no1 cap l ∷ no2 g ∷ cs)
+  columns-above h = sym (sized cap l (no2 g ∷ cs) size places low high ∙ wide g cs (above-out 1 32 (g .columns) h))
 
-      pub rows-fail : false ≡ rowwise (rectangle columns rows) cap t v → 3 ≡ checkCall cap (lentOf columns rows mark t v)
-      unfolding checkCall lentChecks refusal
-      rows-fail h =
-          rw (eq-eqb (length t) (rowWords * (cap + 1)) size, eq-eqb (length v) (cap + 1) places, in-range 5 4095 cap low high, in-range 1 32 columns a b, in-range 1 32 rows c e, is-sound false h)
+  pub rows-below : g .rows < 1 → 2 ≡ refusal (no1 cap l ∷ no2 g ∷ cs)
+  rows-below h = sym (sized cap l (no2 g ∷ cs) size places low high ∙ tall g cs (below-out 1 32 (g .rows) h))
+
+  pub rows-above : 32 < g .rows → 2 ≡ refusal (no1 cap l ∷ no2 g ∷ cs)
+  rows-above h = sym (sized cap l (no2 g ∷ cs) size places low high ∙ tall g cs (above-out 1 32 (g .rows) h))
+
+  -- what stands behind them decides
+  pub both-pass : Rectangle g → refusal (no1 cap l ∷ no2 g ∷ cs) ≡ refusal cs
+  both-pass r = sized cap l (no2 g ∷ cs) size places low high ∙ within g cs r
+
+-- ---- the checker
+
+module _ (columns rows mark cap : ℕ) (t : List ℤ) (v : List Float) (size : length t ≡ rowWords * (cap + 1)) (places : length v ≡ cap + 1) (low : 5 ≤ cap) (high : cap ≤ 4095)
+    (r : Rectangle (rectangle columns rows)) (f : Fits t) where
+  by-rows : (x : Bool) → x ≡ rowwise (rectangle columns rows) cap t v → refusal (no3 (lentOf columns rows mark t v) ∷ []) ≡ cond x 0 3
+  unfolding refusal
+  by-rows x h = rw (sym (rowwise-is-sound (lentOf columns rows mark t v .header) cap t v size places low high r f) ∙ sym h) (go x)
+    where
+      go : (x : Bool) → cond (not x) 3 0 ≡ cond {A = ℕ} x 0 3
+      go true = refl
+      go false = refl
+
+  pub rows-pass : true ≡ rowwise (rectangle columns rows) cap t v → 0 ≡ checkCall cap (lentOf columns rows mark t v)
+  unfolding checkCall lentChecks
+  rows-pass h = sym (both-pass cap (lentOf columns rows mark t v) (rectangle columns rows) _ size places low high r ∙ by-rows true h)
+
+  pub rows-fail : false ≡ rowwise (rectangle columns rows) cap t v → 3 ≡ checkCall cap (lentOf columns rows mark t v)
+  unfolding checkCall lentChecks
+  rows-fail h = sym (both-pass cap (lentOf columns rows mark t v) (rectangle columns rows) _ size places low high r ∙ by-rows false h)

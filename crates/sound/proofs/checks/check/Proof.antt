@@ -4,7 +4,9 @@ use borrow.Author.Needs.{needs}
 use native.Mathlib.Omega.{arith}
 use Prim.Native.Nat.{ℕ, _≤_, _<_}
 use mathlib.Core.Path.{_≡_, sym, _∙_}
-use lib.IntN.{pos}
+use Rattle.mesh.specs.Place.{rectangle}
+use Rattle.mesh.specs.Call.{lentChecks, checkCall}
+use Rattle.sound.specs.Called.{lentOf}
 use Rattle.sound.proofs.Checking.{too-small, too-large, wrong-table, wrong-values, columns-below, columns-above, rows-below, rows-above, rows-pass, rows-fail, shallow}
 use Rattle.sound.proofs.checks.check.Statement.{statement}
 use Rattle.sound.proofs.checks.check.Tie as tie
@@ -15,10 +17,12 @@ use Rattle.sound.proofs.checks.words_fit.Reads as words-fit-reads
 use Rattle.sound.proofs.rowwise.Reads as rowwise-reads
 
 returns : tie.Need-returns
-returns c = λ mark. too-small _ _ mark _ _ _ (c .if1 .taken)
+unfolding checkCall lentChecks
+returns c = λ mark. too-small _ (lentOf (c .before .before .args .columns) (c .before .before .args .rows) mark (c .before .before .args .t .now) (c .before .before .args .v .now)) _ (c .if1 .taken)
 
 returns-2 : tie.Need-returns-2
-returns-2 c = λ mark. too-large _ _ mark _ _ _ (c .if2 .taken)
+unfolding checkCall lentChecks
+returns-2 c = λ mark. too-large _ (lentOf (c .before .before .before .args .columns) (c .before .before .before .args .rows) mark (c .before .before .before .args .t .now) (c .before .before .before .args .v .now)) _ (c .if2 .taken)
 
 add-if3 : tie.Need-add-if3
 add-if3 c = search needs
@@ -27,25 +31,31 @@ mul-if3 : tie.Need-mul-if3
 mul-if3 c = search needs
 
 returns-3 : tie.Need-returns-3
-returns-3 c = λ mark. wrong-table _ _ mark _ _ _ (c .if3 .taken)
+unfolding checkCall lentChecks
+returns-3 c = λ mark. wrong-table _ (lentOf (c .before .before .before .before .args .columns) (c .before .before .before .before .args .rows) mark (c .before .before .before .before .args .t .now) (c .before .before .before .before .args .v .now)) _ (c .if3 .taken)
 
 add-if4 : tie.Need-add-if4
 add-if4 c = search needs
 
 returns-4 : tie.Need-returns-4
-returns-4 c = λ mark. wrong-values _ _ mark _ _ _ (c .if4 .taken)
+unfolding checkCall lentChecks
+returns-4 c = λ mark. wrong-values _ (lentOf (c .before .before .before .before .before .args .columns) (c .before .before .before .before .before .args .rows) mark (c .before .before .before .before .before .args .t .now) (c .before .before .before .before .before .args .v .now)) _ (c .if4 .taken)
 
 returns-5 : tie.Need-returns-5
-returns-5 c = λ mark. columns-below _ _ mark _ _ _ (omega arith) (omega arith) (omega arith) (omega arith) (c .if5 .taken)
+unfolding checkCall lentChecks
+returns-5 c = λ mark. columns-below _ (lentOf (c .before .before .before .before .before .before .args .columns) (c .before .before .before .before .before .before .args .rows) mark (c .before .before .before .before .before .before .args .t .now) (c .before .before .before .before .before .before .args .v .now)) (rectangle (c .before .before .before .before .before .before .args .columns) (c .before .before .before .before .before .before .args .rows)) _ (omega arith) (omega arith) (omega arith) (omega arith) (c .if5 .taken)
 
 returns-6 : tie.Need-returns-6
-returns-6 c = λ mark. columns-above _ _ mark _ _ _ (omega arith) (omega arith) (omega arith) (omega arith) (c .if6 .taken)
+unfolding checkCall lentChecks
+returns-6 c = λ mark. columns-above _ (lentOf (c .before .before .before .before .before .before .before .args .columns) (c .before .before .before .before .before .before .before .args .rows) mark (c .before .before .before .before .before .before .before .args .t .now) (c .before .before .before .before .before .before .before .args .v .now)) (rectangle (c .before .before .before .before .before .before .before .args .columns) (c .before .before .before .before .before .before .before .args .rows)) _ (omega arith) (omega arith) (omega arith) (omega arith) (c .if6 .taken)
 
 returns-7 : tie.Need-returns-7
-returns-7 c = λ mark. rows-below _ _ mark _ _ _ (omega arith) (omega arith) (omega arith) (omega arith) (c .if7 .taken)
+unfolding checkCall lentChecks
+returns-7 c = λ mark. rows-below _ (lentOf (c .before .before .before .before .before .before .before .before .args .columns) (c .before .before .before .before .before .before .before .before .args .rows) mark (c .before .before .before .before .before .before .before .before .args .t .now) (c .before .before .before .before .before .before .before .before .args .v .now)) (rectangle (c .before .before .before .before .before .before .before .before .args .columns) (c .before .before .before .before .before .before .before .before .args .rows)) _ (omega arith) (omega arith) (omega arith) (omega arith) (c .if7 .taken)
 
 returns-8 : tie.Need-returns-8
-returns-8 c = λ mark. rows-above _ _ mark _ _ _ (omega arith) (omega arith) (omega arith) (omega arith) (c .if8 .taken)
+unfolding checkCall lentChecks
+returns-8 c = λ mark. rows-above _ (lentOf (c .before .before .before .before .before .before .before .before .before .args .columns) (c .before .before .before .before .before .before .before .before .before .args .rows) mark (c .before .before .before .before .before .before .before .before .before .args .t .now) (c .before .before .before .before .before .before .before .before .before .args .v .now)) (rectangle (c .before .before .before .before .before .before .before .before .before .args .columns) (c .before .before .before .before .before .before .before .before .before .args .rows)) _ (omega arith) (omega arith) (omega arith) (omega arith) (c .if8 .taken)
 
 words-fit-requires : tie.Need-words-fit-requires
 words-fit-requires c κs = omega arith
@@ -61,11 +71,11 @@ rowwise-requires c κs = (
 
 returns-9 : tie.Need-returns-9
 returns-9 c = λ mark.
-    rows-pass _ _ mark _ _ _ (omega arith) (omega arith) (omega arith) (omega arith) (omega arith) (omega arith) (omega arith) (omega arith) (c .before .before .before .words-fit .ensures) (sym (c .if9 .taken) ∙ c .before .rowwise .ensures)
+    rows-pass _ _ mark _ _ _ (omega arith) (omega arith) (omega arith) (omega arith) (omega arith, omega arith, omega arith, omega arith) (c .before .before .before .words-fit .ensures) (sym (c .if9 .taken) ∙ c .before .rowwise .ensures)
 
 returns-10 : tie.Need-returns-10
 returns-10 c = λ mark.
-    rows-fail _ _ mark _ _ _ (omega arith) (omega arith) (omega arith) (omega arith) (omega arith) (omega arith) (omega arith) (omega arith) (c .before .before .before .words-fit .ensures) (sym (c .if9 .left) ∙ c .before .rowwise .ensures)
+    rows-fail _ _ mark _ _ _ (omega arith) (omega arith) (omega arith) (omega arith) (omega arith, omega arith, omega arith, omega arith) (c .before .before .before .words-fit .ensures) (sym (c .if9 .left) ∙ c .before .rowwise .ensures)
 
 pub check-spec : {M : Type 1} → statement M
 check-spec =
