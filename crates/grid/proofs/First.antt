@@ -11,7 +11,7 @@ use lib.ListN.{length}
 use borrow.Author.Tests.{eqb-true, leb-true, not-false}
 use Rattle.mesh.specs.Picture.{rowWords}
 use Rattle.mesh.specs.Refusal.{Check, _if_, refusal}
-use Rattle.mesh.specs.Call.{Lent, stateOf, outside, lentChecks, checkCall, Wrote, pageCall}
+use Rattle.mesh.specs.Call.{Lent, stateOf, outside, no1, lentChecks, checkCall, Wrote, pageCall}
 use Rattle.mesh.specs.Place.{base}
 use Rattle.page.specs.Rows.{rowOut}
 use Rattle.paging.proofs.Called.{page-call}
@@ -37,6 +37,14 @@ both false b e = absurd (let z : _≡_ {A = ℕ} 0 1 = cc in omega arith)
 neither : (a b : Bool) → (a || b) ≡ false → (a ≡ false) × (b ≡ false)
 neither true b e = absurd (let z : _≡_ {A = ℕ} 0 1 = cc in omega arith)
 neither false b e = (refl, e)
+
+-- the first check alone
+pub lengths : (cap : ℕ) (l : Lent) (cs : List Check) → refusal (no1 cap l ∷ cs) ≡ 0 → (length (l .words) ≡ rowWords * (cap + 1)) × (length (l .values) ≡ cap + 1)
+lengths cap l cs h =
+    let (a₁, h₁) = passes 1 _ _ (λ z. omega arith) h in
+    let (a, r) = neither (not (eqb (length (l .words)) (rowWords * (cap + 1)))) _ a₁ in
+    let (b, c) = neither (not (eqb (length (l .values)) (cap + 1))) (outside 5 4095 cap) r in
+    (eqb-true (length (l .words)) (rowWords * (cap + 1)) (not-false _ a), eqb-true (length (l .values)) (cap + 1) (not-false _ b))
 
 pub record Sizes (cap : ℕ) (l : Lent) : Type 0 where
   pub words : length (l .words) ≡ rowWords * (cap + 1)

@@ -1,2 +1,3 @@
 -- What the first checks of a call leave for the rest of it.
 pub mod First
+pub mod Builds

@@ -1,6 +1,7 @@
 -- What a public call lends and answers, as the definitions of `mesh` take it. Each contract is one equation with one of them.
 -- Assumes nothing.
 use Prim.Native.Nat.{ℕ}
+use mathlib.Core.Path.{_≡_}
 use mathlib.Core.List.{List}
 use lib.IntN.{ℤ}
 use lib.Ieee.{Float}
@@ -9,6 +10,7 @@ use Rattle.mesh.specs.State as State
 use Rattle.mesh.specs.Call as Call
 use Rattle.grid.specs.declared.Header.{Header}
 use Rattle.grid.specs.declared.Wrote.{Wrote}
+use Rattle.grid.specs.declared.Built.{Built}
 
 -- "columns, rows, and a 16-bit edit mark"
 abbrev pub headerOf : Header → State.Header
@@ -20,3 +22,16 @@ lentOf h t v = record { header = headerOf h; words = t; values = v }
 -- the answer, and what the output holds
 abbrev pub wroteOf : Wrote → List ℕ → Call.Wrote
 wroteOf r out = record { why = r .refusal; count = r .count; out = out }
+
+-- lists lent with any header
+abbrev pub lists : State.Header → List ℤ → List Float → Call.Lent
+lists h t v = record { header = h; words = t; values = v }
+
+-- ---- build
+
+abbrev pub builtOf : Built → Header → List ℤ → List Float → Call.Built
+builtOf r h t v = record { why = r .refusal; in-use = r .used; lent = lentOf h t v }
+
+-- what a build may do: the header, the lists, the capacity, columns and rows at entry; the header, the lists and the answer at exit
+pub record Builds (h : Header) (t : List ℤ) (v : List Float) (cap columns rows : ℕ) (h′ : Header) (t′ : List ℤ) (v′ : List Float) (r : Built) : Type 0 where
+  pub is : builtOf r h′ t′ v′ ≡ Call.buildCall cap (lentOf h t v) (rectangle columns rows)

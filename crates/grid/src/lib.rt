@@ -1,7 +1,12 @@
 // The public calls of the grid library. Every call takes any lists of any length and any header, and refuses by number; none has a `requires`.
 ghost use mathlib.Core.Path.{_≡_};
-ghost use Rattle.mesh.specs.Call.{checkCall, pageCall};
-ghost use Rattle.grid.specs.Calls.{lentOf, wroteOf};
+ghost use Prim.Native.Nat.{_<_};
+ghost use Rattle.mesh.specs.Place.{rectangle};
+ghost use Rattle.mesh.specs.State as State;
+ghost use Rattle.mesh.specs.Refusal.{refusal};
+ghost use Rattle.mesh.specs.Call.{checkCall, pageCall, buildChecks};
+ghost use Rattle.grid.specs.Calls.{lentOf, lists, wroteOf, Builds};
+use table::words::ROW_WORDS;
 
 // Lent with the table: the rectangle of level-0 cells, and the edit mark.
 pub struct Header {
@@ -14,6 +19,17 @@ pub struct Header {
 pub struct Wrote {
     pub refusal: u32,
     pub count: usize,
+}
+
+// What a build answers: a refusal or 0, and the number in use.
+pub struct Built {
+    pub refusal: u32,
+    pub used: usize,
+}
+
+pub struct BuildOut {
+    pub header: Header,
+    pub answer: Built,
 }
 
 // Whether the table, the values and the header are sound: 0 for yes, or refusal 1, 2 or 3.
@@ -46,5 +62,70 @@ pub fn page(header: Header, table: &[i32], values: &[f64], capacity: u32, out: &
     Wrote {
         refusal: p.why,
         count: p.count,
+    }
+}
+
+// The refusal of a build, or 0: the old contents of the lists are not read.
+fn build_refusal(table: &[i32], values: &[f64], capacity: u32, columns: u32, rows: u32) -> u32
+    ensures { λ r. ⌜ ((h : State.Header) → r ≡ refusal (buildChecks capacity (lists h (now (table .entry)) (now (values .entry))) (rectangle columns rows))) ⌝ }
+{
+    if capacity < 5 {
+        return 1;
+    }
+    if 4095 < capacity {
+        return 1;
+    }
+    let cap = capacity as usize;
+    if table.len() != ROW_WORDS * (cap + 1) {
+        return 1;
+    }
+    if values.len() != cap + 1 {
+        return 1;
+    }
+    if columns < 1 {
+        return 2;
+    }
+    if 32 < columns {
+        return 2;
+    }
+    if rows < 1 {
+        return 2;
+    }
+    if 32 < rows {
+        return 2;
+    }
+    let d = mesh::ground_depth(columns, rows);
+    if cap < build::count::patches_in(columns, rows, d) {
+        return 11;
+    }
+    0
+}
+
+// The build on the header by value.
+pub fn build_core(
+    header: Header,
+    table: &mut [i32],
+    values: &mut [f64],
+    capacity: u32,
+    columns: u32,
+    rows: u32,
+) -> BuildOut
+    ensures { λ r. ⌜ Builds header (now (table .entry)) (now (values .entry)) capacity columns rows (r .header) (now (table .exit)) (now (values .exit)) (r .answer) ⌝ }
+{
+    let refusal = build_refusal(table, values, capacity, columns, rows);
+    if refusal != 0 {
+        return BuildOut {
+            header,
+            answer: Built { refusal, used: 0 },
+        };
+    }
+    let used = build::build_table(table, values, capacity as usize, columns, rows);
+    BuildOut {
+        header: Header {
+            columns,
+            rows,
+            mark: 0,
+        },
+        answer: Built { refusal: 0, used },
     }
 }

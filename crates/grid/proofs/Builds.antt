@@ -1,0 +1,66 @@
+-- A build: refused, nothing changes; accepted, what is lent is the picture of the built state.
+-- Assumes nothing.
+use Prim.Native.Nat.{ℕ, _+_, _*_, _≤_, _<_}
+use native.Mathlib.Nat.{mul-comm}
+use native.Mathlib.Omega.{arith}
+use mathlib.Core.Path.{_≡_, refl, sym, ap, _∙_}
+use mathlib.Core.Logic.{_≢_}
+use mathlib.Core.List.{List, [], _∷_}
+use lib.Dec.{ltb}
+use lib.ListN.{length}
+use lib.IntN.{ℤ}
+use lib.Ieee.{Float}
+use borrow.Author.Tests.{lt-ltb, le-ltb}
+use Rattle.mesh.specs.Place.{Grid, rectangle}
+use Rattle.mesh.specs.State as State
+use Rattle.mesh.specs.Picture.{rowWords}
+use Rattle.mesh.specs.Refusal.{_if_, refusal}
+use Rattle.mesh.specs.Build.{numbered, built}
+use Rattle.mesh.specs.Call.{Lent, picture, no1, no2, unless, buildChecks, buildCall}
+use Rattle.geometry.proofs.Base.{Rectangle}
+use Rattle.sound.proofs.Checking.{both-pass}
+use Rattle.build.specs.Steps.{Made}
+use Rattle.laws.proofs.Refusals.{unless-accepted, unless-refused}
+use Rattle.laws.proofs.Calls.{Buildable, build-checked}
+use Rattle.grid.specs.declared.Header.{Header}
+use Rattle.grid.specs.declared.Built.{Built}
+use Rattle.grid.specs.Calls.{lentOf, builtOf, Builds}
+use Rattle.grid.proofs.First.{lengths}
+
+-- ---- the refusal
+
+module _ (cap : ℕ) (l : Lent) (g : Grid) (size : length (l .words) ≡ rowWords * (cap + 1)) (places : length (l .values) ≡ cap + 1) (low : 5 ≤ cap) (high : cap ≤ 4095) (r : Rectangle g) where
+  pub too-few : cap < length (numbered g) → 11 ≡ refusal (buildChecks cap l g)
+  unfolding buildChecks refusal
+  too-few h =
+      let e : refusal ((11 if ltb cap (length (numbered g))) ∷ []) ≡ 11 = rw (lt-ltb cap (length (numbered g)) h) in
+      sym (both-pass cap l g ((11 if ltb cap (length (numbered g))) ∷ []) size places low high r ∙ e)
+
+  pub enough : length (numbered g) ≤ cap → 0 ≡ refusal (buildChecks cap l g)
+  unfolding buildChecks refusal
+  enough h =
+      let e : refusal ((11 if ltb cap (length (numbered g))) ∷ []) ≡ 0 = rw (le-ltb cap (length (numbered g)) h) in
+      sym (both-pass cap l g ((11 if ltb cap (length (numbered g))) ∷ []) size places low high r ∙ e)
+
+-- ---- the call
+
+module _ (h : Header) (t : List ℤ) (v : List Float) (cap columns rows : ℕ) (n : ℕ) (is : n ≡ refusal (buildChecks cap (lentOf h t v) (rectangle columns rows))) where
+  pub build-refused : n ≢ 0 → Builds h t v cap columns rows h t v (record { refusal = n; used = 0 })
+  unfolding buildCall
+  build-refused some = record { is = sym (rw (sym is) (unless-refused _ _ n some)) }
+
+  module _ (none : n ≡ 0) where
+    pub sized : (length t ≡ rowWords * (cap + 1)) × (length v ≡ cap + 1)
+    unfolding buildChecks
+    sized = lengths cap (lentOf h t v) _ (sym is ∙ none)
+
+    pub buildable : Buildable cap (rectangle columns rows)
+    buildable = build-checked cap (lentOf h t v) (rectangle columns rows) (sym is ∙ none)
+
+    pub build-made : (t′ : List ℤ) (v′ : List Float) (k : ℕ) → Made (rectangle columns rows) cap t′ v′ k
+        → Builds h t v cap columns rows (record { columns = columns; rows = rows; mark = 0 }) t′ v′ (record { refusal = 0; used = k })
+    unfolding buildCall built
+    build-made t′ v′ k m = record { is = made ∙ sym (unless-accepted _ _ _ (sym is ∙ none)) }
+      where
+        made : builtOf (record { refusal = 0; used = k }) (record { columns = columns; rows = rows; mark = 0 }) t′ v′ ≡ record { why = 0; in-use = State.inUse (built (rectangle columns rows) cap .entries); lent = picture (built (rectangle columns rows) cap) }
+        made = λ i. record { why = 0; in-use = m .in-use-is i; lent = record { header = record { grid = rectangle columns rows; mark = 0 }; words = m .words-are i; values = m .values-are i } }
