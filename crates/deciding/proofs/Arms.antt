@@ -1,23 +1,23 @@
 -- What the definitions give where a branch of the code has decided a test.
 -- Assumes nothing.
-use Prim.Native.Nat.{ℕ, zero, suc, _+_, _-_, _*_, _≤_, _<_}
+use Prim.Native.Nat.{ℕ, zero, suc, _+_, _-_, _*_, _≤_}
 use native.Mathlib.Omega.{arith}
 use mathlib.Core.Path.{_≡_, refl, sym, _∙_}
 use mathlib.Core.Logic.{_≢_}
 use mathlib.Core.Bool.{Bool, true, false, not, _&&_, _||_, cond}
 use mathlib.Core.List.{List, [], _∷_}
-use lib.Dec.{eqb, leb, leb→le}
+use lib.Dec.{eqb}
 use lib.IntN.{ℤ, pos}
 use lib.ListN.{set}
-use borrow.Author.Tests.{not-false, ne-eqb, le-leb, lt-leb}
+use borrow.Author.Tests.{not-false, ne-eqb}
 use Rattle.mesh.specs.Tools.{any, every}
 use Rattle.mesh.specs.Picture.{rowWords}
 use Rattle.mesh.specs.Refusal.{Check, _if_, refusal}
-use Rattle.table.specs.Words.{wordOf, linkOf, flagOf}
-use Rattle.geometry.proofs.Bools.{is-yes, and-left, and-right}
+use Rattle.table.specs.Words.{wordOf, linkOf, flagOf, vacant, taken}
+use Rattle.table.proofs.Taken.{taken-within}
 use Rattle.numbering.proofs.Checks.{passes}
 use Rattle.deciding.specs.Marks.{sentenceTable}
-use Rattle.deciding.specs.Decide.{vacant, enoughFrom, enough, taken, kidsDoomed, lacking, otherUnder, row6, row7}
+use Rattle.deciding.specs.Decide.{enoughFrom, enough, kidsDoomed, lacking, otherUnder, row6, row7}
 
 -- ---- tests
 
@@ -27,29 +27,6 @@ every-four true true true false = refl
 every-four true true false d = refl
 every-four true false c d = refl
 every-four false b c d = refl
-
--- ---- a number in use
-
-module _ (t : List ℤ) (cap n : ℕ) where
-  pub taken-nil : n ≡ 0 → false ≡ taken t cap n
-  unfolding taken
-  taken-nil e = rw e
-
-  pub taken-past : cap < n → false ≡ taken t cap n
-  unfolding taken
-  taken-past l = rw (le-leb 1 n (omega arith), lt-leb n cap l)
-
-  pub taken-there : (b : Bool) → n ≢ 0 → n ≤ cap → b ≡ vacant t n → not b ≡ taken t cap n
-  unfolding taken
-  taken-there b z l e = rw (le-leb 1 n (omega (arith, z)), le-leb n cap l, e)
-
-  -- a number in use is one of 1 to the capacity
-  pub taken-within : taken t cap n ≡ true → (1 ≤ n) × (n ≤ cap)
-  unfolding taken
-  taken-within e =
-      let t₁ = is-yes (taken t cap n) e in
-      let rest = leb n cap && not (vacant t n) in
-      (leb→le 1 n (and-left (leb 1 n) rest t₁), leb→le n cap (and-left (leb n cap) (not (vacant t n)) (and-right (leb 1 n) rest t₁)))
 
 -- ---- a row's kids and the rows around it
 

@@ -1,33 +1,32 @@
 -- What the checks ask of a row, where the table is the picture of a valid state: the row under a number says what its entry does.
 -- Assumes nothing.
-use Prim.Native.Nat.{ℕ, _≤_}
+use Prim.Native.Nat.{ℕ}
 use native.Mathlib.Omega.{arith}
-use native.Mathlib.Decide.{ℕ-discrete, decLe}
+use native.Mathlib.Decide.{ℕ-discrete}
 use mathlib.Core.Path.{_≡_, refl, ap, _∙_}
-use mathlib.Core.Bool.{Bool, true, false, not, _&&_}
+use mathlib.Core.Bool.{Bool, true, false, not}
 use mathlib.Core.Option.{some}
 use mathlib.Core.List.{List}
-use lib.Dec.{T, eqb, leb, lit<}
+use lib.Dec.{T, eqb, lit<}
 use lib.IntN.{ℤ}
-use lib.ListN.{length, List·getD-eq-default}
-use borrow.Author.Tests.{le-leb, lt-leb, ne-eqb, eq-eqb}
+use borrow.Author.Tests.{ne-eqb, eq-eqb}
 use Rattle.mesh.specs.Tools.{all, isSome}
 use Rattle.mesh.specs.Place.{Place, Grid, NE, kid, kids}
 use Rattle.mesh.specs.Mesh.{patch, hasKids}
-use Rattle.mesh.specs.State.{State, Entry, nil, free, used, placeOf, isUsed, isFree, isCell, isSentenced, entry, cells, number, gridOf, capacity}
+use Rattle.mesh.specs.State.{State, Entry, nil, free, used, placeOf, isCell, isSentenced, entry, cells, number, gridOf, capacity}
 use Rattle.mesh.specs.Valid.{Valid}
 use Rattle.mesh.specs.Picture.{table}
-use Rattle.table.specs.Words.{wordOf, flagOf}
+use Rattle.table.specs.Words.{flagOf}
 use Rattle.geometry.proofs.Bools.{bool-ext, is-no}
 use Rattle.geometry.proofs.Digits.{kidBy}
 use Rattle.geometry.proofs.Kids.{parent-kid, kid-has, all-kids}
 use Rattle.geometry.proofs.Tree.{cell-patch}
 use Rattle.geometry.proofs.Growing.{middle-new}
 use Rattle.numbering.proofs.Numbers.{valid-numbered, number-place, numbered-not-zero, cells-contents, entry-contents}
-use Rattle.pictures.proofs.Pictured.{nil-words, free-flags, patch-not-free, sentenced-flag}
+use Rattle.pictures.proofs.Pictured.{nil-words, free-flags, sentenced-flag}
 use Rattle.pictures.proofs.Linked.{kids-every, link-kid-of}
 use Rattle.pictures.proofs.Flagged.{cell-of}
-use Rattle.deciding.specs.Decide.{vacant, taken, parental, kidsDoomed}
+use Rattle.deciding.specs.Decide.{parental, kidsDoomed}
 
 module _ (s : State) (v : Valid s) where
   abbrev g : Grid
@@ -43,28 +42,6 @@ module _ (s : State) (v : Valid s) where
   t = table s
 
   -- ---- every number
-
-  pub vacant-row : (n : ℕ) → vacant t n ≡ isFree (entry es n)
-  unfolding vacant
-  vacant-row n = go (entry es n) refl
-    where
-      go : (e : Entry) → entry es n ≡ e → eqb (wordOf t n 12) 8192 ≡ isFree e
-      go nil h = rw (nil-words s n 12 h (lit< tt))
-      go free h = rw (free-flags s n h)
-      go (used p x) h = patch-not-free s n p (ap placeOf h)
-
-  pub taken-row : (n : ℕ) → taken t (capacity s) n ≡ isUsed (entry es n)
-  unfolding taken
-  taken-row n = rw (vacant-row n) (go (decLe 1 n) (decLe n (capacity s)) (entry es n) refl)
-    where
-      go : Dec (1 ≤ n) → Dec (n ≤ capacity s) → (e : Entry) → entry es n ≡ e → (leb 1 n && (leb n (capacity s) && not (isFree (entry es n)))) ≡ isUsed (entry es n)
-      go (yes a) (yes b) nil h = let z : T false = rw h at (v .others n a b) in absurd z
-      go (yes a) (yes b) free h = rw (le-leb 1 n a, le-leb n (capacity s) b, h)
-      go (yes a) (yes b) (used p x) h = rw (le-leb 1 n a, le-leb n (capacity s) b, h)
-      go (yes a) (no b) e h =
-          let past : length es ≤ n = omega (arith, b) in
-          rw (le-leb 1 n a, lt-leb n (capacity s) (omega (arith, b)), List·getD-eq-default es nil past)
-      go (no a) b e h = let z : n ≡ 0 = omega (arith, a) in rw (z, v .zeroth)
 
   pub cell-row : (n : ℕ) → flagOf t 0 n ≡ isCell (entry es n)
   unfolding flagOf

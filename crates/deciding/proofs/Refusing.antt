@@ -17,8 +17,9 @@ use Rattle.mesh.specs.Request.{refine, sentence, remove, kill, setValue, checks
 use Rattle.table.specs.Words.{depthOf}
 use Rattle.numbering.proofs.Naming.{Named, named}
 use Rattle.pictures.proofs.Linked.{depth-of}
+use Rattle.pictures.proofs.Taken.{taken-row}
 use Rattle.deciding.specs.Decide.{parental, lacking, row6, row7, refineRows, sentenceRows, removeRows, killRows, setRows, refineRefusal, sentenceRefusal, removeRefusal, killRefusal, setRefusal}
-use Rattle.deciding.proofs.Asked.{taken-row, cell-row, sentenced-row, parental-row, doomed-row}
+use Rattle.deciding.proofs.Asked.{cell-row, sentenced-row, parental-row, doomed-row}
 use Rattle.deciding.proofs.Lacking.{lacking-row}
 use Rattle.deciding.proofs.Searching.{enough-row}
 use Rattle.deciding.proofs.Grounds.{other-row}

@@ -14,8 +14,9 @@ use Rattle.mesh.specs.Tools.{count}
 use Rattle.mesh.specs.State.{State, Entry, nil, isFree, freeCount, capacity}
 use Rattle.mesh.specs.Valid.{Valid}
 use Rattle.mesh.specs.Picture.{table}
-use Rattle.deciding.specs.Decide.{vacant, enoughFrom, enough}
-use Rattle.deciding.proofs.Asked.{vacant-row}
+use Rattle.table.specs.Words.{vacant}
+use Rattle.pictures.proofs.Taken.{vacant-row}
+use Rattle.deciding.specs.Decide.{enoughFrom, enough}
 
 -- ---- one row more
 

@@ -3,29 +3,21 @@
 use Prim.Native.Nat.{ℕ, zero, suc, _+_, _-_}
 use mathlib.Core.Bool.{Bool, not, _&&_, _||_, cond}
 use mathlib.Core.List.{List, [], _∷_}
-use lib.Dec.{eqb, leb}
+use lib.Dec.{eqb}
 use lib.IntN.{ℤ}
 use lib.Ieee.{Float}
 use Rattle.mesh.specs.Tools.{any, every, count}
 use Rattle.mesh.specs.Valid.{finite}
 use Rattle.mesh.specs.Refusal.{Check, _if_, refusal}
-use Rattle.table.specs.Words.{wordOf, linkOf, flagOf, depthOf}
+use Rattle.table.specs.Words.{linkOf, flagOf, vacant, taken, depthOf}
 
 module _ (t : List ℤ) where
-  -- "A free row has flags 8192"
-  unfoldable pub vacant : ℕ → Bool
-  vacant n = eqb (wordOf t n 12) 8192
-
   -- whether m of the l numbers from k on are free: the search ends as soon as they are found
   unfoldable pub enoughFrom : ℕ → ℕ → ℕ → Bool
   enoughFrom m zero k = eqb m 0
-  enoughFrom m (suc l) k = eqb m 0 || enoughFrom (m - cond (vacant k) 1 0) l (suc k)
+  enoughFrom m (suc l) k = eqb m 0 || enoughFrom (m - cond (vacant t k) 1 0) l (suc k)
 
 module _ (t : List ℤ) (cap : ℕ) where
-  -- the number is that of a patch
-  unfoldable pub taken : ℕ → Bool
-  taken n = leb 1 n && (leb n cap && not (vacant t n))
-
   -- a cell has kids exactly if its NE kid word is not 0: the point in its middle is a corner of its kids alone
   unfoldable pub parental : ℕ → Bool
   parental n = not (eqb (linkOf t cap n 1) 0)
@@ -66,7 +58,7 @@ module _ (t : List ℤ) (cap : ℕ) where
 
   module _ (n : ℕ) where
     abbrev pub row6 : Check
-    row6 = 6 if not (taken n)
+    row6 = 6 if not (taken t cap n)
 
     abbrev pub row7 : Check
     row7 = 7 if not (flagOf t 0 n)

@@ -5,33 +5,11 @@ ghost use Prim.Native.Nat.{_+_, _-_, _*_, _<_, _≤_};
 ghost use lib.Dec.{eqb};
 ghost use lib.ListN.{length};
 ghost use Rattle.mesh.specs.Picture.{rowWords};
-ghost use Rattle.table.specs.Words.{linkOf, flagOf};
-ghost use Rattle.deciding.specs.Decide.{vacant, taken, parental, kidsDoomed, lacking, enough, otherUnder};
+ghost use Rattle.table.specs.Words.{linkOf, flagOf, vacant};
+ghost use Rattle.deciding.specs.Decide.{parental, kidsDoomed, lacking, enough, otherUnder};
 use table::words::flag;
+use table::words::is_vacant;
 use table::words::link;
-use table::words::word;
-
-// Whether the row n is a free row.
-pub fn is_vacant(t: &[i32], n: usize) -> bool
-    requires { ⌜ n * rowWords + rowWords ≤ length (now t) ⌝ }
-    ensures { λ r. ⌜ r ≡ vacant (now (t .entry)) n ⌝ }
-{
-    word(t, n, 12) == 8192
-}
-
-// Whether the number n is that of a patch.
-pub fn is_taken(t: &[i32], cap: usize, n: usize) -> bool
-    requires { ⌜ (cap * rowWords + rowWords ≤ length (now t)) × (cap ≤ 4095) ⌝ }
-    ensures { λ r. ⌜ r ≡ taken (now (t .entry)) cap n ⌝ }
-{
-    if n == 0 {
-        return false;
-    }
-    if cap < n {
-        return false;
-    }
-    !is_vacant(t, n)
-}
 
 // Whether the cell n has kids.
 pub fn has_kids(t: &[i32], cap: usize, n: usize) -> bool

@@ -8,13 +8,13 @@ ghost use Rattle.mesh.specs.Refusal.{refusal};
 ghost use Rattle.deciding.specs.Decide.{row6, row7, refineRefusal, sentenceRefusal, removeRefusal, killRefusal, setRefusal};
 use crate::asks::has_kids;
 use crate::asks::is_enough;
-use crate::asks::is_taken;
 use crate::asks::kids_doomed;
 use crate::asks::lack_count;
 use crate::asks::other_under;
 use table::values::is_finite;
 use table::words::depth;
 use table::words::flag;
+use table::words::is_taken;
 
 // The two checks that every kind begins with: the number is that of a patch, and the patch is a cell.
 fn cell_refusal(t: &[i32], cap: usize, n: usize) -> u32

@@ -1,6 +1,6 @@
 -- Tests: from a Bool to what it says, and back.
 -- Assumes nothing.
-use mathlib.Core.Path.{_≡_, refl}
+use mathlib.Core.Path.{_≡_, refl, sym}
 use mathlib.Core.Logic.{_⊎_, inl, inr}
 use mathlib.Core.Bool.{Bool, true, false, not, _&&_, _||_, Bool·beq}
 use lib.Dec.{T}
@@ -49,6 +49,16 @@ and-left false b t = t
 pub and-right : (a b : Bool) → T (a && b) → T b
 and-right true b t = t
 and-right false b t = absurd t
+
+-- what a test that fails says
+pub both-true : (a b : Bool) → not (a && b) ≡ false → (a ≡ true) × (b ≡ true)
+both-true true true e = (refl, refl)
+both-true true false e = absurd (is-yes false (sym e))
+both-true false b e = absurd (is-yes false (sym e))
+
+pub neither : (a b : Bool) → (a || b) ≡ false → (a ≡ false) × (b ≡ false)
+neither true b e = absurd (is-yes false (sym e))
+neither false b e = (refl, e)
 
 -- 'a implies b' as a test
 pub implied : (a b : Bool) → T (not a || b) → T a → T b

@@ -1,42 +1,24 @@
 -- The first checks of a call: where one refuses, the call's own do not matter; where none does, the lists have their lengths.
 -- Assumes nothing.
-use Prim.Native.Nat.{ℕ, zero, suc, _+_, _*_, _≤_}
+use Prim.Native.Nat.{ℕ, _+_, _*_, _≤_}
 use native.Mathlib.Omega.{arith}
-use mathlib.Core.Path.{_≡_, refl, sym, ap, _∙_}
+use mathlib.Core.Path.{_≡_, sym, ap, _∙_}
 use mathlib.Core.Logic.{_≢_}
-use mathlib.Core.Bool.{Bool, true, false, not, _&&_, _||_, cond}
-use mathlib.Core.List.{List, [], _∷_, _++_}
+use mathlib.Core.Bool.{false, not}
+use mathlib.Core.List.{List, _∷_, _++_}
 use lib.Dec.{eqb, leb}
 use lib.ListN.{length}
 use borrow.Author.Tests.{eqb-true, leb-true, not-false}
 use Rattle.mesh.specs.Picture.{rowWords}
-use Rattle.mesh.specs.Refusal.{Check, _if_, refusal}
+use Rattle.mesh.specs.Refusal.{Check, refusal}
 use Rattle.mesh.specs.Call.{Lent, stateOf, outside, no1, lentChecks, checkCall, Wrote, pageCall}
 use Rattle.mesh.specs.Place.{base}
 use Rattle.page.specs.Rows.{rowOut}
-use Rattle.paging.proofs.Called.{page-call}
+use Rattle.calling.proofs.Paged.{page-call}
 use Rattle.mesh.specs.Page.{pageChecks}
-use Rattle.numbering.proofs.Checks.{passes}
+use Rattle.geometry.proofs.Bools.{both-true, neither}
+use Rattle.numbering.proofs.Checks.{passes, kept}
 use Rattle.laws.proofs.Refusals.{unless-refused}
-
--- a list of checks that refuses, refuses also with more checks behind it
-first-refusal : (cs ds : List Check) → refusal cs ≢ 0 → refusal (cs ++ ds) ≡ refusal cs
-unfolding refusal
-first-refusal [] ds h = absurd (h refl)
-first-refusal ((n if b) ∷ cs) ds h = go b h (first-refusal cs ds)
-  where
-    go : (b : Bool) → cond b n (refusal cs) ≢ 0 → (refusal cs ≢ 0 → refusal (cs ++ ds) ≡ refusal cs) → cond b n (refusal (cs ++ ds)) ≡ cond b n (refusal cs)
-    go true h ih = refl
-    go false h ih = ih h
-
-both : (a b : Bool) → not (a && b) ≡ false → (a ≡ true) × (b ≡ true)
-both true true e = (refl, refl)
-both true false e = absurd (let z : _≡_ {A = ℕ} 0 1 = cc in omega arith)
-both false b e = absurd (let z : _≡_ {A = ℕ} 0 1 = cc in omega arith)
-
-neither : (a b : Bool) → (a || b) ≡ false → (a ≡ false) × (b ≡ false)
-neither true b e = absurd (let z : _≡_ {A = ℕ} 0 1 = cc in omega arith)
-neither false b e = (refl, e)
 
 -- the first check alone
 pub lengths : (cap : ℕ) (l : Lent) (cs : List Check) → refusal (no1 cap l ∷ cs) ≡ 0 → (length (l .words) ≡ rowWords * (cap + 1)) × (length (l .values) ≡ cap + 1)
@@ -55,7 +37,7 @@ pub record Sizes (cap : ℕ) (l : Lent) : Type 0 where
   pub rows : (1 ≤ l .header .grid .rows) × (l .header .grid .rows ≤ 32)
 
 range : (low high n : ℕ) → outside low high n ≡ false → (low ≤ n) × (n ≤ high)
-range low high n e = let (a, b) = both (leb low n) (leb n high) e in (leb-true low n a, leb-true n high b)
+range low high n e = let (a, b) = both-true (leb low n) (leb n high) e in (leb-true low n a, leb-true n high b)
 
 pub sizes : (cap : ℕ) (l : Lent) → checkCall cap l ≡ 0 → Sizes cap l
 unfolding checkCall lentChecks
@@ -84,7 +66,7 @@ module _ (cap : ℕ) (l : Lent) (r : ℕ) (is : r ≡ checkCall cap l) (no : r �
   pub page-first : (out : List ℕ) → record { why = r; count = 0; out = out } ≡ pageCall cap l out
   unfolding pageCall
   page-first out =
-      let e : refusal (lentChecks cap l ++ pageChecks (stateOf l) (length out)) ≡ r = first-refusal (lentChecks cap l) (pageChecks (stateOf l) (length out)) (λ z. no (sym refuses ∙ z)) ∙ refuses in
+      let e : refusal (lentChecks cap l ++ pageChecks (stateOf l) (length out)) ≡ r = kept (lentChecks cap l) (pageChecks (stateOf l) (length out)) (λ z. no (sym refuses ∙ z)) ∙ refuses in
       sym (rw e (unless-refused _ _ r no))
 
 -- a page call that they let through

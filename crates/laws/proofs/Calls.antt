@@ -5,7 +5,7 @@ use Prim.Native.Nat.{ℕ, _+_, _*_, _≤_}
 use native.Mathlib.Nat.{mul-comm}
 use native.Mathlib.Omega.{arith}
 use mathlib.Core.Path.{_≡_, refl, sym, ap, _∙_}
-use mathlib.Core.Bool.{Bool, true, false, not, _&&_, _||_}
+use mathlib.Core.Bool.{false, not}
 use mathlib.Core.List.{List, [], _∷_}
 use lib.Dec.{eqb, leb}
 use lib.ListN.{length}
@@ -19,7 +19,7 @@ use Rattle.mesh.specs.Refusal.{refusal}
 use Rattle.mesh.specs.Build.{numbered, built}
 use Rattle.mesh.specs.Tape.{run}
 use Rattle.mesh.specs.Call.{Lent, picture, stateOf, outside, lentChecks, buildChecks, Taped, tapeCall}
-use Rattle.geometry.proofs.Bools.{yes-is}
+use Rattle.geometry.proofs.Bools.{yes-is, both-true, neither}
 use Rattle.geometry.proofs.Base.{Rectangle}
 use Rattle.numbering.proofs.Checks.{passes}
 use Rattle.numbering.proofs.Building.{built-valid, built-capacity}
@@ -35,17 +35,8 @@ use Rattle.laws.proofs.Tapes.{run-led}
 in-side : (low high n : ℕ) → low ≤ n → n ≤ high → outside low high n ≡ false
 in-side low high n a b = rw (le-leb low n a, le-leb n high b)
 
-both-true : (a b : Bool) → not (a && b) ≡ false → (a ≡ true) × (b ≡ true)
-both-true true true e = (refl, refl)
-both-true true false e = absurd (let z : _≡_ {A = ℕ} 0 1 = cc in omega arith)
-both-true false b e = absurd (let z : _≡_ {A = ℕ} 0 1 = cc in omega arith)
-
 side-in : (low high n : ℕ) → outside low high n ≡ false → (low ≤ n) × (n ≤ high)
 side-in low high n e = let (a, b) = both-true (leb low n) (leb n high) e in (leb-true low n a, leb-true n high b)
-
-neither : (a b : Bool) → (a || b) ≡ false → (a ≡ false) × (b ≡ false)
-neither true b e = absurd (let z : _≡_ {A = ℕ} 0 1 = cc in omega arith)
-neither false b e = (refl, e)
 
 -- ---- the first checks
 

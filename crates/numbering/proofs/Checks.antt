@@ -32,3 +32,10 @@ unfolding refusal
 past [] ds t e = refl
 past ((k if true) ∷ cs) ds t e = absurd (omega (arith, leb→le 1 k (and-left (leb 1 k) (from 1 cs) t)))
 past ((k if false) ∷ cs) ds t e = past cs ds (and-right (leb 1 k) (from 1 cs) t) e
+
+-- a refusal stays, whatever is checked behind it
+pub kept : (cs ds : List Check) → refusal cs ≢ 0 → refusal (cs ++ ds) ≡ refusal cs
+unfolding refusal
+kept [] ds h = absurd (h refl)
+kept ((k if true) ∷ cs) ds h = refl
+kept ((k if false) ∷ cs) ds h = kept cs ds h

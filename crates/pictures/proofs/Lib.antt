@@ -8,3 +8,4 @@ pub mod Links
 pub mod Pictured
 pub mod Linked
 pub mod Flagged
+pub mod Taken

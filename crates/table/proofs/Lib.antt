@@ -5,3 +5,4 @@ pub mod Bits
 pub mod Flags
 pub mod Offsets
 pub mod Rows
+pub mod Taken

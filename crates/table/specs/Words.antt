@@ -1,7 +1,7 @@
 -- The words of a lent table as numbers, and its links as rows of the table, whatever stands in it.
 -- Assumes nothing.
 use Prim.Native.Nat.{ℕ, _+_, _-_, _*_, _/_, _%_, _^_}
-use mathlib.Core.Bool.{Bool, cond}
+use mathlib.Core.Bool.{Bool, not, _&&_, cond}
 use mathlib.Core.List.{List}
 use lib.Dec.{eqb, leb, ltb}
 use lib.ListN.{getD}
@@ -24,6 +24,14 @@ linkOf t cap n w = cond (leb (wordOf t n w) cap) (wordOf t n w) 0
 -- the flag of bit k
 unfoldable pub flagOf : List ℤ → ℕ → ℕ → Bool
 flagOf t k n = eqb (wordOf t n 12 / 2 ^ k % 2) 1
+
+-- "A free row has flags 8192"
+unfoldable pub vacant : List ℤ → ℕ → Bool
+vacant t n = eqb (wordOf t n 12) 8192
+
+-- the number is that of a patch
+unfoldable pub taken : List ℤ → ℕ → ℕ → Bool
+taken t cap n = leb 1 n && (leb n cap && not (vacant t n))
 
 -- the depth that a level's word says, with level 0 at depth d; past the deepest, d + 12, where it says none
 abbrev pub depthFrom : ℕ → ℕ → ℕ

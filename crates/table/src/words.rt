@@ -5,7 +5,7 @@ ghost use lib.Dec.{eqb};
 ghost use lib.ListN.{length, getD};
 ghost use lib.IntN.{pos};
 ghost use Rattle.mesh.specs.Picture.{rowWords};
-ghost use Rattle.table.specs.Words.{code, wordOf, linkOf, flagOf, depthFrom, depthOf};
+ghost use Rattle.table.specs.Words.{code, wordOf, linkOf, flagOf, vacant, taken, depthFrom, depthOf};
 
 // The words of a row.
 pub const ROW_WORDS: usize = 14;
@@ -78,6 +78,28 @@ pub fn flag(t: &[i32], k: u32, n: usize) -> bool
     ensures { λ r. ⌜ r ≡ flagOf (now (t .entry)) k n ⌝ }
 {
     (word(t, n, 12) >> k) % 2 == 1
+}
+
+// Whether the row n is a free row.
+pub fn is_vacant(t: &[i32], n: usize) -> bool
+    requires { ⌜ n * rowWords + rowWords ≤ length (now t) ⌝ }
+    ensures { λ r. ⌜ r ≡ vacant (now (t .entry)) n ⌝ }
+{
+    word(t, n, 12) == 8192
+}
+
+// Whether the number n is that of a patch.
+pub fn is_taken(t: &[i32], cap: usize, n: usize) -> bool
+    requires { ⌜ cap * rowWords + rowWords ≤ length (now t) ⌝ }
+    ensures { λ r. ⌜ r ≡ taken (now (t .entry)) cap n ⌝ }
+{
+    if n == 0 {
+        return false;
+    }
+    if cap < n {
+        return false;
+    }
+    !is_vacant(t, n)
 }
 
 // The depth that a level's word says, with level 0 at depth d.

@@ -1,3 +1,6 @@
 -- The laws that the proofs of the functions cite.
 pub mod Writing
 pub mod Steps
+pub mod Orders
+pub mod Levels
+pub mod Answers

@@ -1,4 +1,6 @@
 // Scan and lookup over the rows of a table.
+pub mod calls;
+
 ghost use mathlib.Core.Path.{_≡_};
 ghost use mathlib.Core.Bool.{cond, _&&_};
 ghost use mathlib.Core.List.{[], _∷_};

@@ -1,20 +1,19 @@
 -- Scans in the picture of a valid state: the row under a place's number links to the numbers of its kids, and its words say of which kinds the
 -- place is, so that a walk over the rows gives what the walk over the places gives.
 -- Assumes nothing.
-use Prim.Native.Nat.{ℕ, zero, suc, _+_, _≤_}
+use Prim.Native.Nat.{ℕ, zero, suc}
 use native.Mathlib.Omega.{arith}
 use native.Mathlib.Decide.{ℕ-discrete}
 use mathlib.Core.Path.{_≡_, refl, sym, ap, _∙_}
 use mathlib.Core.Logic.{_≢_}
-use mathlib.Core.Bool.{Bool, true, false, _&&_, cond}
+use mathlib.Core.Bool.{Bool, _&&_, cond}
 use mathlib.Core.Option.{some}
 use mathlib.Core.List.{List, [], _∷_, _++_, map}
 use lib.Dec.{T, eqb, eqb→eq, leb, leb→le}
 use lib.IntN.{ℤ, _-ℤ_, natAbs}
-use lib.ListN.{length}
 use lib.Signed.{leZ}
 use borrow.Author.Tests.{ne-eqb}
-use Rattle.mesh.specs.Tools.{any, all, count, flat, orElse}
+use Rattle.mesh.specs.Tools.{all, flat, orElse}
 use Rattle.mesh.specs.Place.{Place, Grid, NE, kidWinds, root, base, level, kid}
 use Rattle.mesh.specs.Winds.{wordOfWind}
 use Rattle.mesh.specs.Mesh.{patch, leaf, derived, flags, wallH, wallV, isWall}
@@ -25,6 +24,7 @@ use Rattle.mesh.specs.Scan.{listed, standing, own, walk, windOf, permutation, s
 use Rattle.table.specs.Words.{linkOf, flagOf}
 use Rattle.walk.specs.Rows.{kidsWord, leafRow, listedRow, fromLevel, scans, rowWalk}
 use Rattle.geometry.proofs.Bools.{and-both, and-left, and-right, bool-ext}
+use Rattle.walk.proofs.Orders.{permutation-words}
 use Rattle.geometry.proofs.Kids.{parent-kid, all-kids, kid-has, leaf-cell, leaf-kidless, is-leaf}
 use Rattle.geometry.proofs.Tree.{cell-patch}
 use Rattle.geometry.proofs.Growing.{middle-new}
@@ -33,7 +33,6 @@ use Rattle.numbering.proofs.Numbers.{valid-numbered, number-place, place-number
 use Rattle.pictures.proofs.Links.{_of_}
 use Rattle.pictures.proofs.Pictured.{level-word, flag-of}
 use Rattle.pictures.proofs.Linked.{depth-of, link-kid}
-use Rattle.geometry.proofs.Counting.{count-some}
 
 -- ---- the words of the kids
 
@@ -47,55 +46,6 @@ word-wind (suc (suc (suc (suc zero)))) t = (refl, tt)
 word-wind (suc (suc (suc (suc (suc w))))) t =
     let n = suc (suc (suc (suc (suc w)))) in
     absurd (omega (arith, leb→le n 4 (and-right (leb 1 n) (leb n 4) t)))
-
--- a word is one of the four at most
-one-word : (w : ℕ) → cond (eqb 1 w) 1 0 + cond (eqb 2 w) 1 0 + cond (eqb 3 w) 1 0 + cond (eqb 4 w) 1 0 ≤ cond (kidsWord w) 1 0
-one-word zero = omega arith
-one-word (suc zero) = omega arith
-one-word (suc (suc zero)) = omega arith
-one-word (suc (suc (suc zero))) = omega arith
-one-word (suc (suc (suc (suc zero)))) = omega arith
-one-word (suc (suc (suc (suc (suc w))))) =
-    let n = suc (suc (suc (suc (suc w)))) in
-    rw (ne-eqb 1 n (λ z. omega arith), ne-eqb 2 n (λ z. omega arith), ne-eqb 3 n (λ z. omega arith), ne-eqb 4 n (λ z. omega arith)) (omega arith)
-
-four-words : (o : List ℕ) → count (eqb 1) o + count (eqb 2) o + count (eqb 3) o + count (eqb 4) o ≤ count kidsWord o
-four-words [] = omega arith
-four-words (w ∷ o) = omega (arith, one-word w, four-words o)
-
--- where as many pass as there are, all do
-count-le : (f : ℕ → Bool) (o : List ℕ) → count f o ≤ length o
-count-le f [] = omega arith
-count-le f (w ∷ o) = go (f w) (count-le f o)
-  where
-    go : (b : Bool) → count f o ≤ length o → cond b 1 0 + count f o ≤ suc (length o)
-    go true h = omega arith
-    go false h = omega arith
-
-count-all : (f : ℕ → Bool) (o : List ℕ) → length o ≤ count f o → T (all f o)
-count-all f [] h = tt
-count-all f (w ∷ o) h = go (f w) refl (count-all f o)
-  where
-    go : (b : Bool) → f w ≡ b → (length o ≤ count f o → T (all f o)) → T (b && all f o)
-    go true e ih = ih (let h′ : suc (length o) ≤ 1 + count f o = rw e at h in omega arith)
-    go false e ih = absurd (let h′ : suc (length o) ≤ 0 + count f o = rw e at h in omega (arith, count-le f o))
-
--- a permutation has no other words
-pub permutation-words : (o : List ℕ) → T (permutation o) → T (all kidsWord o)
-permutation-words o t =
-    let a = any (eqb 1) o in
-    let b = any (eqb 2) o in
-    let c = any (eqb 3) o in
-    let d = any (eqb 4) o in
-    let l = eqb→eq (length o) 4 (and-left (eqb (length o) 4) (a && (b && (c && d))) t) in
-    let t₁ = and-right (eqb (length o) 4) (a && (b && (c && d))) t in
-    let t₂ = and-right a (b && (c && d)) t₁ in
-    let t₃ = and-right b (c && d) t₂ in
-    let n₁ = count-some (eqb 1) o (and-left a (b && (c && d)) t₁) in
-    let n₂ = count-some (eqb 2) o (and-left b (c && d) t₂) in
-    let n₃ = count-some (eqb 3) o (and-left c d t₃) in
-    let n₄ = count-some (eqb 4) o (and-right c d t₃) in
-    count-all kidsWord o (omega (arith, four-words o))
 
 module _ (s : State) (v : Valid s) where
   abbrev g : Grid

@@ -4,7 +4,8 @@ use native.Mathlib.Omega.{arith}
 use mathlib.Core.Path.{sym, _∙_}
 use borrow.Author.Tests.{not-true, not-false}
 use borrow.Author.Needs.{needs}
-use Rattle.deciding.proofs.Arms.{taken-within, refused, accepts, stops-not, goes-on-not}
+use Rattle.table.proofs.Taken.{taken-within}
+use Rattle.deciding.proofs.Arms.{refused, accepts, stops-not, goes-on-not}
 use Rattle.deciding.proofs.refusals.cell_refusal.Statement.{statement}
 use Rattle.deciding.proofs.refusals.cell_refusal.Tie as tie
 

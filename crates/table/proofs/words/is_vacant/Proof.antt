@@ -1,9 +1,9 @@
--- `deciding::asks::is_vacant` meets its contract.
+-- `table::is_vacant` meets its contract.
 -- Assumes nothing.
 use borrow.Author.Needs.{needs}
-use Rattle.deciding.specs.Decide.{vacant}
-use Rattle.deciding.proofs.asks.is_vacant.Statement.{statement}
-use Rattle.deciding.proofs.asks.is_vacant.Tie as tie
+use Rattle.table.specs.Words.{vacant}
+use Rattle.table.proofs.words.is_vacant.Statement.{statement}
+use Rattle.table.proofs.words.is_vacant.Tie as tie
 
 word-requires : tie.Need-word-requires
 word-requires c κs = search needs

@@ -1,9 +1,9 @@
--- `deciding::asks::is_taken` meets its contract.
+-- `table::is_taken` meets its contract.
 -- Assumes nothing.
 use borrow.Author.Needs.{needs}
-use Rattle.deciding.proofs.Arms.{taken-nil, taken-past, taken-there}
-use Rattle.deciding.proofs.asks.is_taken.Statement.{statement}
-use Rattle.deciding.proofs.asks.is_taken.Tie as tie
+use Rattle.table.proofs.Taken.{taken-nil, taken-past, taken-there}
+use Rattle.table.proofs.words.is_taken.Statement.{statement}
+use Rattle.table.proofs.words.is_taken.Tie as tie
 
 returns : tie.Need-returns
 returns c = taken-nil _ _ _ (c .if1 .taken)

@@ -1,0 +1,57 @@
+-- A scan call that passes the first checks answers what the scan by rows answers: in the picture of a valid state the start's row is in use exactly
+-- if its number is, its word says its level, and past 6 and 17 the rows that are walked are those of the scan.
+-- Assumes nothing.
+use Prim.Native.Nat.{ℕ}
+use mathlib.Core.Path.{_≡_, refl, sym, ap, _∙_}
+use mathlib.Core.Bool.{Bool, true, false}
+use mathlib.Core.List.{List}
+use lib.Dec.{T}
+use lib.ListN.{length}
+use lib.IntN.{ℤ}
+use Rattle.mesh.specs.Tools.{orElse}
+use Rattle.mesh.specs.Place.{Place, base, root, level}
+use Rattle.mesh.specs.State.{State, isUsed, entry, placeAt, gridOf, capacity}
+use Rattle.mesh.specs.Valid.{Valid}
+use Rattle.mesh.specs.Picture.{table}
+use Rattle.mesh.specs.Refusal.{refusal}
+use Rattle.mesh.specs.Scan.{permutation, scan, scanChecks}
+use Rattle.mesh.specs.Call.{Lent, lentChecks, stateOf, unless, wrote, scanCall}
+use Rattle.walk.specs.Calls.{levelOf, rowScan, rowScanOut}
+use Rattle.geometry.proofs.Bools.{is-yes}
+use Rattle.numbering.proofs.Entries.{used-is}
+use Rattle.pictures.proofs.Pictured.{level-word}
+use Rattle.pictures.proofs.Taken.{taken-row}
+use Rattle.walking.proofs.Rowing.{row-scan}
+use Rattle.calling.proofs.Called.{checks-after, by-picture}
+
+module _ (n : ℕ) (o : List ℕ) (k : ℕ) (from to : ℤ) (out : List ℕ) where
+  module _ (s : State) (v : Valid s) where
+    level-there : T (isUsed (entry (s .entries) n)) → levelOf (table s) n ≡ level (gridOf s) (placeAt (s .entries) n)
+    level-there t =
+        let (p, e) = used-is (entry (s .entries) n) t in
+        level-word s n p e ∙ ap (level (gridOf s)) (sym (ap (orElse root (λ (q : Place). q)) e))
+
+    scan-there : T (isUsed (entry (s .entries) n)) → T (permutation o) → rowScan (table s) (capacity s) (base (gridOf s)) n o k from to ≡ scan s n o k from to
+    unfolding rowScan
+    scan-there t u = rw (level-there t) (sym (row-scan s v n o k from to t u))
+
+    -- where 6 or 17 is given, what would be written is not looked at
+    scan-picture : wrote (refusal (scanChecks s (length out) n o k from to)) (scan s n o k from to) out ≡ rowScanOut (table s) (capacity s) (base (gridOf s)) n o k from to out
+    unfolding scanChecks rowScanOut refusal unless
+    scan-picture = go (isUsed (entry (s .entries) n)) (permutation o) refl refl
+      where
+        go : (a b : Bool) → isUsed (entry (s .entries) n) ≡ a → permutation o ≡ b
+            → wrote (refusal (scanChecks s (length out) n o k from to)) (scan s n o k from to) out ≡ rowScanOut (table s) (capacity s) (base (gridOf s)) n o k from to out
+        go false b e f = rw (taken-row s v n, e)
+        go true false e f = rw (taken-row s v n, e, f)
+        go true true e f =
+            let t = is-yes (isUsed (entry (s .entries) n)) e in
+            rw (taken-row s v n, level-there t, scan-there t (is-yes (permutation o) f))
+
+  -- the scan call, by rows
+  pub scan-call : (cap : ℕ) (l : Lent) → refusal (lentChecks cap l) ≡ 0
+      → scanCall cap l n o k from to out ≡ rowScanOut (l .words) cap (base (l .header .grid)) n o k from to out
+  unfolding scanCall
+  scan-call cap l h =
+      ap (λ (r : ℕ). wrote r (scan (stateOf l) n o k from to) out) (checks-after cap l h (scanChecks (stateOf l) (length out) n o k from to))
+      ∙ by-picture cap l h (λ s. wrote (refusal (scanChecks s (length out) n o k from to)) (scan s n o k from to) out) (λ g t v c. rowScanOut t c (base (g .grid)) n o k from to out) scan-picture

@@ -1,0 +1,1 @@
+// The calls on lent lists that pass the first checks answer what the code makes of the rows.

@@ -1,3 +1,0 @@
--- The page by rows is the dossier page.
-pub mod Rowed
-pub mod Called

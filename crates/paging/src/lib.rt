@@ -1,1 +1,0 @@
-// The page by rows is the dossier page.

@@ -1,0 +1,137 @@
+-- What a scan and a lookup answer where a branch of the code has decided a test.
+-- Assumes nothing.
+use Prim.Native.Nat.{ℕ, zero, suc, _+_, _≤_, _<_, min}
+use native.Mathlib.Omega.{arith}
+use mathlib.Core.Path.{_≡_, refl, sym, _∙_}
+use mathlib.Core.Logic.{_≢_}
+use mathlib.Core.Bool.{Bool, true, false, not, _&&_, _||_, cond}
+use mathlib.Core.List.{List, [], _∷_, _++_}
+use lib.Dec.{T, leb, leb→le}
+use lib.ListN.{length, getD}
+use lib.IntN.{ℤ, _-ℤ_, natAbs}
+use lib.Ieee.{Float}
+use lib.Signed.{leZ, ltZ}
+use borrow.Author.Tests.{eq-eqb, ne-eqb, lt-ltb, le-ltb, not-false}
+use Rattle.mesh.specs.Tools.{all}
+use Rattle.mesh.specs.State.{Value, blank, measured, carried, plusZero}
+use Rattle.mesh.specs.Refusal.{Check, refusal}
+use Rattle.mesh.specs.Scan.{permutation, no18}
+use Rattle.mesh.specs.Call.{Found, unless, wrote}
+use Rattle.table.specs.Words.{wordOf, taken}
+use Rattle.table.proofs.Taken.{taken-within}
+use Rattle.geometry.proofs.Bools.{is-yes, and-right, neither}
+use Rattle.numbering.proofs.Checks.{passes, kept}
+use Rattle.walk.specs.Rows.{kidsWord, scans, rowWalk, rowLookup}
+use Rattle.walk.specs.Written.{Wrote}
+use Rattle.walk.specs.Calls.{levelOf, startChecks, rowScan, rowScanOut, written, rowValue, rowLookupOut}
+use Rattle.walk.proofs.Orders.{permutation-words}
+use Rattle.walk.proofs.Levels.{not-below, level-trans}
+use Rattle.walk.proofs.Writing.{wrote-whole}
+
+-- ---- scan
+
+-- what a scan that is not refused by 6 or 17 has
+pub record Open (t : List ℤ) (cap n : ℕ) (o : List ℕ) (k : ℕ) (to : ℤ) : Type 0 where
+  pub within : n ≤ cap
+  pub words : T (all kidsWord o)
+  pub small : k ≤ 6
+  pub low : T (leZ (levelOf t n) to)
+
+module _ (t : List ℤ) (cap n : ℕ) (o : List ℕ) (k : ℕ) (from to : ℤ) where
+  abbrev start : List Check
+  start = startChecks t cap n o k from to
+
+  -- from equal levels
+  pub same-checks : {from′ to′ : ℤ} → from′ ≡ from → to′ ≡ to → {r : ℕ} → r ≡ refusal (startChecks t cap n o k from′ to′) → r ≡ refusal start
+  same-checks f g e = rw (f, g) at e
+
+  pub refused-number : {a : Bool} → a ≡ taken t cap n → not a ≡ true → 6 ≡ refusal start
+  unfolding refusal
+  refused-number e h = rw (← e, h)
+
+  -- x is how the code decides 17
+  pub decided-scan : {a b : Bool} {level from′ to′ : ℤ} → a ≡ taken t cap n → not a ≡ false → b ≡ permutation o → level ≡ levelOf t n → from′ ≡ from → to′ ≡ to
+      → (x : Bool) → (not b || (not (leb 1 k && leb k 6) || (ltZ from′ level || ltZ to′ from′))) ≡ x → cond x 17 0 ≡ refusal start
+  unfolding refusal
+  decided-scan e h p l f g x c = rw (← e, h, ← p, ← l, ← f, ← g, c)
+
+  module _ (e : refusal start ≡ 0) where
+    passed : (taken t cap n ≡ true) × ((not (permutation o) || (not (leb 1 k && leb k 6) || (ltZ from (levelOf t n) || ltZ to from))) ≡ false)
+    passed =
+        let (x, h) = passes 6 _ _ (λ z. omega arith) e in
+        let (y, _) = passes 17 _ _ (λ z. omega arith) h in
+        (not-false (taken t cap n) x, y)
+
+    pub opened : Open t cap n o k to
+    opened =
+        let (p, h) = neither (not (permutation o)) _ (passed .1) in
+        let (q, h′) = neither (not (leb 1 k && leb k 6)) _ h in
+        let (u, w) = neither (ltZ from (levelOf t n)) (ltZ to from) h′ in
+        record {
+          within = taken-within t cap n (passed .0) .1;
+          words = permutation-words o (is-yes (permutation o) (not-false (permutation o) p));
+          small = leb→le k 6 (and-right (leb 1 k) (leb k 6) (is-yes (leb 1 k && leb k 6) (not-false (leb 1 k && leb k 6) q)));
+          low = level-trans (levelOf t n) from to (not-below from (levelOf t n) u) (not-below to from w);
+        }
+
+  module _ (d : ℕ) (out : List ℕ) where
+    abbrev xs : List ℕ
+    xs = rowScan t cap d n o k from to
+
+    pub refused-scan : (r : ℕ) → r ≡ refusal start → r ≢ 0 → written (record { why = r; count = 0 }) out ≡ rowScanOut t cap d n o k from to out
+    unfolding rowScanOut unless
+    refused-scan r e z =
+        let s : refusal (start ++ (no18 (length out) xs ∷ [])) ≡ r = kept start (no18 (length out) xs ∷ []) (λ h. z (e ∙ h)) ∙ sym e in
+        rw s (go r z)
+      where
+        go : (r : ℕ) → r ≢ 0 → written (record { why = r; count = 0 }) out ≡ wrote r xs out
+        go zero z = absurd (z refl)
+        go (suc r) z = refl
+
+    module _ (m : ℕ) (e : refusal start ≡ 0) (c : m ≡ min (0 + length xs) (length out + 1)) where
+      pub short-scan : length out < m → written (record { why = 18; count = 0 }) out ≡ rowScanOut t cap d n o k from to out
+      unfolding rowScanOut refusal unless
+      short-scan h =
+          let (x, y) = passed e in
+          rw (x, y, lt-ltb (length out) (length xs) (omega arith))
+
+      pub whole-scan : m ≤ length out → (g : List ℕ) (q : ℕ) → Wrote out 0 xs g q → written (record { why = 0; count = q }) g ≡ rowScanOut t cap d n o k from to out
+      unfolding rowScanOut refusal unless
+      whole-scan h g q w =
+          let (x, y) = passed e in
+          let l : length xs ≤ length out = omega arith in
+          let (i, j) = wrote-whole l w in
+          rw (x, y, le-ltb (length out) (length xs) l, i, j)
+
+  -- the rows that the code walks
+  pub scan-rows-are : (d left : ℕ) {level from′ to′ : ℤ} → level ≡ levelOf t n → from′ ≡ from → to′ ≡ to → left ≡ natAbs (to′ -ℤ level)
+      → rowWalk t cap d (scans t cap d from′ k) o left n ≡ rowScan t cap d n o k from to
+  unfolding rowScan
+  scan-rows-are d left l f g e = rw (e, l, f, g)
+
+-- ---- lookup
+
+module _ (t : List ℤ) (v : List Float) (n s : ℕ) (e : s ≡ wordOf t n 13) (x : Float) (f : x ≡ getD v n plusZero) where
+  pub as-measured : s ≡ 1 → measured x ≡ rowValue t v n
+  unfolding rowValue
+  as-measured h = rw (← e, eq-eqb s 1 h, f)
+
+  pub as-carried : s ≢ 1 → s ≡ 2 → carried x ≡ rowValue t v n
+  unfolding rowValue
+  as-carried z h = rw (← e, ne-eqb s 1 z, eq-eqb s 2 h, f)
+
+pub as-blank : (t : List ℤ) (v : List Float) (n s : ℕ) → s ≡ wordOf t n 13 → s ≢ 1 → s ≢ 2 → blank ≡ rowValue t v n
+unfolding rowValue
+as-blank t v n s e z y = rw (← e, ne-eqb s 1 z, ne-eqb s 2 y)
+
+module _ (t : List ℤ) (v : List Float) (cap d x y n : ℕ) (e : n ≡ rowLookup t cap d x y) where
+  abbrev answer : ℕ → ℕ → Value → Found
+  answer why leaf a = record { why = why; leaf = leaf; value = a }
+
+  pub found-none : n ≡ 0 → answer 19 0 blank ≡ rowLookupOut t v cap d x y
+  unfolding rowLookupOut refusal unless
+  found-none z = rw (← e, eq-eqb n 0 z)
+
+  pub found-leaf : n ≢ 0 → (a : Value) → a ≡ rowValue t v n → answer 0 n a ≡ rowLookupOut t v cap d x y
+  unfolding rowLookupOut refusal unless
+  found-leaf z a f = rw (← e, ne-eqb n 0 z, f)

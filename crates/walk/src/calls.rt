@@ -1,0 +1,163 @@
+// Scan and lookup as calls that passed the first checks: refused by a number, or answered.
+ghost use mathlib.Core.Path.{_≡_};
+ghost use Prim.Native.Nat.{_+_, _*_, _<_, _≤_};
+ghost use lib.Dec.{T, eqb};
+ghost use lib.ListN.{length};
+ghost use lib.IntN.{_-ℤ_, natAbs};
+ghost use lib.Signed.{leZ};
+ghost use Rattle.mesh.specs.Tools.{any};
+ghost use Rattle.mesh.specs.Picture.{rowWords};
+ghost use Rattle.mesh.specs.Refusal.{refusal};
+ghost use Rattle.mesh.specs.Scan.{permutation};
+ghost use Rattle.walk.specs.Calls.{startChecks, rowScanOut, written, valueOfReading, rowValue, foundOf, rowLookupOut};
+use crate::count_rows;
+use crate::lookup_row;
+use crate::scan_rows;
+use table::values::value;
+use table::words::coded;
+use table::words::is_taken;
+use table::words::raw;
+use table::words::word;
+
+// What came of a scan: a refusal or 0, and how many numbers were written.
+pub struct ScanOut {
+    pub why: u32,
+    pub count: usize,
+}
+
+// Whether the word w is one of the order's.
+fn names(order: [u8; 4], w: u8) -> bool
+    ensures { λ r. ⌜ r ≡ any (eqb w) order ⌝ }
+{
+    (w == order[0]) | ((w == order[1]) | ((w == order[2]) | (w == order[3])))
+}
+
+// Whether the order names each of the four kids.
+fn is_order(order: [u8; 4]) -> bool
+    ensures { λ r. ⌜ r ≡ permutation order ⌝ }
+{
+    names(order, 1) & (names(order, 2) & (names(order, 3) & names(order, 4)))
+}
+
+// How many levels lie from a level to one that is not below it.
+fn levels(level: i32, to: i32) -> u32
+    requires { ⌜ T (leZ level to) ⌝ }
+    ensures { λ r. ⌜ r ≡ natAbs (to -ℤ level) ⌝ }
+{
+    let a = coded(level);
+    let b = coded(to);
+    if a < 2147483648 {
+        return b - a;
+    }
+    if b < 2147483648 {
+        return b + (a - 2147483648) + 1;
+    }
+    a - b
+}
+
+// The refusals of a scan that its length has no part in.
+fn scan_refusal(
+    t: &[i32],
+    cap: usize,
+    n: usize,
+    order: [u8; 4],
+    kind: u32,
+    from: i32,
+    to: i32,
+) -> u32
+    requires { ⌜ cap * rowWords + rowWords ≤ length (now t) ⌝ }
+    ensures { λ r. ⌜ r ≡ refusal (startChecks (now (t .entry)) cap n order kind from to) ⌝ }
+{
+    if !is_taken(t, cap, n) {
+        return 6;
+    }
+    let level = raw(t, n, 9);
+    let ordered = is_order(order);
+    let known = (1 <= kind) & (kind <= 6);
+    if !ordered | (!known | ((from < level) | (to < from))) {
+        return 17;
+    }
+    0
+}
+
+// Writes the numbers of the rows that a scan lists, if the output is long enough: counted first, so that nothing is written before it is known.
+pub fn scan_out(
+    t: &[i32],
+    cap: usize,
+    d: u32,
+    start: u32,
+    order: [u8; 4],
+    kind: u32,
+    from: i32,
+    to: i32,
+    out: &mut [u16],
+) -> ScanOut
+    requires { ⌜ (cap * rowWords + rowWords ≤ length (now t)) × (cap ≤ 4095) × (d ≤ 32) ⌝ }
+    ensures { λ r. ⌜ written r (now (out .exit)) ≡ rowScanOut (now (t .entry)) cap d start order kind from to (now (out .entry)) ⌝ }
+{
+    let n = start as usize;
+    let why = scan_refusal(t, cap, n, order, kind, from, to);
+    if why != 0 {
+        return ScanOut { why, count: 0 };
+    }
+    let left = levels(raw(t, n, 9), to);
+    let k = kind as u8;
+    let size = out.len();
+    let room = size + 1;
+    let m = count_rows(t, cap, d, n, left, order, k, from, room, 0);
+    if size < m {
+        return ScanOut { why: 18, count: 0 };
+    }
+    let count = scan_rows(t, cap, d, n, left, order, k, from, out, 0);
+    ScanOut { why: 0, count }
+}
+
+// A leaf's value, as measured, as carried down from its parent, or none.
+pub enum Reading {
+    Measured(f64),
+    Carried(f64),
+    Blank,
+}
+
+// What came of a lookup: a refusal or 0, the leaf's number, and its value.
+pub struct Found {
+    pub why: u32,
+    pub leaf: u32,
+    pub reading: Reading,
+}
+
+// The value of the row n, by its status.
+fn value_of(t: &[i32], v: &[f64], n: usize) -> Reading
+    requires { ⌜ (n * rowWords + rowWords ≤ length (now t)) × (n < length (now v)) ⌝ }
+    ensures { λ r. ⌜ valueOfReading r ≡ rowValue (now (t .entry)) (now (v .entry)) n ⌝ }
+{
+    let status = word(t, n, 13);
+    if status == 1 {
+        return Reading::Measured(value(v, n));
+    }
+    if status == 2 {
+        return Reading::Carried(value(v, n));
+    }
+    Reading::Blank
+}
+
+// The leaf that holds a point, and its value.
+pub fn lookup_out(t: &[i32], v: &[f64], cap: usize, d: u32, x: u32, y: u32) -> Found
+    requires { ⌜ (cap * rowWords + rowWords ≤ length (now t)) × (cap < length (now v)) × (cap ≤ 4095) × (1 ≤ cap) × (d ≤ 19) ⌝ }
+    ensures { λ r. ⌜ foundOf r ≡ rowLookupOut (now (t .entry)) (now (v .entry)) cap d x y ⌝ }
+{
+    let n = lookup_row(t, cap, d, x, y);
+    if n == 0 {
+        return Found {
+            why: 19,
+            leaf: 0,
+            reading: Reading::Blank,
+        };
+    }
+    let reading = value_of(t, v, n);
+    Found {
+        why: 0,
+        leaf: n as u32,
+        reading,
+    }
+}
