@@ -44,7 +44,7 @@ field-ones w h = omega arith
 abbrev pub finiteBits : ℕ → Bool
 finiteBits w = ltb (w % 0x8000_0000_0000_0000) 0x7ff0_0000_0000_0000
 
-pattern : (w : ℕ) → finiteBits w ≡ finite (ofBits binary64 w)
+pub pattern : (w : ℕ) → finiteBits w ≡ finite (ofBits binary64 w)
 unfolding ofBits
 pattern w = go (finiteBits w) refl
   where

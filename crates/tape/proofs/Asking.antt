@@ -1,0 +1,66 @@
+-- A request as a tape asks for it: by the kind byte, and with a value that stands for that of a pattern.
+-- Assumes nothing.
+use Prim.Native.Nat.{ℕ}
+use native.Mathlib.Omega.{arith}
+use mathlib.Core.Path.{_≡_, sym, ap, _∙_, subst}
+use mathlib.Core.Bool.{true, not}
+use mathlib.Core.List.{List, [], _∷_}
+use lib.IntN.{ℤ}
+use lib.Ieee.{Float, ofBits, binary64}
+use borrow.Author.Tests.{not-false}
+use Rattle.mesh.specs.State.{State}
+use Rattle.mesh.specs.Valid.{Valid, finite}
+use Rattle.mesh.specs.Refusal.{refusal}
+use Rattle.mesh.specs.Request.{Request, refine, sentence, remove, kill, setValue, checks, withKids, no8, no16}
+use Rattle.numbering.proofs.Checks.{passes}
+use Rattle.numbering.proofs.Naming.{named}
+use Rattle.tape.specs.Applied.{Applied}
+use Rattle.tape.specs.Asked.{asked, StandsFor}
+
+-- ---- a value that stands for a pattern's
+
+-- an accepted value is finite
+finite-then : (s : State) (n : ℕ) (x : Float) → Valid s → refusal (checks s (setValue n x)) ≡ 0 → finite x ≡ true
+unfolding checks
+finite-then s n x valid ok =
+    let (_, rest) = named s valid n (no8 s n ∷ no16 x ∷ []) ok in
+    let (_, last) = passes 8 (withKids s n) (no16 x ∷ []) (λ z. omega arith) rest in
+    not-false (finite x) (passes 16 (not (finite x)) [] (λ z. omega arith) last .0)
+
+same-checks : (s : State) (n : ℕ) (x y : Float) → finite x ≡ finite y → checks s (setValue n x) ≡ checks s (setValue n y)
+unfolding checks
+same-checks s n x y e = rw e
+
+pub standing-applied : {cap d n w low why low′ : ℕ} {x : Float} {t t′ : List ℤ} {v v′ : List Float} → StandsFor w x → Applied (setValue n x) cap d low t v t′ v′ why low′ → Applied (setValue n (ofBits binary64 w)) cap d low t v t′ v′ why low′
+standing-applied {cap} {d} {n} {w} {low} {why} {low′} {x} {t} {t′} {v} {v′} f a = record {
+  decided = λ s columns rows mark p e. a .decided s columns rows mark p e ∙ ap refusal (same-checks s n x (ofBits binary64 w) (f .alike));
+  done = λ s columns rows mark p e b h. rw (← f .is (finite-then s n x (p .valid) (sym (a .decided s columns rows mark p e) ∙ h))) (a .done s columns rows mark p e b h);
+  refused = a .refused;
+  low-to = a .low-to;
+}
+
+-- ---- by the kind byte
+
+module _ (k n w : ℕ) where
+  pub asked-refine : k ≡ 1 → refine n ≡ asked k n w
+  unfolding asked
+  asked-refine e = rw e
+
+  pub asked-sentence : k ≡ 2 → sentence n ≡ asked k n w
+  unfolding asked
+  asked-sentence e = rw e
+
+  pub asked-remove : k ≡ 3 → remove n ≡ asked k n w
+  unfolding asked
+  asked-remove e = rw e
+
+  pub asked-kill : k ≡ 4 → kill n ≡ asked k n w
+  unfolding asked
+  asked-kill e = rw e
+
+  pub asked-set : k ≡ 5 → setValue n (ofBits binary64 w) ≡ asked k n w
+  unfolding asked
+  asked-set e = rw e
+
+pub same-applied : {q q′ : Request} {cap d low why low′ : ℕ} {t t′ : List ℤ} {v v′ : List Float} → q ≡ q′ → Applied q cap d low t v t′ v′ why low′ → Applied q′ cap d low t v t′ v′ why low′
+same-applied {cap = cap} {d = d} {low = low} {why = why} {low′ = low′} {t = t} {t′ = t′} {v = v} {v′ = v′} e a = subst (λ (q : Request). Applied q cap d low t v t′ v′ why low′) e a

@@ -1,0 +1,69 @@
+-- What is decided on a picture is what the rules decide; a refused request leaves all as it is, and one that is not names a row.
+-- Assumes nothing.
+use Prim.Native.Nat.{ℕ, _+_, _≤_}
+use mathlib.Core.Path.{_≡_, refl, sym, _∙_}
+use mathlib.Core.Logic.{_≢_}
+use mathlib.Core.List.{List}
+use lib.ListN.{drop}
+use lib.IntN.{ℤ}
+use lib.Ieee.{Float}
+use Rattle.mesh.specs.Place.{rectangle, base}
+use Rattle.mesh.specs.State.{State}
+use Rattle.mesh.specs.Refusal.{refusal}
+use Rattle.mesh.specs.Request.{Request, refine, sentence, remove, kill, setValue, checks}
+use Rattle.deciding.specs.Decide.{refineRows, sentenceRows, removeRows, killRows, setRows, refineRefusal, sentenceRefusal, removeRefusal, killRefusal, setRefusal}
+use Rattle.deciding.proofs.Arms.{accepted-within}
+use Rattle.deciding.proofs.Refusing.{refine-refusal, sentence-refusal, remove-refusal, kill-refusal, set-refusal}
+use Rattle.tape.specs.Drawn.{Drawn}
+use Rattle.tape.specs.Applied.{Applied}
+use Rattle.tape.proofs.Drawing.{from-picture}
+
+-- on every picture the refusal is the rules'
+abbrev pub Decides : Request → ℕ → ℕ → List ℤ → List Float → ℕ → Type 0
+Decides q cap d t v why = (s : State) (columns rows mark : ℕ) → Drawn s columns rows mark cap t v → base (rectangle columns rows) ≡ d → why ≡ refusal (checks s q)
+
+-- ---- the five kinds
+
+module _ (cap d n : ℕ) (t : List ℤ) (v : List Float) where
+  pub refine-decides : {why : ℕ} → why ≡ refineRefusal t cap d n → Decides (refine n) cap d t v why
+  refine-decides x s columns rows mark p e = x ∙ from-picture (λ t cap d. refineRefusal t cap d n ≡ refusal (checks s (refine n))) p e (refine-refusal s (p .valid) n)
+
+  pub sentence-decides : {why : ℕ} → why ≡ sentenceRefusal t cap d n → Decides (sentence n) cap d t v why
+  sentence-decides x s columns rows mark p e = x ∙ from-picture (λ t cap d. sentenceRefusal t cap d n ≡ refusal (checks s (sentence n))) p e (sentence-refusal s (p .valid) n)
+
+  pub remove-decides : {why : ℕ} → why ≡ removeRefusal t cap n → Decides (remove n) cap d t v why
+  remove-decides x s columns rows mark p e = x ∙ from-picture (λ t cap d. removeRefusal t cap n ≡ refusal (checks s (remove n))) p e (remove-refusal s (p .valid) n)
+
+  pub kill-decides : {why : ℕ} → why ≡ killRefusal t cap d n → Decides (kill n) cap d t v why
+  kill-decides x s columns rows mark p e = x ∙ from-picture (λ t cap d. killRefusal t cap d n ≡ refusal (checks s (kill n))) p e (kill-refusal s (p .valid) n)
+
+  pub set-decides : (x : Float) {why : ℕ} → why ≡ setRefusal t cap n x → Decides (setValue n x) cap d t v why
+  set-decides x y s columns rows mark p e = y ∙ from-picture (λ t cap d. setRefusal t cap n x ≡ refusal (checks s (setValue n x))) p e (set-refusal s (p .valid) n x)
+
+module _ (t : List ℤ) (cap d n : ℕ) where
+  -- a request that is not refused names one of the rows
+  pub refine-within : {why : ℕ} → why ≡ refineRefusal t cap d n → why ≡ 0 → n ≤ cap
+  unfolding refineRefusal
+  refine-within x z = accepted-within t cap n (drop 1 (refineRows t cap d n)) (sym x ∙ z) .1
+
+  pub sentence-within : {why : ℕ} → why ≡ sentenceRefusal t cap d n → why ≡ 0 → n ≤ cap
+  unfolding sentenceRefusal
+  sentence-within x z = accepted-within t cap n (drop 1 (sentenceRows t cap d n)) (sym x ∙ z) .1
+
+  pub kill-within : {why : ℕ} → why ≡ killRefusal t cap d n → why ≡ 0 → n ≤ cap
+  unfolding killRefusal
+  kill-within x z = accepted-within t cap n (drop 1 (killRows t cap d n)) (sym x ∙ z) .1
+
+module _ (t : List ℤ) (cap n : ℕ) where
+  pub remove-within : {why : ℕ} → why ≡ removeRefusal t cap n → why ≡ 0 → n ≤ cap
+  unfolding removeRefusal
+  remove-within x z = accepted-within t cap n (drop 1 (removeRows t cap n)) (sym x ∙ z) .1
+
+  pub set-within : (x : Float) {why : ℕ} → why ≡ setRefusal t cap n x → why ≡ 0 → n ≤ cap
+  unfolding setRefusal
+  set-within x y z = accepted-within t cap n (drop 1 (setRows t cap n x)) (sym y ∙ z) .1
+
+-- ---- a refused request
+
+pub refused-applied : (q : Request) (cap d low : ℕ) (t : List ℤ) (v : List Float) (why : ℕ) → Decides q cap d t v why → why ≢ 0 → low ≤ cap + 1 → Applied q cap d low t v t v why low
+refused-applied q cap d low t v why x z l = record { decided = x; done = λ s columns rows mark p e b h. absurd (z h); refused = λ _. (refl, refl, refl); low-to = l }

@@ -1,0 +1,12 @@
+-- From bytes to requests, from a request on a picture to the rules', and from one request to the next.
+pub mod Reading
+pub mod Patterns
+pub mod Bodies
+pub mod Drawing
+pub mod Tamed
+pub mod Deciding
+pub mod Applying
+pub mod Asking
+pub mod Turning
+pub mod Running
+pub mod Called

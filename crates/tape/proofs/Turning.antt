@@ -1,0 +1,104 @@
+-- One request of a tape, from its kind byte on: an unknown kind, a short body, a refusal, or the next kind byte with another state.
+-- Assumes nothing.
+use Prim.Native.Nat.{ℕ, _+_, _-_, _≤_, _<_}
+use native.Mathlib.Omega.{arith}
+use native.Mathlib.Numerals.{add-one}
+use mathlib.Core.Path.{_≡_, refl, sym, ap, _∙_}
+use mathlib.Core.Logic.{_≢_}
+use mathlib.Core.List.{List, _∷_}
+use lib.ListN.{length, take, drop, getD, length-drop}
+use lib.Seq.{drop-cons, drop-drop}
+use lib.IntN.{ℤ}
+use lib.Ieee.{Float}
+use borrow.Author.Tests.{lt-ltb, le-ltb, ne-eqb}
+use Rattle.mesh.specs.State.{State}
+use Rattle.mesh.specs.Refusal.{refusal}
+use Rattle.mesh.specs.Request.{Request, checks, effect, marked, refused, accepted, request}
+use Rattle.mesh.specs.Tape.{highFirst, kind, stop, next, stepBy, runFrom}
+use Rattle.mesh.proofs.Runs.{run-stop, run-next}
+use Rattle.tape.specs.Applied.{Applied}
+use Rattle.tape.specs.Asked.{bodyLength, asked}
+use Rattle.tape.specs.Ran.{Turned}
+use Rattle.tape.proofs.Drawing.{request-accepted}
+use Rattle.tape.proofs.Bodies.{unknown, Known, known, run-body}
+
+-- ---- a request by its refusal
+
+request-refused : (s : State) (q : Request) (why : ℕ) → why ≡ refusal (checks s q) → why ≢ 0 → request s q ≡ refused why
+unfolding request
+request-refused s q why e z = rw (← e, ne-eqb why 0 z)
+
+-- ---- the bytes from a kind byte on
+
+module _ (bytes : List ℕ) (at k : ℕ) (inside : at < length bytes) (is : k ≡ getD bytes at 0) where
+  abbrev rest : List ℕ
+  rest = drop (at + 1) bytes
+
+  split : drop at bytes ≡ k ∷ rest
+  split = rw (is, add-one at) (drop-cons bytes at 0 inside)
+
+  stopped : (s : State) (r : ℕ) → stepBy s (kind k) rest ≡ stop r → (n : ℕ) → runFrom 0 s n at (drop at bytes) ≡ record { state = s; done = n; why = r; offset = at }
+  stopped s r e n = rw split (run-stop s n at k r rest e)
+
+  module _ (cap d low : ℕ) (t : List ℤ) (v : List Float) (low-to : low ≤ cap + 1) where
+    -- what stops before a request is decided
+    turned-stop : (r : ℕ) → r ≢ 0 → ((s : State) → stepBy s (kind k) rest ≡ stop r) → Turned bytes at cap d low t v t v r low at
+    turned-stop r z h = record {
+      stops = λ _ s columns rows mark p e. stopped s r (h s);
+      same = λ _. (refl, refl);
+      goes = λ e. absurd (z e);
+      further = λ e. absurd (z e);
+      low-to = low-to;
+    }
+
+    pub turned-unknown : {len : ℕ} → len ≡ bodyLength k → len ≡ 0 → Turned bytes at cap d low t v t v 5 low at
+    turned-unknown e z = turned-stop 5 (λ x. omega arith) (λ s. rw (unknown k (sym e ∙ z)))
+
+    pub turned-short : {len : ℕ} → len ≡ bodyLength k → len ≢ 0 → length bytes - at ≤ len → Turned bytes at cap d low t v t v 4 low at
+    turned-short {len} e z l =
+        let x = known k rest (λ y. z (e ∙ y)) in
+        let few : length rest < x .its .len = simp length-drop (omega (arith, x .is-length)) in
+        turned-stop 4 (λ y. omega arith) (λ s. rw (x .is-kind, lt-ltb (length rest) (x .its .len) few))
+
+  -- ---- a request with its body
+
+  module _ {cap d low len n w why low′ : ℕ} {t t′ : List ℤ} {v v′ : List Float} (is-len : len ≡ bodyLength k) (some-len : len ≢ 0) (enough : len < length bytes - at)
+      (is-n : n ≡ highFirst 0 (take 2 (drop (at + 1) bytes))) (is-w : w ≡ highFirst 0 (take (len - 2) (drop (at + 3) bytes)))
+      (a : Applied (asked k n w) cap d low t v t′ v′ why low′) where
+    abbrev q : Request
+    q = asked k n w
+
+    its : Known k rest
+    its = known k rest (λ y. some-len (is-len ∙ y))
+
+    asks : its .its .ask (take (its .its .len) rest) ≡ q
+    asks =
+        let e : at + 1 + 2 ≡ at + 3 = omega arith in
+        its .asks ∙ rw (drop-drop 2 (at + 1) bytes, e, ← is-len, ← is-n, ← is-w)
+
+    whole : its .its .len ≤ length rest
+    whole = simp length-drop (omega (arith, its .is-length))
+
+    step-refused : (s : State) → request s q ≡ refused why → stepBy s (kind k) rest ≡ stop why
+    step-refused s e = rw (its .is-kind, le-ltb (length rest) (its .its .len) whole, asks, e)
+
+    step-accepted : (s s′ : State) → request s q ≡ accepted s′ → stepBy s (kind k) rest ≡ next s′ len
+    step-accepted s s′ e = rw (its .is-kind, le-ltb (length rest) (its .its .len) whole, asks, e) (ap (next s′) (its .is-length ∙ sym is-len))
+
+    on : (s s′ : State) → request s q ≡ accepted s′ → (m : ℕ) → runFrom 0 s m at (drop at bytes) ≡ runFrom 0 s′ (m + 1) (at + 1 + len) (drop (at + 1 + len) bytes)
+    on s s′ e m =
+        rw split
+        (run-next s m at k len s′ rest (step-accepted s s′ e)
+        ∙ run-body len s′ (m + 1) (at + 1) rest (omega (arith, whole, its .is-length))
+        ∙ ap (runFrom 0 s′ (m + 1) (at + 1 + len)) (drop-drop len (at + 1) bytes))
+
+    pub turned-request : Turned bytes at cap d low t v t′ v′ why low′ (at + 1 + len)
+    turned-request = record {
+      stops = λ z s columns rows mark p e. stopped s why (step-refused s (request-refused s q why (a .decided s columns rows mark p e) z));
+      same = λ z. (a .refused z .0, a .refused z .1);
+      goes = λ z s columns rows mark p e b.
+          let (x, y) = a .done s columns rows mark p e b z in
+          record { state = marked (effect s q); drawn = x; bounded = y; goes-on = on s (marked (effect s q)) (request-accepted s q (sym (a .decided s columns rows mark p e) ∙ z)) };
+      further = λ z. (omega arith, omega (arith, whole));
+      low-to = a .low-to;
+    }

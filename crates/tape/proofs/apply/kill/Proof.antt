@@ -1,0 +1,41 @@
+-- `tape::apply::kill` meets its contract: the refusal is the rules', and what `edit::kill::kill` writes is the picture of the state without the cell.
+-- Assumes nothing.
+use native.Mathlib.Omega.{arith}
+use borrow.Author.Needs.{needs}
+use Rattle.tape.proofs.Deciding.{refused-applied, kill-decides, kill-within}
+use Rattle.tape.proofs.Applying.{kill-applied}
+use Rattle.tape.proofs.apply.kill.Statement.{statement}
+use Rattle.tape.proofs.apply.kill.Tie as tie
+
+kill-refusal-requires : tie.Need-kill-refusal-requires
+kill-refusal-requires c κs = search needs
+
+same-length : tie.Need-same-length
+same-length c = search needs
+
+returns : tie.Need-returns
+returns c = refused-applied _ _ _ _ _ _ _ (kill-decides _ _ _ _ _ (c .before .kill-refusal .ensures)) (c .if1 .taken) (omega arith)
+
+kill-requires : tie.Need-kill-requires
+kill-requires c κs = let w = kill-within _ _ _ _ (c .before .before .before .kill-refusal .ensures) (c .before .before .if1 .left) in search needs
+
+same-length-2 : tie.Need-same-length-2
+same-length-2 c = search needs
+
+same-length-3 : tie.Need-same-length-3
+same-length-3 c = search needs
+
+returns-2 : tie.Need-returns-2
+returns-2 c = kill-applied _ _ _ _ _ _ _ _ (c .before .before .before .before .before .before .before .kill-refusal .ensures) (c .before .before .before .before .before .before .if1 .left) (c .before .before .before .kill .ensures .0) (c .before .before .before .kill .ensures .1)
+
+pub kill-spec : {M : Type 1} → statement M
+kill-spec =
+    tie.close
+    (tie.spec
+    kill-refusal-requires
+    same-length
+    returns
+    kill-requires
+    same-length-2
+    same-length-3
+    returns-2)

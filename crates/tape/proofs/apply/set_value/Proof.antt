@@ -1,0 +1,41 @@
+-- `tape::apply::set_value` meets its contract: the refusal is the rules', and what is written is the picture of the state with the value.
+-- Assumes nothing.
+use native.Mathlib.Omega.{arith}
+use borrow.Author.Needs.{needs}
+use Rattle.tape.proofs.Applying.{set-applied}
+use Rattle.tape.proofs.Deciding.{refused-applied, set-decides, set-within}
+use Rattle.tape.proofs.apply.set_value.Statement.{statement}
+use Rattle.tape.proofs.apply.set_value.Tie as tie
+
+set-refusal-requires : tie.Need-set-refusal-requires
+set-refusal-requires c κs = search needs
+
+same-length : tie.Need-same-length
+same-length c = search needs
+
+returns : tie.Need-returns
+returns c = refused-applied _ _ _ _ _ _ _ (set-decides _ _ _ _ _ _ (c .before .set-refusal .ensures)) (c .if1 .taken) (omega arith)
+
+set-at-requires : tie.Need-set-at-requires
+set-at-requires c κs = let w = set-within _ _ _ _ (c .before .before .before .set-refusal .ensures) (c .before .before .if1 .left) in (omega arith, omega arith)
+
+same-length-2 : tie.Need-same-length-2
+same-length-2 c = search needs
+
+same-length-3 : tie.Need-same-length-3
+same-length-3 c = search needs
+
+returns-2 : tie.Need-returns-2
+returns-2 c = set-applied _ _ _ _ _ _ _ _ _ (c .before .before .before .before .before .before .before .set-refusal .ensures) (c .before .before .before .before .before .before .if1 .left) (omega arith) (c .before .before .before .set-at .ensures .0) (c .before .before .before .set-at .ensures .1)
+
+pub set-value-spec : {M : Type 1} → statement M
+set-value-spec =
+    tie.close
+    (tie.spec
+    set-refusal-requires
+    same-length
+    returns
+    set-at-requires
+    same-length-2
+    same-length-3
+    returns-2)

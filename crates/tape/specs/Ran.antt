@@ -1,0 +1,38 @@
+-- What one request of a tape and what a whole tape make of a lent table.
+-- Assumes nothing.
+use Prim.Native.Nat.{ℕ, _+_, _%_, _≤_, _<_}
+use mathlib.Core.Path.{_≡_}
+use mathlib.Core.Logic.{_≢_}
+use mathlib.Core.List.{List}
+use lib.IntN.{ℤ}
+use lib.Ieee.{Float}
+use lib.ListN.{length, drop}
+use Rattle.mesh.specs.Place.{rectangle, base}
+use Rattle.mesh.specs.State.{State}
+use Rattle.mesh.specs.Tape.{runFrom, run}
+use Rattle.tape.specs.Drawn.{Drawn, Bounded}
+
+-- ---- one request
+
+-- the run from s goes on from another state, which t and v picture, at the offset next and with one request more done
+pub record Goes (s : State) (columns rows mark cap low : ℕ) (t : List ℤ) (v : List Float) (bytes : List ℕ) (at next : ℕ) : Type 0 where
+  pub state : State
+  pub drawn : Drawn state columns rows mark cap t v
+  pub bounded : Bounded (state .entries) cap low
+  pub goes-on : (n : ℕ) → runFrom 0 s n at (drop at bytes) ≡ runFrom 0 state (n + 1) next (drop next bytes)
+
+pub record Turned (bytes : List ℕ) (at cap d low : ℕ) (t : List ℤ) (v : List Float) (t′ : List ℤ) (v′ : List Float) (why low′ next : ℕ) : Type 0 where
+  pub stops : why ≢ 0 → (s : State) (columns rows mark : ℕ) → Drawn s columns rows mark cap t v → base (rectangle columns rows) ≡ d
+      → (n : ℕ) → runFrom 0 s n at (drop at bytes) ≡ record { state = s; done = n; why = why; offset = at }
+  pub same : why ≢ 0 → (t′ ≡ t) × (v′ ≡ v)
+  pub goes : why ≡ 0 → (s : State) (columns rows mark : ℕ) → Drawn s columns rows mark cap t v → base (rectangle columns rows) ≡ d → Bounded (s .entries) cap low
+      → Goes s columns rows ((mark + 1) % 65536) cap low′ t′ v′ bytes at next
+  pub further : why ≡ 0 → (at < next) × (next ≤ length bytes)
+  pub low-to : low′ ≤ cap + 1
+
+-- ---- the tape
+
+-- the answer is the rules', and t′ and v′ picture the state that the rules leave
+pub record Ran (bytes : List ℕ) (cap d mark : ℕ) (t : List ℤ) (v : List Float) (t′ : List ℤ) (v′ : List Float) (done why offset mark′ : ℕ) : Type 0 where
+  pub answer : (s : State) (columns rows : ℕ) → Drawn s columns rows mark cap t v → base (rectangle columns rows) ≡ d
+      → (done ≡ run s bytes .done) × (why ≡ run s bytes .why) × (offset ≡ run s bytes .offset) × Drawn (run s bytes .state) columns rows mark′ cap t′ v′

@@ -1,0 +1,93 @@
+// The requests of a tape, one after the other, up to the first that is refused.
+ghost use Prim.Native.Nat.{_<_};
+ghost use lib.ListN.{length};
+ghost use Rattle.tape.specs.Drawn.{Sized, Tame, Pictured};
+ghost use Rattle.tape.specs.Ran.{Turned, Ran};
+use crate::apply::request;
+use crate::bytes::body_length;
+use crate::bytes::high_first;
+
+// The refusal, 0 for none; a number below which none is free; and the offset of the next kind byte.
+pub struct Turn {
+    pub why: u32,
+    pub low: usize,
+    pub next: usize,
+}
+
+// The request whose kind byte stands at `at`.
+fn turn_at(
+    t: &mut [i32],
+    v: &mut [f64],
+    cap: usize,
+    d: u32,
+    low: usize,
+    tape: &[u8],
+    at: usize,
+) -> Turn
+    requires { ⌜ Sized (now t) (now v) cap d low × Tame (now t) cap d × (at < length (now tape)) ⌝ }
+    ensures { λ r. ⌜ Turned (now (tape .entry)) at cap d low (now (t .entry)) (now (v .entry)) (now (t .exit)) (now (v .exit)) (r .why) (r .low) (r .next) ⌝ }
+{
+    let k = tape[at];
+    let len = body_length(k);
+    if len == 0 {
+        return Turn {
+            why: 5,
+            low,
+            next: at,
+        };
+    }
+    if tape.len() - at <= len {
+        return Turn {
+            why: 4,
+            low,
+            next: at,
+        };
+    }
+    let n = high_first(tape, at + 1, 2) as usize;
+    let w = high_first(tape, at + 3, len - 2);
+    let s = request(t, v, cap, d, k, n, w, low);
+    Turn {
+        why: s.why,
+        low: s.low,
+        next: at + 1 + len,
+    }
+}
+
+// The requests done, the refusal or 0, the offset of the refused kind byte or the tape's length, and the mark.
+pub struct Run {
+    pub done: usize,
+    pub why: u32,
+    pub offset: usize,
+    pub mark: u16,
+}
+
+pub fn run_tape(t: &mut [i32], v: &mut [f64], cap: usize, d: u32, mark: u16, tape: &[u8]) -> Run
+    requires { ⌜ Pictured mark cap d (now t) (now v) ⌝ }
+    ensures { λ r. ⌜ Ran (now (tape .entry)) cap d mark (now (t .entry)) (now (v .entry)) (now (t .exit)) (now (v .exit)) (r .done) (r .why) (r .offset) (r .mark) ⌝ }
+{
+    let mut at = 0;
+    let mut done = 0;
+    let mut low = 1;
+    let mut m = mark;
+    while at < tape.len() {
+        let s = turn_at(t, v, cap, d, low, tape, at);
+        if s.why != 0 {
+            return Run {
+                done,
+                why: s.why,
+                offset: at,
+                mark: m,
+            };
+        }
+        at = s.next;
+        done += 1;
+        low = s.low;
+        m = std::num::wrapping_add_u16(m, 1);
+    }
+    Run {
+        done,
+        why: 0,
+        offset: at,
+        mark: m,
+    }
+}
