@@ -11,7 +11,15 @@ use lib.ListN.{length}
 use borrow.Author.Tests.{eqb-true, leb-true, not-false}
 use Rattle.mesh.specs.Picture.{rowWords}
 use Rattle.mesh.specs.Refusal.{Check, refusal}
-use Rattle.mesh.specs.Call.{Lent, stateOf, outside, no1, lentChecks, checkCall, Wrote, pageCall}
+use Rattle.mesh.specs.State.{blank}
+use Rattle.mesh.specs.Scan.{scanChecks}
+use Rattle.mesh.specs.Lookup.{lookupChecks}
+use Rattle.mesh.specs.Call.{Lent, stateOf, outside, no1, lentChecks, checkCall, Wrote, Found, scanCall, lookupCall, pageCall}
+use Rattle.geometry.proofs.Base.{base-range}
+use lib.IntN.{ℤ}
+use Rattle.walk.specs.Calls.{rowScanOut, rowLookupOut}
+use Rattle.calling.proofs.Scanned.{scan-call}
+use Rattle.calling.proofs.Looked.{lookup-call}
 use Rattle.mesh.specs.Place.{base}
 use Rattle.page.specs.Rows.{rowOut}
 use Rattle.calling.proofs.Paged.{page-call}
@@ -68,6 +76,37 @@ module _ (cap : ℕ) (l : Lent) (r : ℕ) (is : r ≡ checkCall cap l) (no : r �
   page-first out =
       let e : refusal (lentChecks cap l ++ pageChecks (stateOf l) (length out)) ≡ r = kept (lentChecks cap l) (pageChecks (stateOf l) (length out)) (λ z. no (sym refuses ∙ z)) ∙ refuses in
       sym (rw e (unless-refused _ _ r no))
+
+  pub scan-first : (n : ℕ) (o : List ℕ) (k : ℕ) (from to : ℤ) (out : List ℕ) → record { why = r; count = 0; out = out } ≡ scanCall cap l n o k from to out
+  unfolding scanCall
+  scan-first n o k from to out =
+      let cs = scanChecks (stateOf l) (length out) n o k from to in
+      let e : refusal (lentChecks cap l ++ cs) ≡ r = kept (lentChecks cap l) cs (λ z. no (sym refuses ∙ z)) ∙ refuses in
+      sym (rw e (unless-refused _ _ r no))
+
+  pub lookup-first : (x y : ℕ) → record { why = r; leaf = 0; value = blank } ≡ lookupCall cap l x y
+  unfolding lookupCall
+  lookup-first x y =
+      let cs = lookupChecks (stateOf l) x y in
+      let e : refusal (lentChecks cap l ++ cs) ≡ r = kept (lentChecks cap l) cs (λ z. no (sym refuses ∙ z)) ∙ refuses in
+      sym (rw e (unless-refused _ _ r no))
+
+-- the depth of level 0, where they let a call through
+pub shallow : (cap : ℕ) (l : Lent) → Sizes cap l → base (l .header .grid) ≤ 6
+shallow cap l s = base-range (l .header .grid) (s .columns .0, s .columns .1, s .rows .0, s .rows .1) .1
+
+-- a scan and a lookup that they let through; the levels are passed on as words
+pub scan-done : (cap : ℕ) (l : Lent) (n : ℕ) (o : List ℕ) (k : ℕ) {from to from′ to′ : ℤ} (out : List ℕ) (d : ℕ) (w : Wrote) → checkCall cap l ≡ 0 → d ≡ base (l .header .grid)
+    → from′ ≡ from → to′ ≡ to → w ≡ rowScanOut (l .words) cap d n o k from′ to′ out → w ≡ scanCall cap l n o k from to out
+unfolding checkCall
+scan-done cap l n o k {from} {to} {from′} {to′} out d w ok e f g h =
+    let same : rowScanOut (l .words) cap d n o k from′ to′ out ≡ rowScanOut (l .words) cap (base (l .header .grid)) n o k from to out = λ i. rowScanOut (l .words) cap (e i) n o k (f i) (g i) out in
+    h ∙ same ∙ sym (scan-call n o k from to out cap l ok)
+
+pub lookup-done : (cap : ℕ) (l : Lent) (x y : ℕ) (d : ℕ) (w : Found) → checkCall cap l ≡ 0 → d ≡ base (l .header .grid)
+    → w ≡ rowLookupOut (l .words) (l .values) cap d x y → w ≡ lookupCall cap l x y
+unfolding checkCall
+lookup-done cap l x y d w ok e h = h ∙ ap (λ (d : ℕ). rowLookupOut (l .words) (l .values) cap d x y) e ∙ sym (lookup-call x y cap l ok)
 
 -- a page call that they let through
 pub page-done : (cap : ℕ) (l : Lent) (out : List ℕ) (d : ℕ) (w : Wrote) → checkCall cap l ≡ 0 → d ≡ base (l .header .grid)

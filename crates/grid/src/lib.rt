@@ -4,9 +4,12 @@ ghost use Prim.Native.Nat.{_<_};
 ghost use Rattle.mesh.specs.Place.{rectangle};
 ghost use Rattle.mesh.specs.State as State;
 ghost use Rattle.mesh.specs.Refusal.{refusal};
-ghost use Rattle.mesh.specs.Call.{checkCall, pageCall, buildChecks};
+ghost use Rattle.mesh.specs.Call.{checkCall, scanCall, lookupCall, pageCall, buildChecks};
+ghost use Rattle.walk.specs.Calls.{foundOf};
 ghost use Rattle.grid.specs.Calls.{lentOf, lists, wroteOf, Builds};
 use table::words::ROW_WORDS;
+use walk::calls::Found;
+use walk::calls::Reading;
 
 // Lent with the table: the rectangle of level-0 cells, and the edit mark.
 pub struct Header {
@@ -37,6 +40,59 @@ pub fn check(header: Header, table: &[i32], values: &[f64], capacity: u32) -> u3
     ensures { λ r. ⌜ r ≡ checkCall capacity (lentOf header (now (table .entry)) (now (values .entry))) ⌝ }
 {
     sound::checks::check(header.columns, header.rows, table, values, capacity)
+}
+
+// The numbers of the patches of a kind that a walk from a start meets, on levels from and to.
+pub fn scan(
+    header: Header,
+    table: &[i32],
+    values: &[f64],
+    capacity: u32,
+    start: u32,
+    order: [u8; 4],
+    kind: u32,
+    from: i32,
+    to: i32,
+    out: &mut [u16],
+) -> Wrote
+    ensures { λ r. ⌜ wroteOf r (now (out .exit)) ≡ scanCall capacity (lentOf header (now (table .entry)) (now (values .entry))) start order kind from to (now (out .entry)) ⌝ }
+{
+    let refusal = check(header, table, values, capacity);
+    if refusal != 0 {
+        return Wrote { refusal, count: 0 };
+    }
+    let d = mesh::ground_depth(header.columns, header.rows);
+    let w = walk::calls::scan_out(
+        table,
+        capacity as usize,
+        d,
+        start,
+        order,
+        kind,
+        from,
+        to,
+        out,
+    );
+    Wrote {
+        refusal: w.why,
+        count: w.count,
+    }
+}
+
+// The leaf that holds a point, given in 1/4096 of a level-0 cell, and its value.
+pub fn lookup(header: Header, table: &[i32], values: &[f64], capacity: u32, x: u32, y: u32) -> Found
+    ensures { λ r. ⌜ foundOf r ≡ lookupCall capacity (lentOf header (now (table .entry)) (now (values .entry))) x y ⌝ }
+{
+    let refusal = check(header, table, values, capacity);
+    if refusal != 0 {
+        return Found {
+            why: refusal,
+            leaf: 0,
+            reading: Reading::Blank,
+        };
+    }
+    let d = mesh::ground_depth(header.columns, header.rows);
+    walk::calls::lookup_out(table, values, capacity as usize, d, x, y)
 }
 
 // The dossier page.
