@@ -1,3 +1,4 @@
 -- What the first checks of a call leave for the rest of it.
 pub mod First
 pub mod Builds
+pub mod Tapes

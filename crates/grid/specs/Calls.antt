@@ -11,6 +11,7 @@ use Rattle.mesh.specs.Call as Call
 use Rattle.grid.specs.declared.Header.{Header}
 use Rattle.grid.specs.declared.Wrote.{Wrote}
 use Rattle.grid.specs.declared.Built.{Built}
+use Rattle.grid.specs.declared.Taped.{Taped}
 
 -- "columns, rows, and a 16-bit edit mark"
 abbrev pub headerOf : Header → State.Header
@@ -35,3 +36,12 @@ builtOf r h t v = record { why = r .refusal; in-use = r .used; lent = lentOf h t
 -- what a build may do: the header, the lists, the capacity, columns and rows at entry; the header, the lists and the answer at exit
 pub record Builds (h : Header) (t : List ℤ) (v : List Float) (cap columns rows : ℕ) (h′ : Header) (t′ : List ℤ) (v′ : List Float) (r : Built) : Type 0 where
   pub is : builtOf r h′ t′ v′ ≡ Call.buildCall cap (lentOf h t v) (rectangle columns rows)
+
+-- ---- tape
+
+abbrev pub tapedOf : Taped → Header → List ℤ → List Float → Call.Taped
+tapedOf r h t v = record { done = r .done; why = r .refusal; offset = r .offset; lent = lentOf h t v }
+
+-- what a tape may do: the header, the lists, the capacity and the bytes at entry; the header, the lists and the answer at exit
+pub record Tapes (h : Header) (t : List ℤ) (v : List Float) (cap : ℕ) (bytes : List ℕ) (h′ : Header) (t′ : List ℤ) (v′ : List Float) (r : Taped) : Type 0 where
+  pub is : tapedOf r h′ t′ v′ ≡ Call.tapeCall cap (lentOf h t v) bytes

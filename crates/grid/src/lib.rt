@@ -6,7 +6,7 @@ ghost use Rattle.mesh.specs.State as State;
 ghost use Rattle.mesh.specs.Refusal.{refusal};
 ghost use Rattle.mesh.specs.Call.{checkCall, scanCall, lookupCall, pageCall, buildChecks};
 ghost use Rattle.walk.specs.Calls.{foundOf};
-ghost use Rattle.grid.specs.Calls.{lentOf, lists, wroteOf, Builds};
+ghost use Rattle.grid.specs.Calls.{lentOf, lists, wroteOf, Builds, Tapes};
 use table::words::ROW_WORDS;
 use walk::calls::Found;
 use walk::calls::Reading;
@@ -183,5 +183,54 @@ pub fn build_core(
             mark: 0,
         },
         answer: Built { refusal: 0, used },
+    }
+}
+
+// What a tape answers: the requests done, the refusal of the next one or 0, and its offset or the tape's length.
+pub struct Taped {
+    pub done: usize,
+    pub refusal: u32,
+    pub offset: usize,
+}
+
+pub struct TapeOut {
+    pub header: Header,
+    pub answer: Taped,
+}
+
+// The tape on the header by value.
+pub fn tape_core(
+    header: Header,
+    table: &mut [i32],
+    values: &mut [f64],
+    capacity: u32,
+    tape: &[u8],
+) -> TapeOut
+    ensures { λ r. ⌜ Tapes header (now (table .entry)) (now (values .entry)) capacity (now (tape .entry)) (r .header) (now (table .exit)) (now (values .exit)) (r .answer) ⌝ }
+{
+    let refusal = check(header, table, values, capacity);
+    if refusal != 0 {
+        return TapeOut {
+            header,
+            answer: Taped {
+                done: 0,
+                refusal,
+                offset: 0,
+            },
+        };
+    }
+    let d = mesh::ground_depth(header.columns, header.rows);
+    let r = tape::turns::run_tape(table, values, capacity as usize, d, header.mark, tape);
+    TapeOut {
+        header: Header {
+            columns: header.columns,
+            rows: header.rows,
+            mark: r.mark,
+        },
+        answer: Taped {
+            done: r.done,
+            refusal: r.why,
+            offset: r.offset,
+        },
     }
 }
