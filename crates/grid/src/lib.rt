@@ -234,3 +234,34 @@ pub fn tape_core(
         },
     }
 }
+
+// Builds the rectangle of level-0 cells: the header, all rows and all values.
+pub fn build(
+    header: &mut Header,
+    table: &mut [i32],
+    values: &mut [f64],
+    capacity: u32,
+    columns: u32,
+    rows: u32,
+) -> Built
+    ensures { λ r. ⌜ Builds (now (header .entry)) (now (table .entry)) (now (values .entry)) capacity columns rows (now (header .exit)) (now (table .exit)) (now (values .exit)) r ⌝ }
+{
+    let out = build_core(*header, table, values, capacity, columns, rows);
+    *header = out.header;
+    out.answer
+}
+
+// Runs a tape of requests, up to the first that is refused.
+pub fn tape(
+    header: &mut Header,
+    table: &mut [i32],
+    values: &mut [f64],
+    capacity: u32,
+    tape: &[u8],
+) -> Taped
+    ensures { λ r. ⌜ Tapes (now (header .entry)) (now (table .entry)) (now (values .entry)) capacity (now (tape .entry)) (now (header .exit)) (now (table .exit)) (now (values .exit)) r ⌝ }
+{
+    let out = tape_core(*header, table, values, capacity, tape);
+    *header = out.header;
+    out.answer
+}
