@@ -2,3 +2,4 @@
 pub mod First
 pub mod Builds
 pub mod Tapes
+pub mod Unique
