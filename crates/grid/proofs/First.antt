@@ -52,44 +52,37 @@ unfolding checkCall lentChecks
 sizes cap l h =
     let (a₁, h₁) = passes 1 _ _ (λ z. omega arith) h in
     let (a₂, h₂) = passes 2 _ _ (λ z. omega arith) h₁ in
-    let (a, r) = neither (not (eqb (length (l .words)) (rowWords * (cap + 1)))) _ a₁ in
-    let (b, c) = neither (not (eqb (length (l .values)) (cap + 1))) (outside 5 4095 cap) r in
+    let (_, r) = neither (not (eqb (length (l .words)) (rowWords * (cap + 1)))) _ a₁ in
+    let (_, c) = neither (not (eqb (length (l .values)) (cap + 1))) (outside 5 4095 cap) r in
+    let (words, values) = lengths cap l _ h in
     let (d, e) = neither (outside 1 32 (l .header .grid .columns)) (outside 1 32 (l .header .grid .rows)) a₂ in
     let (low, high) = range 5 4095 cap c in
     record {
-      words = eqb-true (length (l .words)) (rowWords * (cap + 1)) (not-false _ a);
-      values = eqb-true (length (l .values)) (cap + 1) (not-false _ b);
+      words = words;
+      values = values;
       low = low;
       high = high;
       columns = range 1 32 (l .header .grid .columns) d;
       rows = range 1 32 (l .header .grid .rows) e;
     }
 
--- a call that the first checks refuse
-module _ (cap : ℕ) (l : Lent) (r : ℕ) (is : r ≡ checkCall cap l) (no : r ≢ 0) where
-  refuses : refusal (lentChecks cap l) ≡ r
+-- a call that the first checks refuse, whatever its own are
+module _ (cap : ℕ) (l : Lent) (r : ℕ) (is : r ≡ checkCall cap l) (some : r ≢ 0) where
+  first : (cs : List Check) → refusal (lentChecks cap l ++ cs) ≡ r
   unfolding checkCall
-  refuses = sym is
-
-  pub page-first : (out : List ℕ) → record { why = r; count = 0; out = out } ≡ pageCall cap l out
-  unfolding pageCall
-  page-first out =
-      let e : refusal (lentChecks cap l ++ pageChecks (stateOf l) (length out)) ≡ r = kept (lentChecks cap l) (pageChecks (stateOf l) (length out)) (λ z. no (sym refuses ∙ z)) ∙ refuses in
-      sym (rw e (unless-refused _ _ r no))
+  first cs = kept (lentChecks cap l) cs (λ z. some (is ∙ z)) ∙ sym is
 
   pub scan-first : (n : ℕ) (o : List ℕ) (k : ℕ) (from to : ℤ) (out : List ℕ) → record { why = r; count = 0; out = out } ≡ scanCall cap l n o k from to out
   unfolding scanCall
-  scan-first n o k from to out =
-      let cs = scanChecks (stateOf l) (length out) n o k from to in
-      let e : refusal (lentChecks cap l ++ cs) ≡ r = kept (lentChecks cap l) cs (λ z. no (sym refuses ∙ z)) ∙ refuses in
-      sym (rw e (unless-refused _ _ r no))
+  scan-first n o k from to out = sym (rw (first (scanChecks (stateOf l) (length out) n o k from to)) (unless-refused _ _ r some))
 
   pub lookup-first : (x y : ℕ) → record { why = r; leaf = 0; value = blank } ≡ lookupCall cap l x y
   unfolding lookupCall
-  lookup-first x y =
-      let cs = lookupChecks (stateOf l) x y in
-      let e : refusal (lentChecks cap l ++ cs) ≡ r = kept (lentChecks cap l) cs (λ z. no (sym refuses ∙ z)) ∙ refuses in
-      sym (rw e (unless-refused _ _ r no))
+  lookup-first x y = sym (rw (first (lookupChecks (stateOf l) x y)) (unless-refused _ _ r some))
+
+  pub page-first : (out : List ℕ) → record { why = r; count = 0; out = out } ≡ pageCall cap l out
+  unfolding pageCall
+  page-first out = sym (rw (first (pageChecks (stateOf l) (length out))) (unless-refused _ _ r some))
 
 -- the depth of level 0, where they let a call through
 pub shallow : (cap : ℕ) (l : Lent) → Sizes cap l → base (l .header .grid) ≤ 6
