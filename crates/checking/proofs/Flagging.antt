@@ -16,7 +16,7 @@ use borrow.Author.Tests.{eq-eqb, ne-eqb}
 use Rattle.mesh.specs.Tools.{digits}
 use Rattle.mesh.specs.Place.{Place, Grid, base, step, Wind, N, E, S, W}
 use Rattle.mesh.specs.Winds.{wordOfWind}
-use Rattle.mesh.specs.Mesh.{Wall, absent, internal, boundary, green, isWall, isBoundary, isGreen, on, touched, wallH, wallV, ends, sides, derived, flags}
+use Rattle.mesh.specs.Mesh.{Wall, absent, isWall, isBoundary, isGreen, on, touched, wallH, wallV, ends, sides, derived, flags}
 use Rattle.mesh.specs.State.{Entry, cells, number, numberOf}
 use Rattle.table.specs.Words.{wordOf, linkOf, flagOf, depthOf}
 use Rattle.table.specs.Worked.{edgeH, edgeV, innerH, innerV, flagsFrom}
@@ -25,6 +25,7 @@ use Rattle.geometry.proofs.Kids.{up, up-is}
 use Rattle.geometry.proofs.Tree.{touched-patch}
 use Rattle.geometry.proofs.Digits.{aside, stays, step-depth}
 use Rattle.geometry.proofs.Walls.{wall, wallH-cells, wallV-cells, wall-green, wall-by, wall-touched, south-touched, west-touched, stays-south, stays-west, ghost-flags}
+use Rattle.pictures.proofs.Flagged.{boundary-wall, green-wall}
 use Rattle.checking.proofs.Facts.{Used, spot}
 use Rattle.checking.proofs.Climbing.{spot-depth, not-root, child-depth}
 use Rattle.checking.proofs.Words.{flag-zero}
@@ -33,18 +34,6 @@ use Rattle.checking.proofs.Reading.{Reads, point-flag, ghost-flag}
 use Rattle.checking.proofs.Linking.{number-cases, number-used, number-spot, side-link, on-flag, spot-cell}
 use Rattle.checking.proofs.Meshing.{south-link, west-link, cells-mesh}
 use Rattle.checking.proofs.Existing.{patch-row}
-
-boundary-wall : (y : Wall) → T (isBoundary y) → T (isWall y)
-boundary-wall absent t = t
-boundary-wall internal t = tt
-boundary-wall boundary t = tt
-boundary-wall green t = tt
-
-green-wall : (y : Wall) → T (isGreen y) → T (isWall y)
-green-wall absent t = t
-green-wall internal t = tt
-green-wall boundary t = tt
-green-wall green t = tt
 
 module _ {g : Grid} {cap : ℕ} {t : List ℤ} {v : List Float} {es : List Entry} (o : Reads g cap t v es) where
   -- the cells of the table

@@ -6,8 +6,6 @@ use mathlib.Core.Bool.{Bool, true, false, cond}
 use mathlib.Core.List.{List, [], _∷_}
 use Prim.Native.Nat.{ℕ, zero, suc, _+_, _-_, _*_, _≤_, _<_}
 use native.Mathlib.Omega.{arith}
-use borrow.Author.Tests.{lt-ltb, le-ltb}
-use native.Mathlib.Decide.{decLt}
 use lib.Dec.{eqb}
 use lib.ListN.{set, getD}
 use lib.Seq.{getD-set-other}
@@ -18,6 +16,7 @@ use Rattle.mesh.specs.Picture.{rowWords}
 use Rattle.mesh.proofs.Winds.{rule}
 use Rattle.table.specs.Words.{code, wordOf, depthFrom, depthOf}
 use Rattle.table.specs.Worked.{kidWord, sideOf}
+use Rattle.table.proofs.Links.{depth-back}
 use Rattle.pictures.proofs.Linked.{kid-word-lt}
 use Rattle.editing.specs.Steps.{putWord, putUnlessNil, linkSide, placeIn, linkIn}
 use Rattle.editing.specs.Tables.{Lending, spot, kidAt, freeFrom, kidSpots, supplied, suppliedAll}
@@ -77,18 +76,6 @@ unfolding depthOf
 keeps-small {b} {d} {n} f s = record { col = rw (f .same n 10 (omega arith) (omega arith)) (s .col); row = rw (f .same n 11 (omega arith) (omega arith)) (s .row); depth = rw (f .same n 9 (omega arith) (omega arith)) (s .depth) }
 
 -- ---- a new row
-
-depth-back : (d e : ℕ) → e < 2147483648 → depthFrom d (code (subℕ e d)) ≡ e
-depth-back d e h = go (decLt e d)
-  where
-    ghost : (x : ℕ) → x < d → depthFrom d (2147483648 + x) ≡ d - 1 - x
-    ghost x a =
-        let z : 2147483648 + x - 2147483648 ≡ x = omega arith in
-        rw (le-ltb (2147483648 + x) 2147483648 (omega arith), z, lt-ltb x d a)
-
-    go : Dec (e < d) → depthFrom d (code (subℕ e d)) ≡ e
-    go (yes a) = rw (lt-ltb e d a) (ghost (d - suc e) (omega arith) ∙ omega arith)
-    go (no a) = rw (le-ltb e d (omega arith)) (rw (lt-ltb (e - d) 2147483648 (omega arith)) (let z : e - d + d ≡ e = omega arith in z))
 
 depth-as : (t : List ℤ) (d n : ℕ) {b : ℕ} → depthFrom d (wordOf t n 9) < b → depthOf t d n < b
 unfolding depthOf

@@ -4,21 +4,21 @@ use Prim.Native.Nat.{ℕ, zero, suc, _+_, _-_, _*_, _%_, _≤_}
 use native.Mathlib.Omega.{arith}
 use mathlib.Core.Path.{_≡_, refl, _∙_}
 use mathlib.Core.Bool.{Bool, true, false, not, cond, _||_}
-use mathlib.Core.List.{List, [], _∷_, _++_}
-use lib.Dec.{eqb, leb}
+use mathlib.Core.List.{List, [], _∷_}
+use lib.Dec.{eqb}
 use lib.Ieee.{Float}
 use lib.IntN.{ℤ}
 use lib.ListN.{length, length-set}
-use borrow.Author.Tests.{leb-true}
 use Rattle.mesh.specs.Place.{Wind, N, E, S, W, compass}
 use Rattle.mesh.specs.Winds.{wordOfWind}
 use Rattle.mesh.specs.Picture.{rowWords}
 use Rattle.table.specs.Words.{wordOf, linkOf}
 use Rattle.table.specs.Worked.{kidWord, sideOf}
 use Rattle.table.specs.Writes.{freeRow}
+use Rattle.table.proofs.Links.{link-within}
 use Rattle.editing.specs.Steps.{putWord, putUnlessNil, linkSide, placeIn, linkIn, dropSide, takeOut}
 use Rattle.editing.specs.Anew.{refreshed}
-use Rattle.editing.specs.Tables.{Spot, Lending, Border, kidAt, kidSpots, wantedSpots, outsideSpots, refreshUnlessNil, refreshAt, putCells, putValues, freeFrom, supplied, suppliedAll, kidStatus, refineTable, refineValues, touchedRow, dropUntouched, dropAt, removeTable, removeValues, kidless, dropUp, dropCorner, eachKid, refreshDown, refreshLevel, refreshLevels, stillUsed, killTable, killValues}
+use Rattle.editing.specs.Tables.{Spot, Lending, Border, kidAt, kidSpots, refreshUnlessNil, refreshAt, putCells, putValues, freeFrom, supplied, suppliedAll, refineTable, refineValues, touchedRow, dropUntouched, dropAt, removeTable, removeValues, kidless, dropUp, dropCorner, eachKid, refreshDown, refreshLevel, refreshLevels, killTable, killValues}
 use Rattle.editing.proofs.Spots.{put-length}
 
 -- ---- words
@@ -97,14 +97,6 @@ unfolding refineValues
 length-refineValues t cap n v = length-cond (eqb (wordOf t n 13) 0) _ _ refl (length-putValues (kidSpots t cap n) t cap _ v)
 
 -- ---- a patch that goes
-
-link-within : (t : List ℤ) (cap n w : ℕ) → linkOf t cap n w ≤ cap
-unfolding linkOf
-link-within t cap n w = go (leb (wordOf t n w) cap) refl
-  where
-    go : (b : Bool) → leb (wordOf t n w) cap ≡ b → cond b (wordOf t n w) 0 ≤ cap
-    go true e = leb-true (wordOf t n w) cap e
-    go false e = omega arith
 
 pub length-dropSide : (t : List ℤ) (cap k : ℕ) (w : Wind) → length (dropSide t cap k w) ≡ length t
 unfolding dropSide

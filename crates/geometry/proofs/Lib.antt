@@ -1,5 +1,6 @@
 -- The laws of the geometry, bottom up.
 pub mod Bools
+pub mod Ranges
 pub mod Lists
 pub mod Places
 pub mod Counting

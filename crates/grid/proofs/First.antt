@@ -4,17 +4,18 @@ use Prim.Native.Nat.{ℕ, _+_, _*_, _≤_}
 use native.Mathlib.Omega.{arith}
 use mathlib.Core.Path.{_≡_, sym, ap, _∙_}
 use mathlib.Core.Logic.{_≢_}
-use mathlib.Core.Bool.{false, not}
+use mathlib.Core.Bool.{not}
 use mathlib.Core.List.{List, _∷_, _++_}
-use lib.Dec.{eqb, leb}
+use lib.Dec.{eqb}
 use lib.ListN.{length}
-use borrow.Author.Tests.{eqb-true, leb-true, not-false}
+use borrow.Author.Tests.{eqb-true, not-false}
 use Rattle.mesh.specs.Picture.{rowWords}
 use Rattle.mesh.specs.Refusal.{Check, refusal}
 use Rattle.mesh.specs.State.{blank}
 use Rattle.mesh.specs.Scan.{scanChecks}
 use Rattle.mesh.specs.Lookup.{lookupChecks}
 use Rattle.mesh.specs.Call.{Lent, stateOf, outside, no1, lentChecks, checkCall, Wrote, Found, scanCall, lookupCall, pageCall}
+use Rattle.geometry.proofs.Ranges.{outside-within}
 use Rattle.geometry.proofs.Base.{base-range}
 use lib.IntN.{ℤ}
 use Rattle.walk.specs.Calls.{rowScanOut, rowLookupOut}
@@ -24,7 +25,7 @@ use Rattle.mesh.specs.Place.{base}
 use Rattle.page.specs.Rows.{rowOut}
 use Rattle.calling.proofs.Paged.{page-call}
 use Rattle.mesh.specs.Page.{pageChecks}
-use Rattle.geometry.proofs.Bools.{both-true, neither}
+use Rattle.geometry.proofs.Bools.{neither}
 use Rattle.numbering.proofs.Checks.{passes, kept}
 use Rattle.laws.proofs.Refusals.{unless-refused}
 
@@ -44,9 +45,6 @@ pub record Sizes (cap : ℕ) (l : Lent) : Type 0 where
   pub columns : (1 ≤ l .header .grid .columns) × (l .header .grid .columns ≤ 32)
   pub rows : (1 ≤ l .header .grid .rows) × (l .header .grid .rows ≤ 32)
 
-range : (low high n : ℕ) → outside low high n ≡ false → (low ≤ n) × (n ≤ high)
-range low high n e = let (a, b) = both-true (leb low n) (leb n high) e in (leb-true low n a, leb-true n high b)
-
 pub sizes : (cap : ℕ) (l : Lent) → checkCall cap l ≡ 0 → Sizes cap l
 unfolding checkCall lentChecks
 sizes cap l h =
@@ -56,14 +54,14 @@ sizes cap l h =
     let (_, c) = neither (not (eqb (length (l .values)) (cap + 1))) (outside 5 4095 cap) r in
     let (words, values) = lengths cap l _ h in
     let (d, e) = neither (outside 1 32 (l .header .grid .columns)) (outside 1 32 (l .header .grid .rows)) a₂ in
-    let (low, high) = range 5 4095 cap c in
+    let (low, high) = outside-within 5 4095 cap c in
     record {
       words = words;
       values = values;
       low = low;
       high = high;
-      columns = range 1 32 (l .header .grid .columns) d;
-      rows = range 1 32 (l .header .grid .rows) e;
+      columns = outside-within 1 32 (l .header .grid .columns) d;
+      rows = outside-within 1 32 (l .header .grid .rows) e;
     }
 
 -- a call that the first checks refuse, whatever its own are

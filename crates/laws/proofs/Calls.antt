@@ -5,11 +5,11 @@ use Prim.Native.Nat.{ℕ, _+_, _*_, _≤_}
 use native.Mathlib.Nat.{mul-comm}
 use native.Mathlib.Omega.{arith}
 use mathlib.Core.Path.{_≡_, refl, sym, ap, _∙_}
-use mathlib.Core.Bool.{false, not}
+use mathlib.Core.Bool.{not}
 use mathlib.Core.List.{List, [], _∷_}
-use lib.Dec.{eqb, leb}
+use lib.Dec.{eqb}
 use lib.ListN.{length}
-use borrow.Author.Tests.{eq-eqb, le-leb, leb-true, ltb-false}
+use borrow.Author.Tests.{eq-eqb, ltb-false}
 use Rattle.mesh.specs.Place.{Grid}
 use Rattle.mesh.specs.State.{State, capacity, gridOf}
 use Rattle.mesh.specs.Valid.{Valid}
@@ -19,7 +19,8 @@ use Rattle.mesh.specs.Refusal.{refusal}
 use Rattle.mesh.specs.Build.{numbered, built}
 use Rattle.mesh.specs.Tape.{run}
 use Rattle.mesh.specs.Call.{Lent, picture, stateOf, outside, lentChecks, buildChecks, Taped, tapeCall}
-use Rattle.geometry.proofs.Bools.{yes-is, both-true, neither}
+use Rattle.geometry.proofs.Bools.{yes-is, neither}
+use Rattle.geometry.proofs.Ranges.{within-outside, outside-within}
 use Rattle.geometry.proofs.Base.{Rectangle}
 use Rattle.numbering.proofs.Checks.{passes}
 use Rattle.numbering.proofs.Building.{built-valid, built-capacity}
@@ -29,14 +30,6 @@ use Rattle.pictures.proofs.Soundness.{picture-sound, sound-test}
 use Rattle.laws.specs.Deeds.{after}
 use Rattle.laws.proofs.Refusals.{unless-accepted}
 use Rattle.laws.proofs.Tapes.{run-led}
-
--- ---- ranges
-
-in-side : (low high n : ℕ) → low ≤ n → n ≤ high → outside low high n ≡ false
-in-side low high n a b = rw (le-leb low n a, le-leb n high b)
-
-side-in : (low high n : ℕ) → outside low high n ≡ false → (low ≤ n) × (n ≤ high)
-side-in low high n e = let (a, b) = both-true (leb low n) (leb n high) e in (leb-true low n a, leb-true n high b)
 
 -- ---- the first checks
 
@@ -55,9 +48,9 @@ module _ (s : State) (v : Valid s) where
       rw (
         eq-eqb (length (table s)) (rowWords * (capacity s + 1)) (sizes-fit .0),
         eq-eqb (length (amounts s)) (capacity s + 1) (sizes-fit .1),
-        in-side 5 4095 (capacity s) (v .sizes .0) (v .sizes .1),
-        in-side 1 32 (gridOf s .columns) (v .rectangle .0) (v .rectangle .1),
-        in-side 1 32 (gridOf s .rows) (v .rectangle .2) (v .rectangle .3),
+        within-outside 5 4095 (capacity s) (v .sizes .0) (v .sizes .1),
+        within-outside 1 32 (gridOf s .columns) (v .rectangle .0) (v .rectangle .1),
+        within-outside 1 32 (gridOf s .rows) (v .rectangle .2) (v .rectangle .3),
         yes-is (sound (s .header) (table s) (amounts s)) (sound-test (s .header) (table s) (amounts s) (picture-sound v)),
       )
 
@@ -83,9 +76,9 @@ build-checked cap l g ok =
     let (a₃, h₃) = passes 11 _ _ (λ z. omega arith) h₂ in
     let (b, c) = neither (not (eqb (length (l .values)) (cap + 1))) (outside 5 4095 cap) (neither (not (eqb (length (l .words)) (rowWords * (cap + 1)))) _ a₁ .1) in
     let (d, e) = neither (outside 1 32 (g .columns)) (outside 1 32 (g .rows)) a₂ in
-    let (p, q) = side-in 1 32 (g .columns) d in
-    let (u, w) = side-in 1 32 (g .rows) e in
-    record { sizes = side-in 5 4095 cap c; rectangle = (p, q, u, w); room = ltb-false cap (length (numbered g)) a₃ }
+    let (p, q) = outside-within 1 32 (g .columns) d in
+    let (u, w) = outside-within 1 32 (g .rows) e in
+    record { sizes = outside-within 5 4095 cap c; rectangle = (p, q, u, w); room = ltb-false cap (length (numbered g)) a₃ }
 
 pub build-valid : (cap : ℕ) (g : Grid) → Buildable cap g → Valid (built g cap) × (capacity (built g cap) ≡ cap)
 build-valid cap g b = (built-valid g cap (b .rectangle) (b .sizes .0) (b .sizes .1) (b .room), built-capacity g cap (b .room))

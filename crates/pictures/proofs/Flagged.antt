@@ -22,10 +22,8 @@ use Rattle.table.specs.Words.{wordOf, linkOf, flagOf}
 use Rattle.table.specs.Worked.{edgeH, edgeV, innerH, innerV, flagsFrom}
 use Rattle.geometry.proofs.Bools.{or-right, no-is}
 use Rattle.geometry.proofs.Kids.{up, parent-up}
-use Rattle.geometry.proofs.Digits.{step-depth}
-use Rattle.geometry.proofs.Near.{touched-corner, corner-depth}
 use Rattle.geometry.proofs.Tree.{cell-patch}
-use Rattle.geometry.proofs.Walls.{wallH-cells, wallV-cells, wallH-green, wallV-green, wallH-boundary, wallV-boundary, wallH-touched, wallV-touched}
+use Rattle.geometry.proofs.Walls.{wallH-cells, wallV-cells, wallH-green, wallV-green, wallH-boundary, wallV-boundary, wallH-touched, wallV-touched, ghost-flags as ghost-digits}
 use Rattle.geometry.proofs.Base.{base-range}
 use Rattle.numbering.proofs.Entries.{cell-there}
 use Rattle.numbering.proofs.Numbers.{valid-numbered, number-place, numbered-not-zero}
@@ -34,12 +32,6 @@ use Rattle.pictures.proofs.Pictured.{nil-words, word-col, word-row, wor
 use Rattle.pictures.proofs.Linked.{touched-stands, depth-of, link-parent, link-side, link-nil}
 
 -- ---- walls
-
-no-wall : (w : Wall) → (T (isWall w) → ⊥) → w ≡ absent
-no-wall absent h = refl
-no-wall internal h = absurd (h tt)
-no-wall boundary h = absurd (h tt)
-no-wall green h = absurd (h tt)
 
 pub boundary-wall : (w : Wall) → T (isBoundary w) → T (isWall w)
 boundary-wall absent t = t
@@ -148,50 +140,13 @@ module _ (s : State) (v : Valid s) where
 
   -- ---- "a ghost has flags 0"
 
-  -- no cell is as shallow as a ghost, so that no wall is either
-  low-cell : (p : Place) → p .depth < base g → c p ≡ false
-  low-cell p d = no-is (c p) (λ t. omega (arith, v .mesh .low p t))
-
-  low-wall : (wall : Option Place → Wall) → wall none ≡ absent → ((q : Place) → T (isWall (wall (some q))) → T (touched g c q))
-      → (o : Option Place) → ((q : Place) → o ≡ some q → q .depth < base g) → wall o ≡ absent
-  low-wall wall z begins none l = z
-  low-wall wall z begins (some q) l =
-      no-wall (wall (some q)) (λ t.
-      let (r, k, b) = touched-corner g c q (begins q t) in
-      omega (arith, l q refl, corner-depth k, v .mesh .low r b))
-
-  low-wallH : (o : Option Place) → ((q : Place) → o ≡ some q → q .depth < base g) → wallH g c o ≡ absent
-  unfolding wallH
-  low-wallH = low-wall (wallH g c) refl (wallH-touched g c)
-
-  low-wallV : (o : Option Place) → ((q : Place) → o ≡ some q → q .depth < base g) → wallV g c o ≡ absent
-  unfolding wallV
-  low-wallV = low-wall (wallV g c) refl (wallV-touched g c)
-
-  low-flags : (p : Place) → p .depth < base g → digits (flags g c p false) ≡ 0
-  unfolding flags derived ends sides
-  low-flags p d =
-      rw (
-        low-cell p d,
-        low-wallH (some p) here,
-        low-wallH (step g W p) (beside W tt),
-        low-wallV (some p) here,
-        low-wallV (step g S p) (beside S tt),
-      )
-    where
-      here : (q : Place) → some p ≡ some q → q .depth < base g
-      here q e = rw (← Option·some-injective _ _ e) d
-
-      beside : (w : Wind) → T (w of sideWinds) → (q : Place) → step g w p ≡ some q → q .depth < base g
-      beside w t q e = rw (step-depth g w t p q e) d
-
   pub ghost-flags : (n : ℕ) (p : Place) → placeOf (entry es n) ≡ some p → p .depth < base g → wordOf (table s) n 12 ≡ 0
   ghost-flags n p h d =
       word-flags s n p h
       ∙ ap (λ (b : Bool). digits (flags g c p b)) (no-is (isSentenced (entry es n)) (λ t.
       let (x, e) = sentenced-cell (entry es n) p h t in
       omega (arith, v .mesh .low p (cell-there es n p x e))))
-      ∙ low-flags p d
+      ∙ ghost-digits g c (v .mesh) p d
 
   -- ---- the flags from the neighbours' cells and the parent's walls
 

@@ -4,21 +4,22 @@
 use Prim.Native.Nat.{ℕ, zero, suc, _+_, _-_, _*_, _/_, _%_, _^_, _≤_, _<_}
 use native.Mathlib.Nat.{pow-zero, pow-succ', div-one, zero-div, div-div-eq-div-mul}
 use native.Mathlib.Omega.{arith}
-use native.Mathlib.Decide.{ℕ-discrete, decLt}
+use native.Mathlib.Decide.{ℕ-discrete}
 use mathlib.Core.Path.{_≡_, refl, ap, _∙_}
 use mathlib.Core.Bool.{Bool, true, false}
 use mathlib.Core.Option.{Option, none, some}
 use mathlib.Core.List.{List, [], _∷_}
 use lib.Dec.{eqb, leb, lit<}
-use lib.IntN.{pos, subℕ}
+use lib.IntN.{pos}
 use lib.ListN.{getD, replicate, List·getD-append}
-use borrow.Author.Tests.{le-leb, lt-ltb, le-ltb, ne-eqb}
+use borrow.Author.Tests.{le-leb, ne-eqb}
 use Rattle.mesh.specs.Tools.{digits}
 use Rattle.mesh.specs.Place.{Place, Grid, base, level, around}
 use Rattle.mesh.specs.Mesh.{derived, flags}
 use Rattle.mesh.specs.State.{State, Entry, nil, free, used, placeOf, cellOf, isSentenced, valueOf, status, entry, cells, number, numberOf, gridOf, capacity}
 use Rattle.mesh.specs.Picture.{rowWords, fields, rowOf, table}
-use Rattle.table.specs.Words.{code, wordOf, linkOf, flagOf, depthFrom, depthOf}
+use Rattle.table.specs.Words.{code, wordOf, linkOf, flagOf, depthOf}
+use Rattle.table.proofs.Links.{depth-back}
 use Rattle.numbering.proofs.Entries.{place-used, in-list}
 use Rattle.numbering.proofs.Numbers.{number-place}
 use Rattle.pictures.proofs.Rows.{table-word, nil-word, getD-repeated}
@@ -32,19 +33,6 @@ pub digit-at : (bs : List Bool) (k : ℕ) → eqb (digits bs / 2 ^ k % 2) 1 ≡ 
 digit-at [] k = rw zero-div refl
 digit-at (b ∷ bs) zero = rw (pow-zero, div-one) (low-digit b (digits bs))
 digit-at (b ∷ bs) (suc k) = rw (pow-succ', ← div-div-eq-div-mul, high-digits b (digits bs)) (digit-at bs k)
-
--- the depth comes back from the level's word
-depth-from : (d e : ℕ) → d ≤ 6 → e ≤ d + 12 → depthFrom d (code (subℕ e d)) ≡ e
-depth-from d e l h = go (decLt e d)
-  where
-    ghost : (x : ℕ) → x < d → depthFrom d (2147483648 + x) ≡ d - 1 - x
-    ghost x a =
-        let z : 2147483648 + x - 2147483648 ≡ x = omega arith in
-        rw (le-ltb (2147483648 + x) 2147483648 (omega arith), z, lt-ltb x d a)
-
-    go : Dec (e < d) → depthFrom d (code (subℕ e d)) ≡ e
-    go (yes a) = rw (lt-ltb e d a) (ghost (d - suc e) (omega arith) ∙ omega arith)
-    go (no a) = rw (le-ltb e d (omega arith)) (rw (lt-ltb (e - d) 2147483648 (omega arith)) (let z : e - d + d ≡ e = omega arith in z))
 
 -- ---- the words of a row
 
@@ -142,7 +130,7 @@ module _ (s : State) where
 
     pub depth-within : base g ≤ 6 → p .depth ≤ base g + 12 → depthOf (table s) (base g) n ≡ p .depth
     unfolding depthOf level
-    depth-within l b = rw word-level (depth-from (base g) (p .depth) l b)
+    depth-within l b = rw word-level (depth-back (base g) (p .depth) (omega arith))
 
     pub flag-of : (k : ℕ) → flagOf (table s) k n ≡ getD (flags g c p (isSentenced (entry es n))) k false
     unfolding flagOf

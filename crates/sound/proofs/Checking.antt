@@ -2,40 +2,28 @@
 -- Assumes nothing.
 use Prim.Native.Nat.{ℕ, _+_, _-_, _*_, _≤_, _<_, max}
 use native.Mathlib.Omega.{arith}
-use mathlib.Core.Path.{_≡_, refl, sym, ap, _∙_}
+use mathlib.Core.Path.{_≡_, refl, sym, _∙_}
 use mathlib.Core.Logic.{_≢_}
-use mathlib.Core.Bool.{Bool, true, false, not, _&&_, _||_, cond}
+use mathlib.Core.Bool.{Bool, true, false, not, _||_, cond}
 use mathlib.Core.List.{List, [], _∷_}
-use lib.Dec.{eqb, leb}
+use lib.Dec.{eqb}
 use lib.Count.{leadingZeros}
 use lib.ListN.{length, getD, List·getD-eq-default}
 use lib.IntN.{ℤ, pos}
 use lib.Ieee.{Float}
 use lib.Signed.{mag}
 use native.Mathlib.Decide.{decLt}
-use borrow.Author.Tests.{eq-eqb, ne-eqb, le-leb, lt-leb}
+use borrow.Author.Tests.{eq-eqb, ne-eqb}
 use Rattle.mesh.specs.Picture.{rowWords}
 use Rattle.mesh.specs.Refusal.{Check, refusal}
 use Rattle.mesh.specs.Call.{Lent, outside, no1, no2, no3, lentChecks, checkCall}
 use Rattle.mesh.specs.Place.{Grid, base, rectangle}
+use Rattle.geometry.proofs.Ranges.{below-outside, above-outside, within-outside}
 use Rattle.geometry.proofs.Base.{Rectangle}
 use Rattle.checking.specs.Rowwise.{rowwise}
 use Rattle.checking.proofs.Words.{Fits, FitsAt}
 use Rattle.checking.proofs.Agreeing.{rowwise-is-sound}
 use Rattle.sound.specs.Called.{lentOf}
-
-below-out : (low high n : ℕ) → n < low → outside low high n ≡ true
-below-out low high n h = rw (lt-leb low n h)
-
-above-out : (low high n : ℕ) → high < n → outside low high n ≡ true
-above-out low high n h = rw (lt-leb n high h) (go (leb low n))
-  where
-    go : (b : Bool) → not (b && false) ≡ true
-    go true = refl
-    go false = refl
-
-in-range : (low high n : ℕ) → low ≤ n → n ≤ high → outside low high n ≡ false
-in-range low high n a b = rw (le-leb low n a, le-leb n high b)
 
 last : (a b c : Bool) → c ≡ true → (a || (b || c)) ≡ true
 last true b c e = refl
@@ -74,11 +62,11 @@ module _ (cap : ℕ) (l : Lent) (cs : List Check) where
 
   pub too-small : cap < 5 → 1 ≡ refusal (no1 cap l ∷ cs)
   unfolding refusal
-  too-small h = rw (last (not (eqb (length t) (rowWords * (cap + 1)))) (not (eqb (length v) (cap + 1))) (outside 5 4095 cap) (below-out 5 4095 cap h))
+  too-small h = rw (last (not (eqb (length t) (rowWords * (cap + 1)))) (not (eqb (length v) (cap + 1))) (outside 5 4095 cap) (below-outside 5 4095 cap h))
 
   pub too-large : 4095 < cap → 1 ≡ refusal (no1 cap l ∷ cs)
   unfolding refusal
-  too-large h = rw (last (not (eqb (length t) (rowWords * (cap + 1)))) (not (eqb (length v) (cap + 1))) (outside 5 4095 cap) (above-out 5 4095 cap h))
+  too-large h = rw (last (not (eqb (length t) (rowWords * (cap + 1)))) (not (eqb (length v) (cap + 1))) (outside 5 4095 cap) (above-outside 5 4095 cap h))
 
   pub wrong-table : length t ≢ rowWords * (cap + 1) → 1 ≡ refusal (no1 cap l ∷ cs)
   unfolding refusal
@@ -92,7 +80,7 @@ module _ (cap : ℕ) (l : Lent) (cs : List Check) where
     -- past the first check
     sized : refusal (no1 cap l ∷ cs) ≡ refusal cs
     unfolding refusal
-    sized = rw (eq-eqb (length t) (rowWords * (cap + 1)) size, eq-eqb (length v) (cap + 1) places, in-range 5 4095 cap low high)
+    sized = rw (eq-eqb (length t) (rowWords * (cap + 1)) size, eq-eqb (length v) (cap + 1) places, within-outside 5 4095 cap low high)
 
 -- the second check
 module _ (g : Grid) (cs : List Check) where
@@ -106,20 +94,20 @@ module _ (g : Grid) (cs : List Check) where
 
   within : Rectangle g → refusal (no2 g ∷ cs) ≡ refusal cs
   unfolding refusal
-  within r = rw (in-range 1 32 (g .columns) (r .0) (r .1), in-range 1 32 (g .rows) (r .2) (r .3))
+  within r = rw (within-outside 1 32 (g .columns) (r .0) (r .1), within-outside 1 32 (g .rows) (r .2) (r .3))
 
 module _ (cap : ℕ) (l : Lent) (g : Grid) (cs : List Check) (size : length (l .words) ≡ rowWords * (cap + 1)) (places : length (l .values) ≡ cap + 1) (low : 5 ≤ cap) (high : cap ≤ 4095) where
   pub columns-below : g .columns < 1 → 2 ≡ refusal (no1 cap l ∷ no2 g ∷ cs)
-  columns-below h = sym (sized cap l (no2 g ∷ cs) size places low high ∙ wide g cs (below-out 1 32 (g .columns) h))
+  columns-below h = sym (sized cap l (no2 g ∷ cs) size places low high ∙ wide g cs (below-outside 1 32 (g .columns) h))
 
   pub columns-above : 32 < g .columns → 2 ≡ refusal (no1 cap l ∷ no2 g ∷ cs)
-  columns-above h = sym (sized cap l (no2 g ∷ cs) size places low high ∙ wide g cs (above-out 1 32 (g .columns) h))
+  columns-above h = sym (sized cap l (no2 g ∷ cs) size places low high ∙ wide g cs (above-outside 1 32 (g .columns) h))
 
   pub rows-below : g .rows < 1 → 2 ≡ refusal (no1 cap l ∷ no2 g ∷ cs)
-  rows-below h = sym (sized cap l (no2 g ∷ cs) size places low high ∙ tall g cs (below-out 1 32 (g .rows) h))
+  rows-below h = sym (sized cap l (no2 g ∷ cs) size places low high ∙ tall g cs (below-outside 1 32 (g .rows) h))
 
   pub rows-above : 32 < g .rows → 2 ≡ refusal (no1 cap l ∷ no2 g ∷ cs)
-  rows-above h = sym (sized cap l (no2 g ∷ cs) size places low high ∙ tall g cs (above-out 1 32 (g .rows) h))
+  rows-above h = sym (sized cap l (no2 g ∷ cs) size places low high ∙ tall g cs (above-outside 1 32 (g .rows) h))
 
   -- what stands behind them decides
   pub both-pass : Rectangle g → refusal (no1 cap l ∷ no2 g ∷ cs) ≡ refusal cs

@@ -9,26 +9,16 @@ use native.Mathlib.Omega.{arith}
 use lib.Dec.{eqb, leb}
 use lib.IntN.{ℤ}
 use lib.Ieee.{Float}
-use borrow.Author.Tests.{eqb-true, eq-eqb, leb-true, le-leb}
+use borrow.Author.Tests.{eqb-true, eq-eqb, le-leb}
 use Rattle.mesh.specs.Place.{Grid, base, Wind, N, E, S, W}
 use Rattle.table.specs.Words.{wordOf, linkOf, depthOf}
 use Rattle.table.specs.Worked.{kidWord, sideOf}
+use Rattle.table.proofs.Tests.{both-pass}
+use Rattle.table.proofs.Links.{link-within}
 use Rattle.checking.specs.Rowwise.{rootOk, childOk, placeOk, kidOk, kidsOk, sidesOk, usedOk}
 use Rattle.sound.specs.Parts.{linked}
 
-both : (a b : Bool) → (a && b) ≡ true → (a ≡ true) × (b ≡ true)
-both true b h = (refl, h)
-both false b h = let z : _≡_ {A = ℕ} 0 1 = cc in let no : ⊥ = omega arith in absurd no
-
--- a link is within the capacity, and a word within it is its own link
-link-within : (t : List ℤ) (cap n w : ℕ) → linkOf t cap n w ≤ cap
-unfolding linkOf
-link-within t cap n w = go (leb (wordOf t n w) cap) refl
-  where
-    go : (b : Bool) → leb (wordOf t n w) cap ≡ b → cond b (wordOf t n w) 0 ≤ cap
-    go true e = leb-true (wordOf t n w) cap e
-    go false e = omega arith
-
+-- a word within the capacity is its own link
 word-names : (t : List ℤ) (cap n w : ℕ) → wordOf t n w ≤ cap → eqb (wordOf t n w) (linkOf t cap n w) ≡ true
 unfolding linkOf
 word-names t cap n w h = rw (le-leb (wordOf t n w) cap h) (eq-eqb (wordOf t n w) (wordOf t n w) refl)
@@ -40,18 +30,18 @@ module _ (g : Grid) (cap : ℕ) (t : List ℤ) (v : List Float) (n : ℕ) where
   root-names : rootOk g cap t v n ≡ true → Names t cap n 0
   unfolding rootOk
   root-names h =
-      let z : wordOf t n 0 ≡ 0 = eqb-true (wordOf t n 0) 0 (both _ _ h .0) in
+      let z : wordOf t n 0 ≡ 0 = eqb-true (wordOf t n 0) 0 (both-pass _ _ h .0) in
       word-names t cap n 0 (omega arith)
 
   child-names : childOk g cap t v n ≡ true → Names t cap n 0
   unfolding childOk
   child-names h =
-      let (some, rest) = both (not (eqb (linkOf t cap n 0) 0)) _ h in
-      both (eqb (wordOf t n 0) (linkOf t cap n 0)) _ rest .0
+      let (some, rest) = both-pass (not (eqb (linkOf t cap n 0) 0)) _ h in
+      both-pass (eqb (wordOf t n 0) (linkOf t cap n 0)) _ rest .0
 
   place-names : placeOk g cap t v n ≡ true → Names t cap n 0
   unfolding placeOk
-  place-names h = go (eqb n 1) (both (leb (depthOf t (base g) n) (base g + 12)) _ h .1)
+  place-names h = go (eqb n 1) (both-pass (leb (depthOf t (base g) n) (base g + 12)) _ h .1)
     where
       go : (b : Bool) → cond b (rootOk g cap t v n) (childOk g cap t v n) ≡ true → Names t cap n 0
       go true q = root-names q
@@ -59,7 +49,7 @@ module _ (g : Grid) (cap : ℕ) (t : List ℤ) (v : List Float) (n : ℕ) where
 
   kid-names : (l m : ℕ) → kidOk g cap t v n l m ≡ true → Names t cap n (kidWord l m)
   unfolding kidOk
-  kid-names l m h = both _ _ h .0
+  kid-names l m h = both-pass _ _ h .0
 
   side-names : (w : ℕ) (i : Wind) → eqb (wordOf t n w) (sideOf t cap n i) ≡ true → Names t cap n w
   unfolding sideOf
@@ -68,17 +58,17 @@ module _ (g : Grid) (cap : ℕ) (t : List ℤ) (v : List Float) (n : ℕ) where
   used-linked : usedOk g cap t v n ≡ true → linked t cap n ≡ true
   unfolding usedOk kidsOk sidesOk
   used-linked h =
-      let (place, rest) = both _ _ h in
-      let (kids, more) = both _ _ rest in
-      let (k1, kids2) = both _ _ kids in
-      let (k2, kids3) = both _ _ kids2 in
-      let (k3, kids4) = both _ _ kids3 in
-      let (k4, none) = both _ _ kids4 in
-      let (sides, last) = both _ _ more in
-      let (s5, sides6) = both _ _ sides in
-      let (s6, sides7) = both _ _ sides6 in
-      let (s7, sides8) = both _ _ sides7 in
-      let (s8, end) = both _ _ sides8 in
+      let (place, rest) = both-pass _ _ h in
+      let (kids, more) = both-pass _ _ rest in
+      let (k1, kids2) = both-pass _ _ kids in
+      let (k2, kids3) = both-pass _ _ kids2 in
+      let (k3, kids4) = both-pass _ _ kids3 in
+      let (k4, none) = both-pass _ _ kids4 in
+      let (sides, last) = both-pass _ _ more in
+      let (s5, sides6) = both-pass _ _ sides in
+      let (s6, sides7) = both-pass _ _ sides6 in
+      let (s7, sides8) = both-pass _ _ sides7 in
+      let (s8, end) = both-pass _ _ sides8 in
       rw (place-names place, kid-names 1 1 k1, kid-names 1 0 k2, kid-names 0 0 k3, kid-names 0 1 k4, side-names 5 N s5, side-names 6 E s6, side-names 7 S s7, side-names 8 W s8)
 
   pub unlinked : {r : Bool} → r ≡ linked t cap n → r ≡ false → false ≡ usedOk g cap t v n

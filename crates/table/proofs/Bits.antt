@@ -13,6 +13,7 @@ use lib.Ieee.Compare.{differs-from-itself}
 use Rattle.mesh.specs.State.{plusZero}
 use Rattle.mesh.specs.Valid.{finite}
 use Rattle.mesh.specs.Test.{sameInt, sameFloat}
+use Rattle.table.proofs.Tests.{both-pass}
 
 -- ---- the exponent's field
 
@@ -89,10 +90,6 @@ not-same-right (fin s m e) nan h = refl
 not-same-right (fin s m e) (inf t) h = refl
 not-same-right (fin s m e) (fin t n d) h = let z : _≡_ {A = ℕ} 0 1 = cc in let no : ⊥ = omega arith in absurd no
 
-and-both : (a b : Bool) → (a && b) ≡ true → (a ≡ true) × (b ≡ true)
-and-both true b e = (refl, e)
-and-both false b e = let z : _≡_ {A = ℕ} 0 1 = cc in let no : ⊥ = omega arith in absurd no
-
 beq-true : (a b : Bool) → Bool·beq a b ≡ true → a ≡ b
 beq-true true true e = refl
 beq-true true false e = sym e
@@ -119,8 +116,8 @@ same-true (inf s) y h = let z : _≡_ {A = ℕ} 0 1 = cc in let no : ⊥ = omega
 same-true (fin s m e) nan h = let z : _≡_ {A = ℕ} 0 1 = cc in let no : ⊥ = omega arith in absurd no
 same-true (fin s m e) (inf t) h = let z : _≡_ {A = ℕ} 0 1 = cc in let no : ⊥ = omega arith in absurd no
 same-true (fin s m e) (fin t n d) h =
-    let (a, b) = and-both (Bool·beq s t) (eqb m n && sameInt e d) h in
-    let (i, j) = and-both (eqb m n) (sameInt e d) b in
+    let (a, b) = both-pass (Bool·beq s t) (eqb m n && sameInt e d) h in
+    let (i, j) = both-pass (eqb m n) (sameInt e d) b in
     let p : s ≡ t = beq-true s t a in
     let q : m ≡ n = eqb-true m n i in
     let r : e ≡ d = int-true e d j in

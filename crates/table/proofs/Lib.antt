@@ -4,5 +4,6 @@ pub mod Tests
 pub mod Bits
 pub mod Flags
 pub mod Offsets
+pub mod Links
 pub mod Rows
 pub mod Taken

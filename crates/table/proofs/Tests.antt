@@ -1,10 +1,10 @@
 -- What a branch says of a choice: the arm that a true test takes, and the arm that a false one takes.
 -- Assumes nothing.
 use mathlib.Core.Path.{_≡_, refl, sym, _∙_}
-use mathlib.Core.Bool.{Bool, true, false, cond}
+use mathlib.Core.Bool.{Bool, true, false, cond, _&&_}
 use Prim.Native.Nat.{ℕ, _≤_, _<_}
 use native.Mathlib.Omega.{arith}
-use borrow.Author.Tests.{eq-eqb, ne-eqb, lt-ltb, le-ltb, le-leb, lt-leb, leb-false}
+use borrow.Author.Tests.{eq-eqb, ne-eqb, lt-ltb, le-ltb, le-leb, lt-leb, leb-true, leb-false}
 use lib.Dec.{eqb, leb, ltb}
 
 pub chosen : {A : Type 0} (b : Bool) (x y : A) → b ≡ true → x ≡ cond b x y
@@ -12,6 +12,18 @@ chosen b x y e = rw e
 
 pub passed : {A : Type 0} (b : Bool) (x y : A) → b ≡ false → y ≡ cond b x y
 passed b x y e = rw e
+
+pub both-pass : (a b : Bool) → (a && b) ≡ true → (a ≡ true) × (b ≡ true)
+both-pass true b e = (refl, e)
+both-pass false b e = let z : _≡_ {A = ℕ} 0 1 = cc in let no : ⊥ = omega arith in absurd no
+
+-- what a bound keeps of a number is within the bound
+pub kept-within : (y m : ℕ) → cond (leb y m) y 0 ≤ m
+kept-within y m = go (leb y m) refl
+  where
+    go : (b : Bool) → leb y m ≡ b → cond b y 0 ≤ m
+    go true e = leb-true y m e
+    go false e = omega arith
 
 -- a test of a definition, by a test of a number that equals it
 module _ {x y k : ℕ} (e : x ≡ y) where
