@@ -1,0 +1,76 @@
+-- `trials::calls::build` is safe.
+-- Assumes nothing.
+use lib.ListN.{length-take}
+use native.Mathlib.Omega.{arith}
+use borrow.Author.Needs.{needs}
+use Rattle.trials.proofs.calls.build.Statement.{statement}
+use Rattle.trials.proofs.calls.build.Tie as tie
+
+header-requires : tie.Need-header-requires
+header-requires c κs = search needs
+
+slice-relend-prefix-build-core : tie.Need-slice-relend-prefix-build-core
+slice-relend-prefix-build-core c = search needs
+
+slice-aggregate-build-core : tie.Need-slice-aggregate-build-core
+slice-aggregate-build-core c = omega (arith, length-take (c .before .before .before .before .args .n) (c .before .before .before .before .args .t .now))
+
+slice-relend-prefix-build-core-2 : tie.Need-slice-relend-prefix-build-core-2
+slice-relend-prefix-build-core-2 c = search needs
+
+slice-aggregate-build-core-2 : tie.Need-slice-aggregate-build-core-2
+slice-aggregate-build-core-2 c = omega (arith, length-take (c .before .before .before .before .before .args .m) (c .before .before .before .before .before .args .v .now))
+
+element-copy-out-build-core : tie.Need-element-copy-out-build-core
+element-copy-out-build-core c = search needs
+
+element-copy-out-build-core-2 : tie.Need-element-copy-out-build-core-2
+element-copy-out-build-core-2 c = search needs
+
+element-copy-out-build-core-3 : tie.Need-element-copy-out-build-core-3
+element-copy-out-build-core-3 c = search needs
+
+build-core-requires : tie.Need-build-core-requires
+build-core-requires c κs = search needs
+
+cast-tell : tie.Need-cast-tell
+cast-tell c = search needs
+
+tell-requires : tie.Need-tell-requires
+tell-requires c κs = search needs
+
+tell-requires-2 : tie.Need-tell-requires-2
+tell-requires-2 c κs = search needs
+
+finish-requires : tie.Need-finish-requires
+finish-requires c κs = search needs
+
+same-length : tie.Need-same-length
+same-length c = search needs
+
+same-length-2 : tie.Need-same-length-2
+same-length-2 c = search needs
+
+returns : tie.Need-returns
+returns c = search needs
+
+pub build-spec : {M : Type 1} → statement M
+build-spec =
+    tie.close
+    (tie.spec
+    header-requires
+    slice-relend-prefix-build-core
+    slice-aggregate-build-core
+    slice-relend-prefix-build-core-2
+    slice-aggregate-build-core-2
+    element-copy-out-build-core
+    element-copy-out-build-core-2
+    element-copy-out-build-core-3
+    build-core-requires
+    cast-tell
+    tell-requires
+    tell-requires-2
+    finish-requires
+    same-length
+    same-length-2
+    returns)

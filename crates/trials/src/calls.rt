@@ -1,0 +1,250 @@
+// The calls, each on as much of the lists as the numbers say. The sums that are told are those of the whole lists, so that what is not lent is
+// seen to stay.
+use crate::lines::end_line;
+use crate::lines::mix;
+use crate::lines::mix_value;
+use crate::lines::tell;
+use crate::lines::tell_bytes;
+use crate::lines::tell_lists;
+use crate::lines::tell_shorts;
+use crate::lines::tell_value;
+use crate::lists::word;
+use grid::Header;
+use walk::calls::Reading;
+ghost use Prim.Native.Nat.{_≤_, _<_};
+ghost use lib.ListN.{length};
+
+fn long(x: u32) -> usize {
+    x as usize
+}
+
+fn header(h: &[u32; 12]) -> Header {
+    let mark = (h[2] % 65536) as u16;
+    Header {
+        columns: h[0],
+        rows: h[1],
+        mark,
+    }
+}
+
+fn level(x: u32) -> i32 {
+    word(x as u64)
+}
+
+// Writes the rest of a line, what the call left, and keeps the header.
+fn finish(t: &[i32], v: &[f64], h: &mut [u32; 12], header: Header) {
+    tell(header.columns as u64);
+    tell(header.rows as u64);
+    tell(header.mark as u64);
+    tell_lists(t, v);
+    end_line();
+    h[0] = header.columns;
+    h[1] = header.rows;
+    h[2] = header.mark as u32;
+}
+
+fn check(t: &[i32], v: &[f64], h: &[u32; 12], n: usize, m: usize)
+    requires { ⌜ (n ≤ length (now t)) × (m ≤ length (now v)) ⌝ }
+{
+    let r = grid::check(header(h), &t[..n], &v[..m], h[3]);
+    tell(r as u64);
+}
+
+fn build(t: &mut [i32], v: &mut [f64], h: &mut [u32; 12], n: usize, m: usize)
+    requires { ⌜ (n ≤ length (now t)) × (m ≤ length (now v)) ⌝ }
+{
+    let r = grid::build_core(header(h), &mut t[..n], &mut v[..m], h[3], h[6], h[7]);
+    tell(r.answer.refusal as u64);
+    tell(r.answer.used as u64);
+    finish(t, v, h, r.header);
+}
+
+fn tape(t: &mut [i32], v: &mut [f64], h: &mut [u32; 12], n: usize, m: usize, b: &[u8], k: usize)
+    requires { ⌜ (n ≤ length (now t)) × (m ≤ length (now v)) × (k ≤ length (now b)) ⌝ }
+{
+    let r = grid::tape_core(header(h), &mut t[..n], &mut v[..m], h[3], &b[..k]);
+    tell(r.answer.done as u64);
+    tell(r.answer.refusal as u64);
+    tell(r.answer.offset as u64);
+    finish(t, v, h, r.header);
+}
+
+fn scan_on(
+    t: &[i32],
+    v: &[f64],
+    h: &[u32; 12],
+    n: usize,
+    m: usize,
+    order: [u8; 4],
+    out: &mut [u16],
+    k: usize,
+)
+    requires { ⌜ (n ≤ length (now t)) × (m ≤ length (now v)) × (k ≤ length (now out)) ⌝ }
+{
+    let from = level(h[8]);
+    let to = level(h[9]);
+    let r = grid::scan(
+        header(h),
+        &t[..n],
+        &v[..m],
+        h[3],
+        h[6],
+        order,
+        h[7],
+        from,
+        to,
+        &mut out[..k],
+    );
+    tell(r.refusal as u64);
+    tell(r.count as u64);
+    tell_shorts(out);
+}
+
+fn scan(t: &[i32], v: &[f64], h: &[u32; 12], n: usize, m: usize, b: &[u8; 4096])
+    requires { ⌜ (n ≤ length (now t)) × (m ≤ length (now v)) ⌝ }
+{
+    let filler = (h[11] % 65536) as u16;
+    let mut out = [filler; 256];
+    let k = long(h[10]);
+    if k > 256 {
+        return;
+    }
+    scan_on(t, v, h, n, m, [b[0], b[1], b[2], b[3]], &mut out, k);
+}
+
+fn lookup(t: &[i32], v: &[f64], h: &[u32; 12], n: usize, m: usize)
+    requires { ⌜ (n ≤ length (now t)) × (m ≤ length (now v)) ⌝ }
+{
+    let r = grid::lookup(header(h), &t[..n], &v[..m], h[3], h[6], h[7]);
+    tell(r.why as u64);
+    tell(r.leaf as u64);
+    let reading = r.reading;
+    match reading {
+        Reading::Measured(x) => {
+            tell(1);
+            tell_value(x);
+        }
+        Reading::Carried(x) => {
+            tell(2);
+            tell_value(x);
+        }
+        Reading::Blank => {
+            tell(0);
+        }
+    }
+}
+
+// A lookup mixed into a sum.
+fn look(t: &[i32], v: &[f64], h: &[u32; 12], n: usize, m: usize, x: u32, y: u32, s: u64) -> u64
+    requires { ⌜ (n ≤ length (now t)) × (m ≤ length (now v)) ⌝ }
+    ensures { λ r. ⌜ r < 4294967291 ⌝ }
+{
+    let r = grid::lookup(header(h), &t[..n], &v[..m], h[3], x, y);
+    let w = mix(s, r.why);
+    let k = mix(w, r.leaf);
+    let reading = r.reading;
+    match reading {
+        Reading::Measured(z) => mix_value(mix(k, 1), z),
+        Reading::Carried(z) => mix_value(mix(k, 2), z),
+        Reading::Blank => mix(k, 0),
+    }
+}
+
+// Lookups of 64 points of a load, by a step.
+fn sweep_row(t: &[i32], v: &[f64], h: &[u32; 12], n: usize, m: usize, y: u32, sum: u64) -> u64
+    requires { ⌜ (n ≤ length (now t)) × (m ≤ length (now v)) ⌝ }
+{
+    let mut s = sum;
+    let mut x = h[6];
+    let mut left: u32 = 64;
+    while left > 0 {
+        s = look(t, v, h, n, m, x, y, s);
+        x = std::num::wrapping_add_u32(x, h[8]);
+        left -= 1;
+    }
+    s
+}
+
+// Lookups of 64 times 64 points, by a step.
+fn sweep(t: &[i32], v: &[f64], h: &[u32; 12], n: usize, m: usize)
+    requires { ⌜ (n ≤ length (now t)) × (m ≤ length (now v)) ⌝ }
+{
+    let mut s: u64 = 1;
+    let mut y = h[7];
+    let mut left: u32 = 64;
+    while left > 0 {
+        s = sweep_row(t, v, h, n, m, y, s);
+        y = std::num::wrapping_add_u32(y, h[8]);
+        left -= 1;
+    }
+    tell(s);
+}
+
+fn page_on(t: &[i32], v: &[f64], h: &[u32; 12], n: usize, m: usize, out: &mut [u8], k: usize)
+    requires { ⌜ (n ≤ length (now t)) × (m ≤ length (now v)) × (k ≤ length (now out)) ⌝ }
+{
+    let r = grid::page(header(h), &t[..n], &v[..m], h[3], &mut out[..k]);
+    tell(r.refusal as u64);
+    tell(r.count as u64);
+    tell_bytes(out);
+}
+
+fn page(t: &[i32], v: &[f64], h: &[u32; 12], n: usize, m: usize)
+    requires { ⌜ (n ≤ length (now t)) × (m ≤ length (now v)) ⌝ }
+{
+    let filler = (h[11] % 256) as u8;
+    let mut out = [filler; 16384];
+    let k = long(h[10]);
+    if k > 16384 {
+        return;
+    }
+    page_on(t, v, h, n, m, &mut out, k);
+}
+
+// The calls that only read.
+fn read(t: &[i32], v: &[f64], h: &[u32; 12], n: usize, m: usize, b: &[u8; 4096], kind: usize)
+    requires { ⌜ (n ≤ length (now t)) × (m ≤ length (now v)) ⌝ }
+{
+    if kind == 4 {
+        check(t, v, h, n, m);
+        return;
+    }
+    if kind == 7 {
+        scan(t, v, h, n, m, b);
+        return;
+    }
+    if kind == 8 {
+        lookup(t, v, h, n, m);
+        return;
+    }
+    if kind == 10 {
+        sweep(t, v, h, n, m);
+        return;
+    }
+    page(t, v, h, n, m);
+}
+
+// Makes the call of a kind, whose items are the first k bytes of b, and writes its line.
+pub fn call(t: &mut [i32], v: &mut [f64], h: &mut [u32; 12], b: &[u8; 4096], k: usize, kind: usize)
+    requires { ⌜ k ≤ 4096 ⌝ }
+{
+    let n = long(h[4]);
+    let m = long(h[5]);
+    if n > t.len() {
+        return;
+    }
+    if m > v.len() {
+        return;
+    }
+    if kind == 5 {
+        build(t, v, h, n, m);
+        return;
+    }
+    if kind == 6 {
+        tape(t, v, h, n, m, b, k);
+        return;
+    }
+    read(t, v, h, n, m, b, kind);
+    let left = header(h);
+    finish(t, v, h, left);
+}

@@ -1,0 +1,90 @@
+// Makes the calls of the library that standard input asks for, and writes a line for each: what it answered and what it left.
+//
+// What is lent is kept from call to call, and at the start all of it is 0: the words, the values and twelve numbers, which are columns, rows,
+// mark, capacity, the length of the table, the length of the values, and six arguments of a call. Standard input is a list of runs. A run is
+// eight bytes, four numbers of two bytes: its kind, the place where it starts, the bytes of all its items and the bytes of one; then come the
+// items. Every number is written high byte first.
+//
+//     kind 1   words of the table, each as a number: n as itself, -(n + 1) as 2^31 + n
+//     kind 2   values, by their bits
+//     kind 3   the twelve numbers
+//     kind 4   check
+//     kind 5   build, of columns and rows
+//     kind 6   tape: the items are its bytes
+//     kind 7   scan, from a start, of a kind, of levels from and to (as words), on an output of a length, with a filler: the items are the order
+//     kind 8   lookup, of speed and load
+//     kind 9   page, on an output of a length, with a filler
+//     kind 10  lookups of 64 times 64 points from speed and load on, by a step
+//
+// A run has at most 4,096 bytes of items. Items past the end of what they change are passed over.
+mod calls;
+mod input;
+mod lines;
+mod lists;
+
+use crate::calls::call;
+use crate::input::short;
+use crate::lists::run;
+use libc::STDIN_FILENO;
+ghost use Prim.Native.Nat.{_≤_, _<_};
+ghost use lib.ListN.{length};
+
+fn least(a: usize, b: usize) -> usize
+    ensures { λ r. ⌜ (r ≤ a) × (r ≤ b) ⌝ }
+{
+    if a < b { a } else { b }
+}
+
+// Reads n bytes into the list b.
+fn fill(b: &mut [u8], n: usize)
+    requires { ⌜ n ≤ length (now b) ⌝ }
+{
+    io::read_full(STDIN_FILENO, &mut b[..n]);
+}
+
+// Reads a run's items and carries it out, its head being read.
+fn carry_out(
+    t: &mut [i32; 2844],
+    v: &mut [f64; 231],
+    h: &mut [u32; 12],
+    kind: usize,
+    start: usize,
+    bytes: usize,
+    size: usize,
+)
+    requires { ⌜ (start < 65536) × (bytes < 65536) × (size < 65536) ⌝ }
+{
+    let mut b = [0u8; 4096];
+    let n = least(bytes, 4096);
+    fill(&mut b, n);
+    if kind < 4 {
+        run(t, v, h, &b, kind, start, bytes, size);
+        return;
+    }
+    call(t, v, h, &b, n, kind);
+}
+
+// Reads a run and carries it out. Answers whether there was one.
+fn turn(t: &mut [i32; 2844], v: &mut [f64; 231], h: &mut [u32; 12]) -> bool {
+    let mut head = [0u8; 8];
+    let got = io::read_full(STDIN_FILENO, &mut head);
+    if got < 8 {
+        return false;
+    }
+    let kind = short(&head, 0);
+    let start = short(&head, 2);
+    let bytes = short(&head, 4);
+    let size = short(&head, 6);
+    carry_out(t, v, h, kind, start, bytes, size);
+    true
+}
+
+fn main() {
+    let mut t = [0i32; 2844];
+    let mut v = [0.0f64; 231];
+    let mut h = [0u32; 12];
+    let mut turns = u64::MAX;
+    while turns > 0 && turn(&mut t, &mut v, &mut h) {
+        turns -= 1;
+    }
+}
