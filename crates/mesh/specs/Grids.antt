@@ -18,21 +18,21 @@ use Rattle.mesh.specs.Program.{program}
 -- ---- how 01's words read what a call leaves
 
 -- lists of the right length that hold nothing of use
-abbrev empty : ℕ → Lent
+abbrev pub empty : ℕ → Lent
 empty cap = record { header = record { grid = rectangle 0 0; mark = 7 }; words = replicate (rowWords * (cap + 1)) (negsuc 0); values = replicate (cap + 1) plusZero }
 
 -- a build with so many columns, rows and numbers, and then a tape
-abbrev build : ℕ → ℕ → ℕ → Built
+abbrev pub build : ℕ → ℕ → ℕ → Built
 build c r cap = buildCall cap (empty cap) (rectangle c r)
 
-abbrev tape : ℕ → ℕ → ℕ → List ℕ → Taped
+abbrev pub tape : ℕ → ℕ → ℕ → List ℕ → Taped
 tape c r cap bytes = tapeCall cap (build c r cap .lent) bytes
 
 -- the word w of the row n, where no sign is to be seen
 abbrev wordAt : Lent → ℕ → ℕ → ℕ
 wordAt l w n = natAbs (getD (l .words) (n * rowWords + w) (pos 0))
 
-abbrev flagsAt : Lent → List ℕ → List ℕ
+abbrev pub flagsAt : Lent → List ℕ → List ℕ
 flagsAt l ns = map (wordAt l 12) ns
 
 -- i and j of the rows with these numbers
@@ -50,7 +50,7 @@ abbrev cellsAmong : Lent → List ℕ → List ℕ
 cellsAmong l ns = keep (λ n. eqb (wordAt l 12 n % 2) 1) ns
 
 -- requests done, refusal, offset
-abbrev outcome : Taped → ℕ × ℕ × ℕ
+abbrev pub outcome : Taped → ℕ × ℕ × ℕ
 outcome r = (r .done, r .why, r .offset)
 
 abbrev lookup : ℕ → ℕ → ℕ × ℕ
@@ -74,10 +74,10 @@ abbrev numbers : List ℕ
 numbers = 1 ∷ 2 ∷ 3 ∷ 4 ∷ 5 ∷ 6 ∷ 7 ∷ 8 ∷ 9 ∷ 10 ∷ 11 ∷ 12 ∷ 13 ∷ 14 ∷ 15 ∷ 16 ∷ 17 ∷ 18 ∷ 19 ∷ 20 ∷ []
 
 -- the tapes of the grids, each going on from the one before
-abbrev refine2 : List ℕ
+abbrev pub refine2 : List ℕ
 refine2 = 1 ∷ 0 ∷ 2 ∷ []
 
-abbrev away : List ℕ
+abbrev pub away : List ℕ
 away = refine2 ++ (2 ∷ 0 ∷ 6 ∷ 2 ∷ 0 ∷ 7 ∷ 2 ∷ 0 ∷ 8 ∷ 2 ∷ 0 ∷ 9 ∷ 3 ∷ 0 ∷ 2 ∷ [])
 
 abbrev refine4 : List ℕ
@@ -104,7 +104,8 @@ grids =
     ((0, 0) ∷ (1, 0) ∷ (0, 1) ∷ (1, 1) ∷ (0, 2) ∷ (1, 2) ∷ (2, 1) ∷ (2, 0) ∷ (2, 2) ∷ [])) ∷
     (outcome (tape 1 1 14 refine2) is (1, 0, 3)) ∷
     (outcome (tape 1 1 13 refine2) is (0, 11, 0)) ∷
-    -- P4
+    -- P4: the rows were free before
+    (flagsAt (build 1 1 14 .lent) (6 ∷ 7 ∷ 8 ∷ 9 ∷ []) is (8192 ∷ 8192 ∷ 8192 ∷ 8192 ∷ [])) ∷
     (flagsAt (tape 1 1 14 refine2 .lent) (6 ∷ 7 ∷ 8 ∷ 9 ∷ []) is (127 ∷ 95 ∷ 111 ∷ 71 ∷ [])) ∷
     -- P5
     (tape 1 1 14 away .lent .words is build 1 1 14 .lent .words) ∷
