@@ -3,6 +3,7 @@ pub mod Below
 pub mod Walks
 pub mod Orders
 pub mod Scans
+pub mod Few
 pub mod Sets
 pub mod Points
 pub mod Counts

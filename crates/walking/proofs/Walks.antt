@@ -159,6 +159,10 @@ module _ (es : List Entry) (f : Place → Bool) (ws : List Wind) where
 -- ---- all the patches
 
 module _ (s : State) (v : Valid s) where
+  -- a patch with all that lies above it stands in the table
+  pub stands-above : (q : Place) → T (patch (gridOf s) (cells (s .entries)) q) → (m : ℕ) (r : Place) → Below r m q → number (s .entries) r ≢ 0
+  stands-above q t m r b = numbered-not-zero (s .entries) (valid-numbered v) r (v .every r (patch-above (gridOf s) (cells (s .entries)) (v .mesh) m b t))
+
   -- a walk from the root through all levels meets each patch that it lists once, and nothing else
   pub walk-all : (f : Place → Bool) (ws : List Wind) → Order ws → (n : ℕ) → base (gridOf s) + 12 ≤ n → (k : ℕ) → count (eqb k) (walk (s .entries) f ws n root) ≡ cond (isUsed (entry (s .entries) k) && f (placeAt (s .entries) k)) 1 0
   walk-all f ws ord n h k = go (placeOf (entry (s .entries) k)) refl
@@ -168,9 +172,6 @@ module _ (s : State) (v : Valid s) where
 
       met : T (any (eqb k) (walk (s .entries) f ws n root)) → Met (s .entries) f n root k
       met t = walk-met (s .entries) f ws n root k (numbered-not-zero (s .entries) u root (stands-in (s .entries) 1 root (v .first-root))) t
-
-      stands-above : (q : Place) → T (patch (gridOf s) (cells (s .entries)) q) → (m : ℕ) (r : Place) → Below r m q → number (s .entries) r ≢ 0
-      stands-above q t m r b = numbered-not-zero (s .entries) u r (v .every r (patch-above (gridOf s) (cells (s .entries)) (v .mesh) m b t))
 
       here : (q : Place) (b : Bool) → placeOf (entry (s .entries) k) ≡ some q → f q ≡ b → count (eqb k) (walk (s .entries) f ws n root) ≡ cond b 1 0
       here q true e y =
