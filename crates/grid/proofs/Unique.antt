@@ -21,7 +21,7 @@ use Rattle.grid.specs.Calls.{lentOf, wroteOf, Builds, Tapes}
 -- ---- what is lent
 
 module _ (h h′ : Header) (t t′ : List ℤ) (v v′ : List Float) where
-  lent-same : lentOf h t v ≡ lentOf h′ t′ v′ → (h ≡ h′) × (t ≡ t′) × (v ≡ v′)
+  pub lent-same : lentOf h t v ≡ lentOf h′ t′ v′ → (h ≡ h′) × (t ≡ t′) × (v ≡ v′)
   lent-same e =
       let x : h ≡ h′ = λ i. record { columns = e i .header .grid .columns; rows = e i .header .grid .rows; mark = e i .header .mark } in
       (x, (λ i. e i .words), λ i. e i .values)

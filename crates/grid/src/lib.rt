@@ -12,6 +12,7 @@ use walk::calls::Found;
 use walk::calls::Reading;
 
 // Lent with the table: the rectangle of level-0 cells, and the edit mark.
+#[repr(C)]
 pub struct Header {
     pub columns: u32,
     pub rows: u32,

@@ -1,0 +1,2 @@
+-- What an exported call may do.
+pub mod Outputs

@@ -1,0 +1,53 @@
+-- What an exported call may do: what it is lent and given at entry; then the header and the lists at exit, what its pointers hold at exit, and the
+-- refusal that it returns. Each is one equation with the call's definition in `mesh`.
+-- Assumes nothing.
+use Prim.Native.Nat.{ℕ, _%_, _^_}
+use mathlib.Core.Path.{_≡_}
+use mathlib.Core.Bool.{cond}
+use mathlib.Core.List.{List, [], _∷_}
+use lib.Dec.{eqb}
+use lib.ListN.{length}
+use lib.IntN.{ℤ}
+use lib.Ieee.{Float}
+use Rattle.mesh.specs.Place.{rectangle}
+use Rattle.mesh.specs.State as State
+use Rattle.mesh.specs.Call as Call
+use Rattle.grid.specs.declared.Header.{Header}
+use Rattle.grid.specs.Calls.{lentOf}
+
+-- the requests done are counted in 32 bits
+abbrev pub counted : Call.Taped → Call.Taped
+counted a = record { done = a .done % 2 ^ 32; why = a .why; offset = a .offset; lent = a .lent }
+
+-- an order of another length than four is no permutation; four zeros stand for it
+abbrev pub fourOf : List ℕ → List ℕ
+fourOf o = cond (eqb (length o) 4) o (0 ∷ 0 ∷ 0 ∷ 0 ∷ [])
+
+-- "is a measured value, a carried value, or blank", as a status and a value
+pub record Told : Type 0 where
+  pub why : ℕ
+  pub leaf : ℕ
+  pub status : ℕ
+  pub value : Float
+
+abbrev pub told : Call.Found → Told
+told f = record { why = f .why; leaf = f .leaf; status = State.status (f .value); value = State.amount (f .value) }
+
+module _ (h : Header) (t : List ℤ) (v : List Float) (cap : ℕ) where
+  pub record Builds (columns rows : ℕ) (h′ : Header) (t′ : List ℤ) (v′ : List Float) (in-use r : ℕ) : Type 0 where
+    pub is : record { why = r; in-use = in-use; lent = lentOf h′ t′ v′ } ≡ Call.buildCall cap (lentOf h t v) (rectangle columns rows)
+
+  pub record Tapes (bytes : List ℕ) (h′ : Header) (t′ : List ℤ) (v′ : List Float) (done offset r : ℕ) : Type 0 where
+    pub is : record { done = done; why = r; offset = offset; lent = lentOf h′ t′ v′ } ≡ counted (Call.tapeCall cap (lentOf h t v) bytes)
+
+  pub record Checks (r : ℕ) : Type 0 where
+    pub is : r ≡ Call.checkCall cap (lentOf h t v)
+
+  pub record Scans (start : ℕ) (order : List ℕ) (kind : ℕ) (from to : ℤ) (out out′ : List ℕ) (count r : ℕ) : Type 0 where
+    pub is : record { why = r; count = count; out = out′ } ≡ Call.scanCall cap (lentOf h t v) start order kind from to out
+
+  pub record Looks (speed load number status : ℕ) (value : Float) (r : ℕ) : Type 0 where
+    pub is : record { why = r; leaf = number; status = status; value = value } ≡ told (Call.lookupCall cap (lentOf h t v) speed load)
+
+  pub record Pages (out out′ : List ℕ) (count r : ℕ) : Type 0 where
+    pub is : record { why = r; count = count; out = out′ } ≡ Call.pageCall cap (lentOf h t v) out

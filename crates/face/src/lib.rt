@@ -1,0 +1,283 @@
+// The calls of `grid` for C and Rust: the header by pointer, a list as a pointer and a length, every answer but the refusal through a pointer. Each
+// exported entry copies the header out, calls the core above it, and puts back the header that the core leaves.
+ghost use mathlib.Core.Path.{_≡_};
+ghost use Rattle.mesh.specs.State.{status, amount};
+ghost use Rattle.walk.specs.Calls.{valueOfReading};
+ghost use Rattle.face.specs.Outputs.{fourOf, Builds, Tapes, Checks, Scans, Looks, Pages};
+use grid::Header;
+use walk::calls::Reading;
+
+// The header at exit, and the refusal or 0.
+struct Left {
+    header: Header,
+    answer: u32,
+}
+
+fn build_core(
+    header: Header,
+    table: &mut [i32],
+    values: &mut [f64],
+    capacity: u32,
+    columns: u32,
+    rows: u32,
+    in_use: &mut u32,
+) -> Left
+    ensures { λ r. ⌜ Builds header (now (table .entry)) (now (values .entry)) capacity columns rows (r .header) (now (table .exit)) (now (values .exit)) (now (in_use .exit)) (r .answer) ⌝ }
+{
+    let out = grid::build_core(header, table, values, capacity, columns, rows);
+    let left = out.header;
+    let built = out.answer;
+    *in_use = built.used as u32;
+    Left {
+        header: left,
+        answer: built.refusal,
+    }
+}
+
+// Builds the rectangle of level-0 cells, and says the number in use.
+#[no_mangle]
+pub extern "C" fn grid_build(
+    header: &mut Header,
+    table: &mut [i32],
+    values: &mut [f64],
+    capacity: u32,
+    columns: u32,
+    rows: u32,
+    in_use: &mut u32,
+) -> u32
+    ensures { λ r. ⌜ Builds (now (header .entry)) (now (table .entry)) (now (values .entry)) capacity columns rows (now (header .exit)) (now (table .exit)) (now (values .exit)) (now (in_use .exit)) r ⌝ }
+{
+    let out = build_core(*header, table, values, capacity, columns, rows, in_use);
+    *header = out.header;
+    out.answer
+}
+
+// A tape has more than 2^32 - 1 requests only above 12 GiB: the count wraps there.
+fn tape_core(
+    header: Header,
+    table: &mut [i32],
+    values: &mut [f64],
+    capacity: u32,
+    tape: &[u8],
+    done: &mut u32,
+    offset: &mut usize,
+) -> Left
+    ensures { λ r. ⌜ Tapes header (now (table .entry)) (now (values .entry)) capacity (now (tape .entry)) (r .header) (now (table .exit)) (now (values .exit)) (now (done .exit)) (now (offset .exit)) (r .answer) ⌝ }
+{
+    let out = grid::tape_core(header, table, values, capacity, tape);
+    let left = out.header;
+    let taped = out.answer;
+    *done = (taped.done % 4294967296) as u32;
+    *offset = taped.offset;
+    Left {
+        header: left,
+        answer: taped.refusal,
+    }
+}
+
+// Runs a tape of requests, up to the first that is refused; says how many are done and where it stopped.
+#[no_mangle]
+pub extern "C" fn grid_tape(
+    header: &mut Header,
+    table: &mut [i32],
+    values: &mut [f64],
+    capacity: u32,
+    tape: &[u8],
+    done: &mut u32,
+    offset: &mut usize,
+) -> u32
+    ensures { λ r. ⌜ Tapes (now (header .entry)) (now (table .entry)) (now (values .entry)) capacity (now (tape .entry)) (now (header .exit)) (now (table .exit)) (now (values .exit)) (now (done .exit)) (now (offset .exit)) r ⌝ }
+{
+    let out = tape_core(*header, table, values, capacity, tape, done, offset);
+    *header = out.header;
+    out.answer
+}
+
+fn check_core(header: Header, table: &[i32], values: &[f64], capacity: u32) -> u32
+    ensures { λ r. ⌜ Checks header (now (table .entry)) (now (values .entry)) capacity r ⌝ }
+{
+    grid::check(header, table, values, capacity)
+}
+
+// Whether the table, the values and the header are sound: 0 for yes.
+#[no_mangle]
+pub extern "C" fn grid_check(header: &Header, table: &[i32], values: &[f64], capacity: u32) -> u32
+    ensures { λ r. ⌜ Checks (now (header .entry)) (now (table .entry)) (now (values .entry)) capacity r ⌝ }
+{
+    check_core(*header, table, values, capacity)
+}
+
+// The order as four bytes; a list of another length is no permutation, and neither are four zeros.
+fn four(order: &[u8]) -> [u8; 4]
+    ensures { λ r. ⌜ r ≡ fourOf (now (order .entry)) ⌝ }
+{
+    if order.len() != 4 {
+        return [0, 0, 0, 0];
+    }
+    [order[0], order[1], order[2], order[3]]
+}
+
+fn scan_core(
+    header: Header,
+    table: &[i32],
+    values: &[f64],
+    capacity: u32,
+    start: u32,
+    order: &[u8],
+    kind: u32,
+    from: i32,
+    to: i32,
+    out: &mut [u16],
+    count: &mut u32,
+) -> u32
+    ensures { λ r. ⌜ Scans header (now (table .entry)) (now (values .entry)) capacity start (now (order .entry)) kind from to (now (out .entry)) (now (out .exit)) (now (count .exit)) r ⌝ }
+{
+    let winds = four(order);
+    let w = grid::scan(
+        header,
+        table,
+        values,
+        capacity,
+        start,
+        winds,
+        kind,
+        from,
+        to,
+        out,
+    );
+    *count = w.count as u32;
+    w.refusal
+}
+
+// Writes the numbers of the patches of a kind that a walk from a start meets, and says how many.
+#[no_mangle]
+pub extern "C" fn grid_scan(
+    header: &Header,
+    table: &[i32],
+    values: &[f64],
+    capacity: u32,
+    start: u32,
+    order: &[u8],
+    kind: u32,
+    from: i32,
+    to: i32,
+    out: &mut [u16],
+    count: &mut u32,
+) -> u32
+    ensures { λ r. ⌜ Scans (now (header .entry)) (now (table .entry)) (now (values .entry)) capacity start (now (order .entry)) kind from to (now (out .entry)) (now (out .exit)) (now (count .exit)) r ⌝ }
+{
+    scan_core(
+        *header,
+        table,
+        values,
+        capacity,
+        start,
+        order,
+        kind,
+        from,
+        to,
+        out,
+        count,
+    )
+}
+
+// "Status: 0 blank, 1 measured, 2 carried down from the parent."
+fn status_of(reading: Reading) -> u32
+    ensures { λ r. ⌜ r ≡ status (valueOfReading reading) ⌝ }
+{
+    match reading {
+        Reading::Measured(_) => 1,
+        Reading::Carried(_) => 2,
+        Reading::Blank => 0,
+    }
+}
+
+// "Status 0 has the bits of +0."
+fn amount_of(reading: Reading) -> f64
+    ensures { λ r. ⌜ r ≡ amount (valueOfReading reading) ⌝ }
+{
+    match reading {
+        Reading::Measured(x) => x,
+        Reading::Carried(x) => x,
+        Reading::Blank => 0.0,
+    }
+}
+
+fn lookup_core(
+    header: Header,
+    table: &[i32],
+    values: &[f64],
+    capacity: u32,
+    speed: u32,
+    load: u32,
+    number: &mut u32,
+    status: &mut u32,
+    value: &mut f64,
+) -> u32
+    ensures { λ r. ⌜ Looks header (now (table .entry)) (now (values .entry)) capacity speed load (now (number .exit)) (now (status .exit)) (now (value .exit)) r ⌝ }
+{
+    let found = grid::lookup(header, table, values, capacity, speed, load);
+    let reading = found.reading;
+    *number = found.leaf;
+    *status = status_of(reading);
+    *value = amount_of(reading);
+    found.why
+}
+
+// The leaf that holds a point, given in 1/4096 of a level-0 cell; its status and its value.
+#[no_mangle]
+pub extern "C" fn grid_lookup(
+    header: &Header,
+    table: &[i32],
+    values: &[f64],
+    capacity: u32,
+    speed: u32,
+    load: u32,
+    number: &mut u32,
+    status: &mut u32,
+    value: &mut f64,
+) -> u32
+    ensures { λ r. ⌜ Looks (now (header .entry)) (now (table .entry)) (now (values .entry)) capacity speed load (now (number .exit)) (now (status .exit)) (now (value .exit)) r ⌝ }
+{
+    lookup_core(
+        *header,
+        table,
+        values,
+        capacity,
+        speed,
+        load,
+        number,
+        status,
+        value,
+    )
+}
+
+fn page_core(
+    header: Header,
+    table: &[i32],
+    values: &[f64],
+    capacity: u32,
+    out: &mut [u8],
+    count: &mut usize,
+) -> u32
+    ensures { λ r. ⌜ Pages header (now (table .entry)) (now (values .entry)) capacity (now (out .entry)) (now (out .exit)) (now (count .exit)) r ⌝ }
+{
+    let w = grid::page(header, table, values, capacity, out);
+    *count = w.count;
+    w.refusal
+}
+
+// Writes the dossier page, and says how many bytes it has.
+#[no_mangle]
+pub extern "C" fn grid_page(
+    header: &Header,
+    table: &[i32],
+    values: &[f64],
+    capacity: u32,
+    out: &mut [u8],
+    count: &mut usize,
+) -> u32
+    ensures { λ r. ⌜ Pages (now (header .entry)) (now (table .entry)) (now (values .entry)) capacity (now (out .entry)) (now (out .exit)) (now (count .exit)) r ⌝ }
+{
+    page_core(*header, table, values, capacity, out, count)
+}
