@@ -1,0 +1,153 @@
+/* The reference grids P1 to P11, the page of 07 01 01 and some refusals, by the library. `examples/run` compiles, runs and compares it. */
+#include <inttypes.h>
+#include <stdio.h>
+#include <string.h>
+
+#include "grid.h"
+
+enum { WORDS = 14, NORTH = 5, LEVEL = 9, COLUMN = 10, ROW = 11, FLAGS = 12, MOST = 40 };
+
+typedef struct {
+    grid_header header;
+    uint32_t capacity;
+    int32_t table[WORDS * (MOST + 1)];
+    double values[MOST + 1];
+} map;
+
+#define LISTS(m) &(m)->header, (m)->table, WORDS * ((m)->capacity + 1), (m)->values, (m)->capacity + 1, (m)->capacity
+#define TAPE(m, ...) run(m, (const uint8_t[]){__VA_ARGS__}, sizeof((const uint8_t[]){__VA_ARGS__}))
+
+static int32_t word(const map *m, uint32_t number, uint32_t w) { return m->table[WORDS * number + w]; }
+
+static void build(map *m, uint32_t capacity, uint32_t columns, uint32_t rows) {
+    uint32_t in_use = 99;
+    memset(m, 0x55, sizeof *m);
+    m->capacity = capacity;
+    uint32_t refusal = grid_build(LISTS(m), columns, rows, &in_use);
+    printf("build %" PRIu32 " in use %" PRIu32 "\n", refusal, in_use);
+}
+
+static void run(map *m, const uint8_t *tape, size_t length) {
+    uint32_t done = 99;
+    size_t offset = 99;
+    uint32_t refusal = grid_tape(LISTS(m), tape, length, &done, &offset);
+    printf("tape %" PRIu32 " done %" PRIu32 " at %zu mark %u\n", refusal, done, offset, m->header.mark);
+}
+
+static void places(const map *m, uint32_t first, uint32_t last) {
+    printf("places");
+    for (uint32_t n = first; n <= last; n++) printf(" %" PRIu32 "=(%" PRId32 ",%" PRId32 ")", n, word(m, n, COLUMN), word(m, n, ROW));
+    printf("\n");
+}
+
+static void words(const char *name, const map *m, uint32_t w, const uint32_t *numbers, size_t count) {
+    printf("%s", name);
+    for (size_t k = 0; k < count; k++) printf(" %" PRId32, word(m, numbers[k], w));
+    printf("\n");
+}
+
+#define FLAGS_OF(m, ...) words("flags", m, FLAGS, (const uint32_t[]){__VA_ARGS__}, sizeof((const uint32_t[]){__VA_ARGS__}) / sizeof(uint32_t))
+
+static void row(const map *m, uint32_t number, uint32_t first, uint32_t count) {
+    printf("row %" PRIu32 ":", number);
+    for (uint32_t w = first; w < first + count; w++) printf(" %" PRId32, word(m, number, w));
+    printf("\n");
+}
+
+static void check(const map *m) { printf("check %" PRIu32 "\n", grid_check(LISTS(m))); }
+
+static void scan(const map *m, const uint8_t *order, size_t length, uint32_t kind, size_t room) {
+    uint16_t out[MOST + 1];
+    uint32_t count = 99;
+    uint32_t refusal = grid_scan(LISTS(m), 1, order, length, kind, word(m, 1, LEVEL), 12, out, room, &count);
+    printf("scan %" PRIu32 " count %" PRIu32 ":", refusal, count);
+    for (uint32_t k = 0; k < count; k++) printf(" %u", out[k]);
+    printf("\n");
+}
+
+static void lookup(const map *m, uint32_t speed, uint32_t load) {
+    uint32_t number = 99, status = 99;
+    double value = 99;
+    uint64_t bits;
+    uint32_t refusal = grid_lookup(LISTS(m), speed, load, &number, &status, &value);
+    memcpy(&bits, &value, sizeof bits);
+    printf("lookup %" PRIu32 " leaf %" PRIu32 " status %" PRIu32 " value %016" PRIx64 "\n", refusal, number, status, bits);
+}
+
+static void page(const map *m, size_t room) {
+    uint8_t out[400];
+    size_t count = 99;
+    uint32_t refusal = grid_page(LISTS(m), out, room, &count);
+    printf("page %" PRIu32 " bytes %zu\n", refusal, count);
+    fwrite(out, 1, count, stdout);
+}
+
+int main(void) {
+    static map m, built;
+    const uint8_t order[] = {3, 4, 2, 1};
+
+    puts("P1 P2 and the page");
+    build(&m, 40, 1, 1);
+    built = m;
+    places(&m, 2, 5);
+    FLAGS_OF(&m, 2, 3, 4, 5);
+    page(&m, 400);
+
+    puts("P3 P4 P5");
+    TAPE(&m, 1, 0, 2);
+    places(&m, 6, 14);
+    FLAGS_OF(&m, 6, 7, 8, 9);
+    TAPE(&m, 2, 0, 6, 2, 0, 7, 2, 0, 8, 2, 0, 9, 3, 0, 2);
+    printf("rows of the build %s\n", memcmp(m.table, built.table, sizeof m.table) == 0 ? "yes" : "no");
+    build(&m, 14, 1, 1);
+    TAPE(&m, 1, 0, 2);
+    build(&m, 13, 1, 1);
+    TAPE(&m, 1, 0, 2);
+
+    puts("P6 P7 P8");
+    build(&m, 40, 2, 1);
+    scan(&m, order, 4, 2, 40);
+    TAPE(&m, 1, 0, 4);
+    scan(&m, order, 4, 1, 40);
+    FLAGS_OF(&m, 17, 16, 11, 18);
+    TAPE(&m, 4, 0, 6);
+    FLAGS_OF(&m, 3, 8, 9, 17, 16, 11, 18);
+    TAPE(&m, 1, 0, 10);
+    row(&m, 10, 1, 4);
+
+    puts("P9");
+    build(&m, 40, 3, 1);
+    TAPE(&m, 4, 0, 6);
+    scan(&m, order, 4, 1, 40);
+    row(&m, 6, NORTH, 4);
+    row(&m, 8, NORTH, 4);
+
+    puts("P10 P11");
+    build(&m, 40, 1, 1);
+    lookup(&m, 4095, 4095);
+    lookup(&m, 4096, 0);
+    TAPE(&m, 1, 0, 2, 1, 0, 2);
+
+    puts("values");
+    build(&m, 40, 1, 1);
+    TAPE(&m, 5, 0, 2, 0x3f, 0xf8, 0, 0, 0, 0, 0, 0);
+    lookup(&m, 0, 0);
+    TAPE(&m, 1, 0, 2);
+    lookup(&m, 4095, 0);
+    page(&m, 400);
+
+    puts("refusals");
+    scan(&m, order, 4, 3, 3);
+    scan(&m, order, 3, 3, 40);
+    page(&m, 10);
+    check(&m);
+    m.table[WORDS * 6 + FLAGS] += 1;
+    check(&m);
+    lookup(&m, 0, 0);
+    m.header.rows = 33;
+    check(&m);
+    m.capacity = 4;
+    check(&m);
+    TAPE(&m, 1, 0, 2);
+    return 0;
+}

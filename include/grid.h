@@ -1,0 +1,57 @@
+/* The grid library from C: six calls, proved (crates/face). Link target/staticlib/libface.a, for x86-64 Linux, which `rt staticlib face` writes.
+ *
+ * A grid is lent to every call: the header, a table of 14 * (capacity + 1) words, capacity + 1 values, and the capacity, 5 to 4,095. The lists may
+ * have any length and any contents: what is wrong with them is refused. Only this is asked of a caller: every pointer is aligned and not null, also
+ * beside a length of 0; a list has as many places as its length says; and nothing that a call writes overlaps anything else that it is lent.
+ *
+ * Every call returns the number of a refusal, or 0. What its last pointers name is always written: 0, or +0 for the value, when it is refused (of a
+ * tape: what was done). The refused step changes nothing else. */
+#ifndef GRID_H
+#define GRID_H
+
+#include <stddef.h>
+#include <stdint.h>
+
+#ifdef __cplusplus
+extern "C" {
+#endif
+
+/* The rectangle of level-0 cells, and the edit mark: each accepted request adds 1, and 65,535 is followed by 0. */
+typedef struct {
+    uint32_t columns, rows;
+    uint16_t mark;
+} grid_header;
+
+/* Builds the rectangle, blank: the header, all rows and all values. in_use: the numbers in use. Refuses 1, 2, 11. */
+uint32_t grid_build(grid_header *header, int32_t *table, size_t table_len, double *values, size_t values_len, uint32_t capacity,
+                    uint32_t columns, uint32_t rows, uint32_t *in_use);
+
+/* Runs requests end to end, up to the first that is refused. done: those carried out, counted modulo 2^32. offset: the refused request's first
+ * byte, or tape_len. Refuses 1 to 16. */
+uint32_t grid_tape(grid_header *header, int32_t *table, size_t table_len, double *values, size_t values_len, uint32_t capacity,
+                   const uint8_t *tape, size_t tape_len, uint32_t *done, size_t *offset);
+
+/* Whether the table, the values and the header are sound: 0 for yes, or 1, 2, 3. */
+uint32_t grid_check(const grid_header *header, const int32_t *table, size_t table_len, const double *values, size_t values_len, uint32_t capacity);
+
+/* Writes the numbers that a walk down from start meets, a patch before its kids, on the levels from_level to to_level. order: the four kid winds,
+ * NE 1, SE 2, SW 3, NW 4. kind: 1 patches, 2 cells, 3 leaves, 4 H-walls, 5 V-walls, 6 points. count: how many were written; places past them stay.
+ * Refuses 1, 2, 3, 6, 17, 18; an order of another length than 4 is 17. */
+uint32_t grid_scan(const grid_header *header, const int32_t *table, size_t table_len, const double *values, size_t values_len, uint32_t capacity,
+                   uint32_t start, const uint8_t *order, size_t order_len, uint32_t kind, int32_t from_level, int32_t to_level,
+                   uint16_t *out, size_t out_len, uint32_t *count);
+
+/* The leaf that holds a point, given in 1/4096 of a level-0 cell. status: 0 blank, 1 measured, 2 carried down from the parent; value: +0 if blank.
+ * Refuses 1, 2, 3, 19. */
+uint32_t grid_lookup(const grid_header *header, const int32_t *table, size_t table_len, const double *values, size_t values_len, uint32_t capacity,
+                     uint32_t speed, uint32_t load, uint32_t *number, uint32_t *status, double *value);
+
+/* Writes the dossier page. count: its bytes; places past them stay. Refuses 1, 2, 3, 18. */
+uint32_t grid_page(const grid_header *header, const int32_t *table, size_t table_len, const double *values, size_t values_len, uint32_t capacity,
+                   uint8_t *out, size_t out_len, size_t *count);
+
+#ifdef __cplusplus
+}
+#endif
+
+#endif
