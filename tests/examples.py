@@ -51,7 +51,7 @@ class Told(Lent):
         print(f"row {number}:" + "".join(f" {word}" for word in self.row(number)[first : first + count]))
 
 
-def reference_grids():
+def one_cell():
     print("P1 P2 and the page")
     m = Told(1, 1)
     built = list(m.table)
@@ -68,6 +68,8 @@ def reference_grids():
     for capacity in (14, 13):
         Told(1, 1, capacity).tape(1, 0, 2)
 
+
+def more_cells():
     print("P6 P7 P8")
     m = Told(2, 1)
     m.scan(2)
@@ -86,14 +88,14 @@ def reference_grids():
     m.words(6, r.N, 4)
     m.words(8, r.N, 4)
 
+
+def points():
     print("P10 P11")
     m = Told(1, 1)
     m.lookup(4095, 4095)
     m.lookup(4096, 0)
     m.tape(1, 0, 2, 1, 0, 2)
 
-
-def values_and_refusals():
     print("values")
     m = Told(1, 1)
     m.tape(5, 0, 2, 0x3F, 0xF8, 0, 0, 0, 0, 0, 0)
@@ -101,7 +103,10 @@ def values_and_refusals():
     m.tape(1, 0, 2)
     m.lookup(4095, 0)
     m.page()
+    return m
 
+
+def refusals(m):
     print("refusals")
     m.scan(3, 3)
     m.scan(3, 40, ORDER[:3])
@@ -119,5 +124,6 @@ def values_and_refusals():
     m.tape(1, 0, 2)
 
 
-reference_grids()
-values_and_refusals()
+one_cell()
+more_cells()
+refusals(points())

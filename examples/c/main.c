@@ -14,6 +14,7 @@ typedef struct {
     double values[MOST + 1];
 } map;
 
+/* what every call is lent */
 #define LISTS(m) &(m)->header, (m)->table, WORDS * ((m)->capacity + 1), (m)->values, (m)->capacity + 1, (m)->capacity
 #define TAPE(m, ...) run(m, (const uint8_t[]){__VA_ARGS__}, sizeof((const uint8_t[]){__VA_ARGS__}))
 
@@ -82,72 +83,86 @@ static void page(const map *m, size_t room) {
     fwrite(out, 1, count, stdout);
 }
 
-int main(void) {
-    static map m, built;
-    const uint8_t order[] = {3, 4, 2, 1};
+static const uint8_t order[] = {3, 4, 2, 1};
 
+static void one_cell(map *m) {
+    static int32_t built[WORDS * (MOST + 1)];
     puts("P1 P2 and the page");
-    build(&m, 40, 1, 1);
-    built = m;
-    places(&m, 2, 5);
-    FLAGS_OF(&m, 2, 3, 4, 5);
-    page(&m, 400);
+    build(m, 40, 1, 1);
+    memcpy(built, m->table, sizeof built);
+    places(m, 2, 5);
+    FLAGS_OF(m, 2, 3, 4, 5);
+    page(m, 400);
 
     puts("P3 P4 P5");
-    TAPE(&m, 1, 0, 2);
-    places(&m, 6, 14);
-    FLAGS_OF(&m, 6, 7, 8, 9);
-    TAPE(&m, 2, 0, 6, 2, 0, 7, 2, 0, 8, 2, 0, 9, 3, 0, 2);
-    printf("rows of the build %s\n", memcmp(m.table, built.table, sizeof m.table) == 0 ? "yes" : "no");
-    build(&m, 14, 1, 1);
-    TAPE(&m, 1, 0, 2);
-    build(&m, 13, 1, 1);
-    TAPE(&m, 1, 0, 2);
+    TAPE(m, 1, 0, 2);
+    places(m, 6, 14);
+    FLAGS_OF(m, 6, 7, 8, 9);
+    TAPE(m, 2, 0, 6, 2, 0, 7, 2, 0, 8, 2, 0, 9, 3, 0, 2);
+    printf("rows of the build %s\n", memcmp(m->table, built, sizeof built) == 0 ? "yes" : "no");
+    build(m, 14, 1, 1);
+    TAPE(m, 1, 0, 2);
+    build(m, 13, 1, 1);
+    TAPE(m, 1, 0, 2);
+}
 
+static void more_cells(map *m) {
     puts("P6 P7 P8");
-    build(&m, 40, 2, 1);
-    scan(&m, order, 4, 2, 40);
-    TAPE(&m, 1, 0, 4);
-    scan(&m, order, 4, 1, 40);
-    FLAGS_OF(&m, 17, 16, 11, 18);
-    TAPE(&m, 4, 0, 6);
-    FLAGS_OF(&m, 3, 8, 9, 17, 16, 11, 18);
-    TAPE(&m, 1, 0, 10);
-    row(&m, 10, 1, 4);
+    build(m, 40, 2, 1);
+    scan(m, order, 4, 2, 40);
+    TAPE(m, 1, 0, 4);
+    scan(m, order, 4, 1, 40);
+    FLAGS_OF(m, 17, 16, 11, 18);
+    TAPE(m, 4, 0, 6);
+    FLAGS_OF(m, 3, 8, 9, 17, 16, 11, 18);
+    TAPE(m, 1, 0, 10);
+    row(m, 10, 1, 4);
 
     puts("P9");
-    build(&m, 40, 3, 1);
-    TAPE(&m, 4, 0, 6);
-    scan(&m, order, 4, 1, 40);
-    row(&m, 6, NORTH, 4);
-    row(&m, 8, NORTH, 4);
+    build(m, 40, 3, 1);
+    TAPE(m, 4, 0, 6);
+    scan(m, order, 4, 1, 40);
+    row(m, 6, NORTH, 4);
+    row(m, 8, NORTH, 4);
+}
 
+static void points(map *m) {
     puts("P10 P11");
-    build(&m, 40, 1, 1);
-    lookup(&m, 4095, 4095);
-    lookup(&m, 4096, 0);
-    TAPE(&m, 1, 0, 2, 1, 0, 2);
+    build(m, 40, 1, 1);
+    lookup(m, 4095, 4095);
+    lookup(m, 4096, 0);
+    TAPE(m, 1, 0, 2, 1, 0, 2);
 
     puts("values");
-    build(&m, 40, 1, 1);
-    TAPE(&m, 5, 0, 2, 0x3f, 0xf8, 0, 0, 0, 0, 0, 0);
-    lookup(&m, 0, 0);
-    TAPE(&m, 1, 0, 2);
-    lookup(&m, 4095, 0);
-    page(&m, 400);
+    build(m, 40, 1, 1);
+    TAPE(m, 5, 0, 2, 0x3f, 0xf8, 0, 0, 0, 0, 0, 0);
+    lookup(m, 0, 0);
+    TAPE(m, 1, 0, 2);
+    lookup(m, 4095, 0);
+    page(m, 400);
+}
 
+static void refusals(map *m) {
     puts("refusals");
-    scan(&m, order, 4, 3, 3);
-    scan(&m, order, 3, 3, 40);
-    page(&m, 10);
-    check(&m);
-    m.table[WORDS * 6 + FLAGS] += 1;
-    check(&m);
-    lookup(&m, 0, 0);
-    m.header.rows = 33;
-    check(&m);
-    m.capacity = 4;
-    check(&m);
-    TAPE(&m, 1, 0, 2);
+    scan(m, order, 4, 3, 3);
+    scan(m, order, 3, 3, 40);
+    page(m, 10);
+    check(m);
+    m->table[WORDS * 6 + FLAGS] += 1;
+    check(m);
+    lookup(m, 0, 0);
+    m->header.rows = 33;
+    check(m);
+    m->capacity = 4;
+    check(m);
+    TAPE(m, 1, 0, 2);
+}
+
+int main(void) {
+    static map m;
+    one_cell(&m);
+    more_cells(&m);
+    points(&m);
+    refusals(&m);
     return 0;
 }

@@ -145,7 +145,7 @@ impl Map {
     }
 }
 
-fn reference_grids(order: &[u8]) {
+fn one_cell() {
     println!("P1 P2 and the page");
     let mut m = Map::build(40, 1, 1);
     let built = m.table.clone();
@@ -162,7 +162,9 @@ fn reference_grids(order: &[u8]) {
     for capacity in [14, 13] {
         Map::build(capacity, 1, 1).tape(&[1, 0, 2]);
     }
+}
 
+fn more_cells(order: &[u8]) {
     println!("P6 P7 P8");
     let mut m = Map::build(40, 2, 1);
     m.scan(order, 2, 40);
@@ -180,15 +182,15 @@ fn reference_grids(order: &[u8]) {
     m.scan(order, 1, 40);
     m.row(6, NORTH, 4);
     m.row(8, NORTH, 4);
+}
 
+fn points() -> Map {
     println!("P10 P11");
     let mut m = Map::build(40, 1, 1);
     m.lookup(4095, 4095);
     m.lookup(4096, 0);
     m.tape(&[1, 0, 2, 1, 0, 2]);
-}
 
-fn values_and_refusals(order: &[u8]) {
     println!("values");
     let mut m = Map::build(40, 1, 1);
     m.tape(&[5, 0, 2, 0x3f, 0xf8, 0, 0, 0, 0, 0, 0]);
@@ -196,7 +198,10 @@ fn values_and_refusals(order: &[u8]) {
     m.tape(&[1, 0, 2]);
     m.lookup(4095, 0);
     m.page(400);
+    m
+}
 
+fn refusals(mut m: Map, order: &[u8]) {
     println!("refusals");
     m.scan(order, 3, 3);
     m.scan(&order[..3], 3, 40);
@@ -216,6 +221,7 @@ fn values_and_refusals(order: &[u8]) {
 
 fn main() {
     let order = [3, 4, 2, 1];
-    reference_grids(&order);
-    values_and_refusals(&order);
+    one_cell();
+    more_cells(&order);
+    refusals(points(), &order);
 }
