@@ -1,5 +1,5 @@
 // The calls of `grid` for C and Rust: the header by pointer, a list as a pointer and a length, every answer but the refusal through a pointer. Each
-// exported entry copies the header out, calls the core above it, and puts back the header that the core leaves.
+// exported entry is thin: it copies the header out and calls the core above it, and a build or a tape puts back the header that the core leaves.
 ghost use mathlib.Core.Path.{_≡_};
 ghost use Rattle.mesh.specs.State.{status, amount};
 ghost use Rattle.walk.specs.Calls.{valueOfReading};
