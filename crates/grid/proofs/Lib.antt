@@ -3,3 +3,4 @@ pub mod First
 pub mod Builds
 pub mod Tapes
 pub mod Unique
+pub mod Demands

@@ -1,6 +1,7 @@
 -- The laws of demand 3, and of refusals.
 pub mod Prefixes
 pub mod Refusals
+pub mod Answers
 pub mod Requests
 pub mod Tapes
 pub mod Calls

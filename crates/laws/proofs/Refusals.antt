@@ -37,6 +37,11 @@ module _ {A : Type 0} (f : ℕ → A) (x : A) where
   unless-why why names zero e = refl
   unless-why why names (suc n) e = sym (names (suc n)) ∙ e
 
+  pub unless-is : (why : A → ℕ) → ((n : ℕ) → why (f n) ≡ n) → why x ≡ 0 → (n : ℕ) → why (unless n f x) ≡ n
+  unfolding unless
+  unless-is why names z zero = z
+  unless-is why names z (suc n) = names (suc n)
+
   -- and one that names a refusal is that refusal's
   pub unless-named : (why : A → ℕ) → ((n : ℕ) → why (f n) ≡ n) → why x ≡ 0 → (n : ℕ) → why (unless n f x) ≢ 0 → unless n f x ≡ f (why (unless n f x))
   unfolding unless

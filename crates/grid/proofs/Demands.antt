@@ -1,0 +1,120 @@
+-- Demands 1, 2 and 3 of the public calls: what any outcome that a call's contract allows must be.
+-- Assumes nothing.
+use Prim.Native.Nat.{ℕ, _+_, _*_, _≤_}
+use mathlib.Core.Path.{_≡_, refl, sym, ap, subst, _∙_}
+use mathlib.Core.Logic.{_≢_, _↔_}
+use mathlib.Core.List.{List, [], _∷_}
+use lib.Dec.{T}
+use lib.ListN.{length, take}
+use lib.IntN.{ℤ}
+use lib.Ieee.{Float}
+use Rattle.mesh.specs.Place.{Grid, rectangle}
+use Rattle.mesh.specs.State.{blank}
+use Rattle.mesh.specs.Build.{built}
+use Rattle.mesh.specs.Call as Call
+use Rattle.mesh.specs.Call.{picture, checkCall, buildCall, tapeCall, scanCall, lookupCall, pageCall}
+use Rattle.walk.specs.declared.calls.Found.{Found}
+use Rattle.walk.specs.Calls.{foundOf, valueOfReading}
+use Rattle.laws.specs.Deeds.{deeds, after}
+use Rattle.laws.specs.Demand.{Demand3}
+use Rattle.laws.proofs.Refusals.{build-refused, tape-refused, scan-refused, lookup-refused-call, page-refused}
+use Rattle.laws.proofs.Answers.{among, ofTapes, check-answers, build-answers, tape-answers, scan-answers, lookup-answers, page-answers}
+use Rattle.laws.proofs.Calls.{afterCalls}
+use Rattle.laws.proofs.Demand as laws
+use Rattle.grid.specs.declared.Header.{Header}
+use Rattle.grid.specs.declared.Wrote.{Wrote}
+use Rattle.grid.specs.declared.Built.{Built}
+use Rattle.grid.specs.declared.Taped.{Taped}
+use Rattle.grid.specs.Calls.{headerOf, lentOf, wroteOf, Builds, Tapes}
+use Rattle.grid.proofs.Unique.{lent-same}
+
+-- ---- demand 1: "every call .. ends with an answer or a numbered refusal; a refused step changes nothing"
+
+module _ (h : Header) (t : List ℤ) (v : List Float) (cap : ℕ) where
+  pub check-ends : (r : ℕ) → r ≡ checkCall cap (lentOf h t v) → T (among (0 ∷ 1 ∷ 2 ∷ 3 ∷ []) r)
+  check-ends r e = subst (λ (n : ℕ). T (among (0 ∷ 1 ∷ 2 ∷ 3 ∷ []) n)) (sym e) (check-answers cap (lentOf h t v))
+
+  module _ (h′ : Header) (t′ : List ℤ) (v′ : List Float) where
+    pub build-ends : (columns rows : ℕ) (r : Built) → Builds h t v cap columns rows h′ t′ v′ r
+        → T (among (0 ∷ 1 ∷ 2 ∷ 11 ∷ []) (r .refusal)) × (r .refusal ≢ 0 → (r .used ≡ 0) × (h′ ≡ h) × (t′ ≡ t) × (v′ ≡ v))
+    build-ends columns rows r b =
+        let l = lentOf h t v in
+        let g = rectangle columns rows in
+        let why : r .refusal ≡ buildCall cap l g .why = ap (λ (x : Call.Built). x .why) (b .is) in (
+          subst (λ (n : ℕ). T (among (0 ∷ 1 ∷ 2 ∷ 11 ∷ []) n)) (sym why) (build-answers cap l g),
+          λ refused.
+              let e = b .is ∙ build-refused cap l g (λ z. refused (why ∙ z)) in
+              let (a₁, a₂, a₃) = lent-same h′ h t′ t v′ v (ap (λ (x : Call.Built). x .lent) e) in
+              (ap (λ (x : Call.Built). x .in-use) e, a₁, a₂, a₃),
+        )
+
+    -- "for 1 to 3 count and offset 0"
+    pub tape-ends : (bytes : List ℕ) (r : Taped) → Tapes h t v cap bytes h′ t′ v′ r
+        → T (among ofTapes (r .refusal)) × (r .refusal ≢ 0 → r .refusal ≤ 3 → (r .done ≡ 0) × (r .offset ≡ 0) × (h′ ≡ h) × (t′ ≡ t) × (v′ ≡ v))
+    tape-ends bytes r b =
+        let l = lentOf h t v in
+        let why : r .refusal ≡ tapeCall cap l bytes .why = ap (λ (x : Call.Taped). x .why) (b .is) in (
+          subst (λ (n : ℕ). T (among ofTapes n)) (sym why) (tape-answers cap l bytes),
+          λ refused few.
+              let e = b .is ∙ tape-refused cap l bytes (λ z. refused (why ∙ z)) (subst (λ (n : ℕ). n ≤ 3) why few) in
+              let (a₁, a₂, a₃) = lent-same h′ h t′ t v′ v (ap (λ (x : Call.Taped). x .lent) e) in
+              (ap (λ (x : Call.Taped). x .done) e, ap (λ (x : Call.Taped). x .offset) e, a₁, a₂, a₃),
+        )
+
+  pub scan-ends : (n : ℕ) (o : List ℕ) (k : ℕ) (from to : ℤ) (out out′ : List ℕ) (r : Wrote) → wroteOf r out′ ≡ scanCall cap (lentOf h t v) n o k from to out
+      → T (among (0 ∷ 1 ∷ 2 ∷ 3 ∷ 6 ∷ 17 ∷ 18 ∷ []) (r .refusal)) × (r .refusal ≢ 0 → (r .count ≡ 0) × (out′ ≡ out))
+  scan-ends n o k from to out out′ r b =
+      let l = lentOf h t v in
+      let why : r .refusal ≡ scanCall cap l n o k from to out .why = ap (λ (x : Call.Wrote). x .why) b in (
+        subst (λ (m : ℕ). T (among (0 ∷ 1 ∷ 2 ∷ 3 ∷ 6 ∷ 17 ∷ 18 ∷ []) m)) (sym why) (scan-answers cap l n o k from to out),
+        λ refused.
+            let e = b ∙ scan-refused cap l n o k from to out (λ z. refused (why ∙ z)) in
+            (ap (λ (x : Call.Wrote). x .count) e, ap (λ (x : Call.Wrote). x .out) e),
+      )
+
+  pub page-ends : (out out′ : List ℕ) (r : Wrote) → wroteOf r out′ ≡ pageCall cap (lentOf h t v) out
+      → T (among (0 ∷ 1 ∷ 2 ∷ 3 ∷ 18 ∷ []) (r .refusal)) × (r .refusal ≢ 0 → (r .count ≡ 0) × (out′ ≡ out))
+  page-ends out out′ r b =
+      let l = lentOf h t v in
+      let why : r .refusal ≡ pageCall cap l out .why = ap (λ (x : Call.Wrote). x .why) b in (
+        subst (λ (m : ℕ). T (among (0 ∷ 1 ∷ 2 ∷ 3 ∷ 18 ∷ []) m)) (sym why) (page-answers cap l out),
+        λ refused.
+            let e = b ∙ page-refused cap l out (λ z. refused (why ∙ z)) in
+            (ap (λ (x : Call.Wrote). x .count) e, ap (λ (x : Call.Wrote). x .out) e),
+      )
+
+  -- "number 0 and blank"
+  pub lookup-ends : (x y : ℕ) (r : Found) → foundOf r ≡ lookupCall cap (lentOf h t v) x y
+      → T (among (0 ∷ 1 ∷ 2 ∷ 3 ∷ 19 ∷ []) (r .why)) × (r .why ≢ 0 → (r .leaf ≡ 0) × (valueOfReading (r .reading) ≡ blank))
+  lookup-ends x y r b =
+      let l = lentOf h t v in
+      let why : r .why ≡ lookupCall cap l x y .why = ap (λ (z : Call.Found). z .why) b in (
+        subst (λ (m : ℕ). T (among (0 ∷ 1 ∷ 2 ∷ 3 ∷ 19 ∷ []) m)) (sym why) (lookup-answers cap l x y),
+        λ refused.
+            let e = b ∙ lookup-refused-call cap l x y (λ z. refused (why ∙ z)) in
+            (ap (λ (z : Call.Found). z .leaf) e, ap (λ (z : Call.Found). z .value) e),
+      )
+
+-- ---- demand 3: "from any accepted build, over any tapes, refused requests among them"
+
+-- tapes one after the other, each on what the one before left
+pub data Served (cap : ℕ) : Header → List ℤ → List Float → List (List ℕ) → Header → List ℤ → List Float → Type 0 where
+  none-more : {h : Header} {t : List ℤ} {v : List Float} → Served cap h t v [] h t v
+  one-more : {h h₁ h₂ : Header} {t t₁ t₂ : List ℤ} {v v₁ v₂ : List Float} {bytes : List ℕ} {ts : List (List ℕ)} {r : Taped}
+      → Tapes h t v cap bytes h₁ t₁ v₁ r → Served cap h₁ t₁ v₁ ts h₂ t₂ v₂ → Served cap h t v (bytes ∷ ts) h₂ t₂ v₂
+
+served-calls : (cap : ℕ) {h h′ : Header} {t t′ : List ℤ} {v v′ : List Float} {ts : List (List ℕ)} → Served cap h t v ts h′ t′ v′
+    → lentOf h′ t′ v′ ≡ afterCalls cap (lentOf h t v) ts
+unfolding afterCalls
+served-calls cap none-more = refl
+served-calls cap (one-more {ts = ts} b s) = served-calls cap s ∙ ap (λ (r : Call.Taped). afterCalls cap (r .lent) ts) (b .is)
+
+pub demand-3 : {h h₀ h′ : Header} {t t₀ t′ : List ℤ} {v v₀ v′ : List Float} (cap columns rows : ℕ) (r : Built) (ts : List (List ℕ))
+    → Builds h t v cap columns rows h₀ t₀ v₀ r → r .refusal ≡ 0 → Served cap h₀ t₀ v₀ ts h′ t′ v′
+    → let s₀ = built (rectangle columns rows) cap in
+    (lentOf h′ t′ v′ ≡ picture (after s₀ ts)) × Demand3 (rectangle columns rows) (deeds s₀ ts) (after s₀ ts)
+demand-3 {h} {t = t} {v = v} cap columns rows r ts b ok s =
+    let g = rectangle columns rows in
+    let l = lentOf h t v in
+    let (is, d) = laws.demand-3 cap l g (ap (λ (x : Call.Built). x .why) (sym (b .is)) ∙ ok) ts in
+    (served-calls cap s ∙ ap (λ (x : Call.Built). afterCalls cap (x .lent) ts) (b .is) ∙ is, d)
