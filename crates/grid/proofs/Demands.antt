@@ -9,15 +9,18 @@ use lib.ListN.{length, take}
 use lib.IntN.{ℤ}
 use lib.Ieee.{Float}
 use Rattle.mesh.specs.Place.{Grid, rectangle}
+use Rattle.mesh.specs.Picture.{Sound}
+use Rattle.mesh.specs.Tape.{Run, run}
 use Rattle.mesh.specs.State.{blank}
 use Rattle.mesh.specs.Build.{built}
 use Rattle.mesh.specs.Call as Call
-use Rattle.mesh.specs.Call.{picture, checkCall, buildCall, tapeCall, scanCall, lookupCall, pageCall}
+use Rattle.mesh.specs.Call.{stateOf, picture, checkCall, buildCall, tapeCall, scanCall, lookupCall, pageCall}
 use Rattle.walk.specs.declared.calls.Found.{Found}
 use Rattle.walk.specs.Calls.{foundOf, valueOfReading}
 use Rattle.laws.specs.Deeds.{deeds, after}
 use Rattle.laws.specs.Demand.{Demand3}
 use Rattle.laws.proofs.Refusals.{build-refused, tape-refused, scan-refused, lookup-refused-call, page-refused}
+use Rattle.laws.proofs.Prefixes.{tape-prefix}
 use Rattle.laws.proofs.Answers.{among, ofTapes, check-answers, build-answers, tape-answers, scan-answers, lookup-answers, page-answers}
 use Rattle.laws.proofs.Calls.{afterCalls}
 use Rattle.laws.proofs.Demand as laws
@@ -26,6 +29,7 @@ use Rattle.grid.specs.declared.Wrote.{Wrote}
 use Rattle.grid.specs.declared.Built.{Built}
 use Rattle.grid.specs.declared.Taped.{Taped}
 use Rattle.grid.specs.Calls.{headerOf, lentOf, wroteOf, Builds, Tapes}
+use Rattle.grid.proofs.First.{Sizes, sizes, check-sound, sound-check, ranOf, tape-ran}
 use Rattle.grid.proofs.Unique.{lent-same}
 
 -- ---- demand 1: "every call .. ends with an answer or a numbered refusal; a refused step changes nothing"
@@ -94,6 +98,25 @@ module _ (h : Header) (t : List ℤ) (v : List Float) (cap : ℕ) where
             let e = b ∙ lookup-refused-call cap l x y (λ z. refused (why ∙ z)) in
             (ap (λ (z : Call.Found). z .leaf) e, ap (λ (z : Call.Found). z .value) e),
       )
+
+-- "in a tape only the requests before the refused one have acted": the bytes before it, as a tape of their own, do the same and are not refused
+pub tape-acts-before : (h : Header) (t : List ℤ) (v : List Float) (cap : ℕ) (h′ : Header) (t′ : List ℤ) (v′ : List Float) (bytes : List ℕ) (r : Taped)
+    → Tapes h t v cap bytes h′ t′ v′ r → checkCall cap (lentOf h t v) ≡ 0 → Tapes h t v cap (take (r .offset) bytes) h′ t′ v′ (record { done = r .done; refusal = 0; offset = r .offset })
+tape-acts-before h t v cap h′ t′ v′ bytes r b ok =
+    let l = lentOf h t v in
+    let e = b .is ∙ tape-ran cap l ok bytes in
+    let o : r .offset ≡ run (stateOf l) bytes .offset = ap (λ (x : Call.Taped). x .offset) e in
+    let before = ap ranOf (ap (λ (n : ℕ). run (stateOf l) (take n bytes)) o ∙ tape-prefix (stateOf l) bytes) in
+    record { is = ap (λ (x : Call.Taped). record { done = x .done; why = 0; offset = x .offset; lent = x .lent }) e ∙ sym (tape-ran cap l ok (take (r .offset) bytes) ∙ before) }
+
+-- ---- demand 2: "the checker says yes to exactly the tables that picture a mesh"
+
+pub demand-2 : (h : Header) (t : List ℤ) (v : List Float) (cap r : ℕ) → r ≡ checkCall cap (lentOf h t v)
+    → (r ≡ 0) ↔ (Sizes cap (lentOf h t v) × Sound (headerOf h) t v)
+demand-2 h t v cap r e = (
+  λ z. let y : checkCall cap (lentOf h t v) ≡ 0 = sym e ∙ z in (sizes cap (lentOf h t v) y, check-sound cap (lentOf h t v) y),
+  λ p. e ∙ sound-check cap (lentOf h t v) (p .0) (p .1),
+)
 
 -- ---- demand 3: "from any accepted build, over any tapes, refused requests among them"
 

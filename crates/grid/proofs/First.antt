@@ -8,14 +8,16 @@ use mathlib.Core.Bool.{not}
 use mathlib.Core.List.{List, _∷_, _++_}
 use lib.Dec.{eqb}
 use lib.ListN.{length}
-use borrow.Author.Tests.{eqb-true, not-false}
-use Rattle.mesh.specs.Picture.{rowWords}
+use borrow.Author.Tests.{eqb-true, eq-eqb, not-false}
+use Rattle.mesh.specs.Picture.{rowWords, Sound}
+use Rattle.mesh.specs.Test.{sound}
+use Rattle.mesh.specs.Tape.{Run, run}
 use Rattle.mesh.specs.Refusal.{Check, refusal}
 use Rattle.mesh.specs.State.{blank}
 use Rattle.mesh.specs.Scan.{scanChecks}
 use Rattle.mesh.specs.Lookup.{lookupChecks}
-use Rattle.mesh.specs.Call.{Lent, stateOf, outside, no1, lentChecks, checkCall, Wrote, Found, scanCall, lookupCall, pageCall}
-use Rattle.geometry.proofs.Ranges.{outside-within}
+use Rattle.mesh.specs.Call.{Lent, picture, stateOf, outside, no1, lentChecks, checkCall, Taped, tapeCall, Wrote, Found, scanCall, lookupCall, pageCall}
+use Rattle.geometry.proofs.Ranges.{within-outside, outside-within}
 use Rattle.geometry.proofs.Base.{base-range}
 use lib.IntN.{ℤ}
 use Rattle.walk.specs.Calls.{rowScanOut, rowLookupOut}
@@ -25,9 +27,10 @@ use Rattle.mesh.specs.Place.{base}
 use Rattle.page.specs.Rows.{rowOut}
 use Rattle.calling.proofs.Paged.{page-call}
 use Rattle.mesh.specs.Page.{pageChecks}
-use Rattle.geometry.proofs.Bools.{neither}
+use Rattle.geometry.proofs.Bools.{neither, yes-is, is-yes}
 use Rattle.numbering.proofs.Checks.{passes, kept}
-use Rattle.laws.proofs.Refusals.{unless-refused}
+use Rattle.laws.proofs.Refusals.{unless-refused, unless-accepted}
+use Rattle.pictures.proofs.Soundness.{sound-test, test-sound}
 
 -- the first check alone
 pub lengths : (cap : ℕ) (l : Lent) (cs : List Check) → refusal (no1 cap l ∷ cs) ≡ 0 → (length (l .words) ≡ rowWords * (cap + 1)) × (length (l .values) ≡ cap + 1)
@@ -63,6 +66,35 @@ sizes cap l h =
       columns = outside-within 1 32 (l .header .grid .columns) d;
       rows = outside-within 1 32 (l .header .grid .rows) e;
     }
+
+-- the checker's yes, both ways
+pub check-sound : (cap : ℕ) (l : Lent) → checkCall cap l ≡ 0 → Sound (l .header) (l .words) (l .values)
+unfolding checkCall lentChecks
+check-sound cap l h =
+    let (_, h₁) = passes 1 _ _ (λ z. omega arith) h in
+    let (_, h₂) = passes 2 _ _ (λ z. omega arith) h₁ in
+    let (a, _) = passes 3 _ _ (λ z. omega arith) h₂ in
+    let b = sound (l .header) (l .words) (l .values) in test-sound (l .header) (l .words) (l .values) (is-yes b (not-false b a))
+
+pub sound-check : (cap : ℕ) (l : Lent) → Sizes cap l → Sound (l .header) (l .words) (l .values) → checkCall cap l ≡ 0
+unfolding checkCall lentChecks refusal
+sound-check cap l s o =
+    rw (
+      eq-eqb (length (l .words)) (rowWords * (cap + 1)) (s .words),
+      eq-eqb (length (l .values)) (cap + 1) (s .values),
+      within-outside 5 4095 cap (s .low) (s .high),
+      within-outside 1 32 (l .header .grid .columns) (s .columns .0) (s .columns .1),
+      within-outside 1 32 (l .header .grid .rows) (s .rows .0) (s .rows .1),
+      yes-is (sound (l .header) (l .words) (l .values)) (sound-test (l .header) (l .words) (l .values) o),
+    )
+
+-- a tape that they let through runs on the state that is pictured
+abbrev pub ranOf : Run → Taped
+ranOf r = record { done = r .done; why = r .why; offset = r .offset; lent = picture (r .state) }
+
+pub tape-ran : (cap : ℕ) (l : Lent) → checkCall cap l ≡ 0 → (bytes : List ℕ) → tapeCall cap l bytes ≡ ranOf (run (stateOf l) bytes)
+unfolding checkCall tapeCall
+tape-ran cap l h bytes = unless-accepted _ _ (refusal (lentChecks cap l)) h
 
 -- a call that the first checks refuse, whatever its own are
 module _ (cap : ℕ) (l : Lent) (r : ℕ) (is : r ≡ checkCall cap l) (some : r ≢ 0) where

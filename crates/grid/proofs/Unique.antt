@@ -16,6 +16,16 @@ use Rattle.grid.specs.declared.Header.{Header}
 use Rattle.grid.specs.declared.Wrote.{Wrote}
 use Rattle.grid.specs.declared.Built.{Built}
 use Rattle.grid.specs.declared.Taped.{Taped}
+use Rattle.grid.specs.declared.BuildOut.{BuildOut}
+use Rattle.grid.specs.declared.TapeOut.{TapeOut}
+use contract.Lifetimes.{Lfts}
+use denote.Ref.{RefT, at-last}
+use Rattle.grid.proofs.check.Reads as check
+use Rattle.grid.proofs.lookup.Reads as lookup
+use Rattle.grid.proofs.scan.Reads as scan
+use Rattle.grid.proofs.page.Reads as page
+use Rattle.grid.proofs.build_core.Reads as build-core
+use Rattle.grid.proofs.tape_core.Reads as tape-core
 use Rattle.grid.specs.Calls.{lentOf, wroteOf, Builds, Tapes}
 
 -- ---- what is lent
@@ -69,3 +79,52 @@ module _ {h : Header} {t : List ℤ} {v : List Float} {cap : ℕ} (h₁ h₂ : H
       let x : r ≡ s = λ i. record { done = e i .done; refusal = e i .why; offset = e i .offset } in
       let (a₁, a₂, a₃) = lent-same h₁ h₂ t₁ t₂ v₁ v₂ (λ i. e i .lent) in
       (x, a₁, a₂, a₃)
+
+-- ---- the contracts themselves: any two outcomes that one allows are equal. `build` and `tape` cite the same relations as their cores
+
+module _ (h : Header) (t : RefT (List ℤ)) (v : RefT (List Float)) (cap : ℕ) where
+  module _ (κs : Lfts 2) where
+    abbrev CheckAllows : ℕ → Type 0
+    CheckAllows r = check.Post κs (h, (t, (v, (cap, tt)))) r (h, (t, (v, (cap, tt))))
+
+    pub check-once : (r s : ℕ) → CheckAllows r → CheckAllows s → r ≡ s
+    check-once r s p q = p ∙ sym q
+
+    module _ (x y : ℕ) where
+      abbrev LookupAllows : Found → Type 0
+      LookupAllows r = lookup.Post κs (h, (t, (v, (cap, (x, (y, tt)))))) r (h, (t, (v, (cap, (x, (y, tt))))))
+
+      pub lookup-once : (r s : Found) → LookupAllows r → LookupAllows s → r ≡ s
+      lookup-once r s p q = found-unique r s p q
+
+    module _ (columns rows : ℕ) where
+      abbrev BuildAllows : BuildOut → List ℤ → List Float → Type 0
+      BuildAllows r t′ v′ = build-core.Post κs (h, (t, (v, (cap, (columns, (rows, tt)))))) r (h, (at-last t t′, (at-last v v′, (cap, (columns, (rows, tt))))))
+
+      pub build-once : (r s : BuildOut) (t₁ t₂ : List ℤ) (v₁ v₂ : List Float) → BuildAllows r t₁ v₁ → BuildAllows s t₂ v₂
+          → (r .answer ≡ s .answer) × (r .header ≡ s .header) × (t₁ ≡ t₂) × (v₁ ≡ v₂)
+      build-once r s t₁ t₂ v₁ v₂ p q = build-unique (r .header) (s .header) t₁ t₂ v₁ v₂ (r .answer) (s .answer) p q
+
+  module _ (κs : Lfts 3) where
+    module _ (bytes : RefT (List ℕ)) where
+      abbrev TapeAllows : TapeOut → List ℤ → List Float → Type 0
+      TapeAllows r t′ v′ = tape-core.Post κs (h, (t, (v, (cap, (bytes, tt))))) r (h, (at-last t t′, (at-last v v′, (cap, (bytes, tt)))))
+
+      pub tape-once : (r s : TapeOut) (t₁ t₂ : List ℤ) (v₁ v₂ : List Float) → TapeAllows r t₁ v₁ → TapeAllows s t₂ v₂
+          → (r .answer ≡ s .answer) × (r .header ≡ s .header) × (t₁ ≡ t₂) × (v₁ ≡ v₂)
+      tape-once r s t₁ t₂ v₁ v₂ p q = tape-unique (r .header) (s .header) t₁ t₂ v₁ v₂ (r .answer) (s .answer) p q
+
+    module _ (out : RefT (List ℕ)) where
+      abbrev PageAllows : Wrote → List ℕ → Type 0
+      PageAllows r xs = page.Post κs (h, (t, (v, (cap, (out, tt))))) r (h, (t, (v, (cap, (at-last out xs, tt)))))
+
+      pub page-once : (r s : Wrote) (xs ys : List ℕ) → PageAllows r xs → PageAllows s ys → (r ≡ s) × (xs ≡ ys)
+      page-once r s xs ys p q = wrote-unique r s xs ys p q
+
+      module _ (n : ℕ) (o : List ℕ) (k : ℕ) (from to : ℤ) where
+        abbrev ScanAllows : Wrote → List ℕ → Type 0
+        ScanAllows r xs =
+            scan.Post κs (h, (t, (v, (cap, (n, (o, (k, (from, (to, (out, tt)))))))))) r (h, (t, (v, (cap, (n, (o, (k, (from, (to, (at-last out xs, tt))))))))))
+
+        pub scan-once : (r s : Wrote) (xs ys : List ℕ) → ScanAllows r xs → ScanAllows s ys → (r ≡ s) × (xs ≡ ys)
+        scan-once r s xs ys p q = wrote-unique r s xs ys p q
