@@ -10,8 +10,9 @@ use Rattle.mesh.specs.State.{State}
 use Rattle.mesh.specs.Refusal.{Check, _if_, refusal}
 use Rattle.mesh.specs.Build.{numbered, built}
 use Rattle.mesh.specs.Tape.{Run, run}
+use Rattle.mesh.specs.Scan.{no18}
 use Rattle.mesh.specs.Page.{line, decimal, page}
-use Rattle.mesh.specs.Call.{no2, unless}
+use Rattle.mesh.specs.Call.{no2, unless, Wrote, wrote}
 
 -- "only the line `refused N at O`"
 unfoldable pub refusedLine : ℕ → ℕ → List ℕ
@@ -38,3 +39,7 @@ tapePage r = unless (r .why) (λ n. refusedLine n (3 + r .offset)) (page (r .sta
 
 unfoldable pub program : List ℕ → List ℕ
 program input = unless (refusal (headChecks input)) (λ n. refusedLine n 0) (tapePage (run (built (gridIn input) 1000) (drop 3 input)))
+
+-- what is printed, as a call that writes it: refused 18 if the output is too short for it, else in its first places
+unfoldable pub programCall : List ℕ → List ℕ → Wrote
+programCall input out = wrote (refusal (no18 (length out) (program input) ∷ [])) (program input) out

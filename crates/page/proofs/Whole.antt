@@ -37,7 +37,7 @@ lines-long t v (n ∷ ns) = omega (arith, length-append (rowLine t v n) (linesOf
 
 -- ---- what is drawn from the start
 
-drew-drawn : {d xs : List ℕ} {k : ℕ} {e : List ℕ} {q : Pen} → Drew d start xs k e q → Drawn d xs e (q .at)
+pub drew-drawn : {d xs : List ℕ} {k : ℕ} {e : List ℕ} {q : Pen} → Drew d start xs k e q → Drawn d xs e (q .at)
 drew-drawn {d} {xs} {k} {e} {q} w =
     record {
       room = w .room;

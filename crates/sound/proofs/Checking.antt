@@ -78,7 +78,7 @@ module _ (cap : ℕ) (l : Lent) (cs : List Check) where
 
   module _ (size : length t ≡ rowWords * (cap + 1)) (places : length v ≡ cap + 1) (low : 5 ≤ cap) (high : cap ≤ 4095) where
     -- past the first check
-    sized : refusal (no1 cap l ∷ cs) ≡ refusal cs
+    pub sized : refusal (no1 cap l ∷ cs) ≡ refusal cs
     unfolding refusal
     sized = rw (eq-eqb (length t) (rowWords * (cap + 1)) size, eq-eqb (length v) (cap + 1) places, within-outside 5 4095 cap low high)
 
