@@ -10,7 +10,7 @@ use mathlib.Core.List.{List, [], _∷_, map}
 use lib.Dec.{ltb, eqb}
 use lib.ListN.{length, length-append}
 use lib.IntN.{natAbs}
-use borrow.Author.Tests.{eq-eqb, le-ltb, ltb-false}
+use borrow.Author.Tests.{eq-eqb, le-ltb}
 use Rattle.mesh.specs.Tools.{count, flat}
 use Rattle.mesh.specs.Place.{NE, SE, SW, NW, level, base}
 use Rattle.mesh.specs.Mesh.{leaf}
@@ -148,18 +148,18 @@ program-fits input =
 
 -- ---- the call
 
-printed-count : (xs out : List ℕ) → printed xs out .count ≤ length out
+printed-count : (m : ℕ) (xs out : List ℕ) → length xs ≤ m → printed xs out .count ≤ m
 unfolding refusal unless
-printed-count xs out = go (ltb (length out) (length xs)) refl
+printed-count m xs out h = go (ltb (length out) (length xs))
   where
-    go : (b : Bool) → ltb (length out) (length xs) ≡ b → wrote (cond b 18 0) xs out .count ≤ length out
-    go true e = omega arith
-    go false e = ltb-false (length out) (length xs) e
+    go : (b : Bool) → wrote (cond b 18 0) xs out .count ≤ m
+    go true = omega arith
+    go false = h
 
 module _ (r : Wrote) (input out exit : List ℕ) (called : wroteOf r exit ≡ programCall input out) where
-  pub count-fits : r .count ≤ length out
+  pub count-fits : r .count ≤ 104000
   unfolding programCall
-  count-fits = omega (arith, ap (λ (w : Call.Wrote). w .count) called, printed-count (program input) out)
+  count-fits = omega (arith, ap (λ (w : Call.Wrote). w .count) called, printed-count 104000 (program input) out (program-fits input))
 
   -- in the program's output 18 never stands in the way
   pub program-prints : length out ≡ 104000 → wroteOf r exit ≡ record { why = 0; count = length (program input); out = over (program input) out }
