@@ -1,13 +1,16 @@
--- How often a test passes in a list: of lists put together, of the elements kept, and of a part for each place.
+-- How often a test passes in a list: of lists put together, of the elements kept, and of a part for each place; and how long a list of numbers is
+-- that has none twice.
 -- Assumes nothing.
-use Prim.Native.Nat.{ℕ, suc, _+_, _≤_, _<_}
+use Prim.Native.Nat.{ℕ, zero, suc, _+_, _≤_, _<_}
 use native.Mathlib.Omega.{arith}
+use native.Mathlib.Decide.{decLt}
 use mathlib.Core.Path.{_≡_, refl, _∙_, subst}
 use mathlib.Core.Logic.{_⊎_, inl, inr}
 use mathlib.Core.Bool.{Bool, true, false, _||_, cond}
 use mathlib.Core.List.{List, [], _∷_, _++_, map}
-use lib.Dec.{T}
+use lib.Dec.{T, eqb}
 use lib.ListN.{length, getD}
+use borrow.Author.Tests.{eq-eqb}
 use Rattle.mesh.specs.Tools.{any, keep, count, flat}
 use Rattle.mesh.specs.Place.{Place, same}
 use Rattle.geometry.proofs.Bools.{is-yes, or-left, or-right, or-cases}
@@ -104,3 +107,45 @@ module _ {A : Type 0} (f : A → Bool) (part : Place → List A) where
   count-parts q (p ∷ ps) h =
       count-append f (part p) (flat (map part ps))
       ∙ rw (h p (in-here p p ps refl), count-parts q ps (λ r i. h r (in-there r p ps i)))
+
+-- ---- numbers that stand in a list once
+
+-- how often the numbers below m stand in a list
+tally : ℕ → List ℕ → ℕ
+tally zero ns = 0
+tally (suc m) ns = count (eqb m) ns + tally m ns
+
+tally-more : (m x : ℕ) (xs : List ℕ) → tally m xs ≤ tally m (x ∷ xs)
+unfolding tally
+tally-more zero x xs = omega arith
+tally-more (suc m) x xs = omega (arith, tally-more m x xs)
+
+tally-here : (m x : ℕ) (xs : List ℕ) → x < m → suc (tally m xs) ≤ tally m (x ∷ xs)
+unfolding tally
+tally-here zero x xs h = absurd (omega arith)
+tally-here (suc m) x xs h = go (decLt x m) (tally-here m x xs)
+  where
+    go : Dec (x < m) → (x < m → suc (tally m xs) ≤ tally m (x ∷ xs)) → suc (count (eqb m) xs + tally m xs) ≤ cond (eqb m x) 1 0 + count (eqb m) xs + tally m (x ∷ xs)
+    go (yes l) ih = omega (arith, ih l)
+    go (no l) ih =
+        let e : eqb m x ≡ true = eq-eqb m x (omega arith) in
+        rw e (omega (arith, tally-more m x xs))
+
+tally-once : (m : ℕ) (ns : List ℕ) → ((k : ℕ) → count (eqb k) ns ≤ 1) → tally m ns ≤ m
+unfolding tally
+tally-once zero ns once = omega arith
+tally-once (suc m) ns once = omega (arith, once m, tally-once m ns once)
+
+tally-all : (m : ℕ) (ns : List ℕ) → ((k : ℕ) → m ≤ k → count (eqb k) ns ≡ 0) → length ns ≤ tally m ns
+tally-all m [] none = omega arith
+tally-all m (x ∷ xs) none =
+    let low : x < m = go (decLt x m) in
+    omega (arith, tally-here m x xs low, tally-all m xs (λ k h. omega (arith, none k h)))
+  where
+    go : Dec (x < m) → x < m
+    go (yes h) = h
+    go (no h) = absurd (let z : cond (eqb x x) 1 0 + count (eqb x) xs ≡ 0 = none x (omega arith) in let e : eqb x x ≡ true = eq-eqb x x refl in omega (arith, rw e at z))
+
+-- a list that has each number below m at most once, and no other, is at most m long
+pub once-length : (m : ℕ) (ns : List ℕ) → ((k : ℕ) → count (eqb k) ns ≤ 1) → ((k : ℕ) → m ≤ k → count (eqb k) ns ≡ 0) → length ns ≤ m
+once-length m ns once none = omega (arith, tally-all m ns none, tally-once m ns once)

@@ -41,6 +41,10 @@ module _ {A : Type 0} (f : ℕ → A) (x : A) where
   unfolding unless
   unless-is why names z zero = z
   unless-is why names z (suc n) = names (suc n)
+  -- the answer names the refusal, where the other names none
+  pub unless-names : (why : A → ℕ) → ((n : ℕ) → why (f n) ≡ n) → why x ≡ 0 → (n : ℕ) → why (unless n f x) ≡ n
+  unless-names why names z zero = z
+  unless-names why names z (suc n) = names (suc n)
 
   -- and one that names a refusal is that refusal's
   pub unless-named : (why : A → ℕ) → ((n : ℕ) → why (f n) ≡ n) → why x ≡ 0 → (n : ℕ) → why (unless n f x) ≢ 0 → unless n f x ≡ f (why (unless n f x))

@@ -1,7 +1,7 @@
 -- What is printed, branch by branch: the head refuses, or the build does, or a request of the tape, or the page of the state after the tape is
 -- written. For the lists of the capacity picture that state from the build on, so that no first check of a later call refuses.
 -- Assumes nothing.
-use Prim.Native.Nat.{ℕ, zero, suc, _+_, _-_, _≤_}
+use Prim.Native.Nat.{ℕ, _+_, _-_, _*_, _≤_}
 use native.Mathlib.Omega.{arith}
 use mathlib.Core.Path.{_≡_, refl, sym, ap, _∙_}
 use mathlib.Core.Logic.{_≢_}
@@ -12,16 +12,17 @@ use lib.IntN.{ℤ}
 use lib.Ieee.{Float}
 use Rattle.mesh.specs.State.{State, capacity}
 use Rattle.mesh.specs.Valid.{Valid}
+use Rattle.mesh.specs.Picture.{rowWords}
 use Rattle.mesh.specs.Refusal.{refusal}
 use Rattle.mesh.specs.Scan.{no18}
 use Rattle.mesh.specs.Page.{page, pageChecks}
 use Rattle.mesh.specs.Call as Call
-use Rattle.mesh.specs.Call.{Lent, picture, stateOf, lentChecks, unless, buildChecks, buildCall, tapeCall, wrote, pageCall}
+use Rattle.mesh.specs.Call.{Lent, picture, stateOf, lentChecks, buildChecks, buildCall, tapeCall, wrote, pageCall}
 use Rattle.mesh.specs.Program.{gridIn, refusedLine, headChecks, tapePage, program, programCall}
 use Rattle.numbering.proofs.Checks.{past, kept}
 use Rattle.sound.proofs.Checking.{sized}
 use Rattle.laws.proofs.Prefixes.{run-offset}
-use Rattle.laws.proofs.Refusals.{unless-accepted, unless-refused}
+use Rattle.laws.proofs.Refusals.{unless-accepted, unless-refused, unless-names}
 use Rattle.laws.proofs.Calls.{picture-state, picture-accepted, tape-runs}
 use Rattle.calling.proofs.Called.{checks-after}
 use Rattle.grid.specs.declared.Header.{Header}
@@ -31,12 +32,6 @@ use Rattle.grid.specs.Calls.{lentOf, tapedOf, Builds, Tapes}
 use Rattle.printing.specs.Head.{inputChecks, gridChecks, printed}
 use Rattle.printing.proofs.Head.{head-parts, head-sizes}
 use Rattle.printing.proofs.Ran.{started, ran, started-valid, ran-valid}
-
--- where a refusal's answer names it and the other names none, the answer names the refusal
-names : {A : Type 0} (why : A → ℕ) (f : ℕ → A) (x : A) → ((n : ℕ) → why (f n) ≡ n) → why x ≡ 0 → (n : ℕ) → why (unless n f x) ≡ n
-unfolding unless
-names why f x all none zero = none
-names why f x all none (suc n) = all (suc n)
 
 -- the page call on the picture of a valid state
 pub page-prints : (s : State) → Valid s → (cap : ℕ) → capacity s ≡ cap → (out : List ℕ) → pageCall cap (picture s) out ≡ printed (page s) out
@@ -67,7 +62,7 @@ module _ (input : List ℕ) where
 
     -- ---- the build
 
-    module _ {h h₁ : Header} {t t₁ : List ℤ} {v v₁ : List Float} {b : Built} (size : length t ≡ 14014) (places : length v ≡ 1001)
+    module _ {h h₁ : Header} {t t₁ : List ℤ} {v v₁ : List Float} {b : Built} (size : length t ≡ rowWords * 1001) (places : length v ≡ 1001)
         (built-as : Builds h t v 1000 (gridIn input .columns) (gridIn input .rows) h₁ t₁ v₁ b) where
       checks-same : refusal (buildChecks 1000 (lentOf h t v) (gridIn input)) ≡ refusal (headChecks input)
       unfolding buildChecks gridChecks
@@ -75,7 +70,7 @@ module _ (input : List ℕ) where
 
       build-why : b .refusal ≡ refusal (headChecks input)
       unfolding buildCall
-      build-why = ap (λ (r : Call.Built). r .why) (built-as .is) ∙ names (λ (r : Call.Built). r .why) _ _ (λ n. refl) refl _ ∙ checks-same
+      build-why = ap (λ (r : Call.Built). r .why) (built-as .is) ∙ unless-names _ _ (λ (r : Call.Built). r .why) (λ n. refl) refl _ ∙ checks-same
 
       pub build-refused : b .refusal ≢ 0 → refusedLine (b .refusal) 0 ≡ program input
       build-refused = refused (b .refusal) build-why

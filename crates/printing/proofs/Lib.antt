@@ -2,4 +2,5 @@
 pub mod Head
 pub mod Ran
 pub mod Called
+pub mod Lengths
 pub mod Fits

@@ -1,6 +1,8 @@
 // What the program `dossier` prints for its input, as a call on two lists: the page of the grid after the tape, or the line of the refusal.
 ghost use mathlib.Core.Path.{_≡_};
+ghost use Prim.Native.Nat.{_*_};
 ghost use lib.ListN.{length};
+ghost use Rattle.mesh.specs.Picture.{rowWords};
 ghost use Rattle.mesh.specs.Refusal.{refusal};
 ghost use Rattle.mesh.specs.Program.{refusedLine, programCall};
 ghost use Rattle.page.specs.Pens.{Drawn};
@@ -13,9 +15,16 @@ use page::pens::put_byte;
 use page::words::put_decimal;
 use page::words::put_number;
 use page::words::put_text;
+use table::words::ROW_WORDS;
 
 const CAPACITY: u32 = 1000;
 
+// The words and the values of a table of that capacity.
+const WORDS: usize = ROW_WORDS * 1001;
+
+const VALUES: usize = 1001;
+
+// The longest input that is accepted.
 const LONGEST: usize = 60000;
 
 // Draws the line `refused n at o`, and answers its length.
@@ -75,7 +84,7 @@ fn head_refusal(input: &[u8]) -> u32
 
 // Prints on a table and values of the capacity, whose old contents do not matter.
 fn print_on(input: &[u8], table: &mut [i32], values: &mut [f64], out: &mut [u8]) -> Wrote
-    requires { ⌜ (refusal (inputChecks (now input)) ≡ 0) × (length (now table) ≡ 14014) × (length (now values) ≡ 1001) ⌝ }
+    requires { ⌜ (refusal (inputChecks (now input)) ≡ 0) × (length (now table) ≡ rowWords * 1001) × (length (now values) ≡ 1001) ⌝ }
     ensures { λ r. ⌜ wroteOf r (now (out .exit)) ≡ programCall (now (input .entry)) (now (out .entry)) ⌝ }
 {
     let header = Header {
@@ -106,7 +115,7 @@ pub fn print(input: &[u8], out: &mut [u8]) -> Wrote
     if refusal != 0 {
         return write_refused(out, refusal, 0);
     }
-    let mut table = [0i32; 14014];
-    let mut values = [0.0f64; 1001];
+    let mut table = [0i32; WORDS];
+    let mut values = [0.0f64; VALUES];
     print_on(input, &mut table, &mut values, out)
 }

@@ -7,7 +7,7 @@ use Rattle.printing.proofs.head_refusal.Statement.{statement}
 use Rattle.printing.proofs.head_refusal.Tie as tie
 
 returns : tie.Need-returns
-returns c = too-long _ (c .if1 .taken)
+returns c = too-long _ (omega arith)
 
 returns-2 : tie.Need-returns-2
 returns-2 c = empty _ (omega arith) (c .if2 .taken)
