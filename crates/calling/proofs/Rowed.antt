@@ -24,11 +24,11 @@ use Rattle.walk.specs.Rows.{leafRow, rowWalk}
 use Rattle.page.specs.Rows.{bitsOf, rowLine, leavesFrom, linesOf, headLine, footLine, rowBody, rowPage}
 use Rattle.geometry.proofs.Bools.{yes-is, or-left, or-right}
 use Rattle.geometry.proofs.Kids.{leaf-cell}
-use Rattle.numbering.proofs.Numbers.{valid-numbered, place-number, not-zero}
+use Rattle.numbering.proofs.Numbers.{valid-numbered, place-number}
 use Rattle.pictures.proofs.Rows.{amounts-at}
 use Rattle.pictures.proofs.Pictured.{word-status, word-col, word-row, level-word}
 use Rattle.pictures.proofs.Soundness.{finite-amount}
-use Rattle.walking.proofs.Walks.{walk-met}
+use Rattle.walking.proofs.Walks.{walk-met, root-stands}
 use Rattle.walking.proofs.Rowing.{row-walk, leaf-row}
 
 -- two functions that agree on a list's numbers map it alike
@@ -58,9 +58,6 @@ module _ (s : State) (v : Valid s) where
   root-number : number es root ≡ 1
   root-number = place-number es (valid-numbered v) 1 root (v .first-root)
 
-  root-stands : number es root ≢ 0
-  root-stands z = not-zero es (valid-numbered v) 1 root (v .first-root) (sym root-number ∙ z)
-
   leaf-agrees : (q : Place) → number es q ≢ 0 → leafRow (table s) (capacity s) 0 (number es q) ≡ leaf g c q
   unfolding leafRow
   leaf-agrees q h = leaf-row s v q h
@@ -69,7 +66,7 @@ module _ (s : State) (v : Valid s) where
   unfolding leavesFrom leaves
   row-leaves =
       ap (rowWalk (table s) (capacity s) 0 (leafRow (table s) (capacity s) 0) (3 ∷ 4 ∷ 2 ∷ 1 ∷ []) (base g + 12)) (sym root-number)
-      ∙ row-walk s v 0 (leafRow (table s) (capacity s) 0) (leaf g c) leaf-agrees (3 ∷ 4 ∷ 2 ∷ 1 ∷ []) tt (base g + 12) root root-stands
+      ∙ row-walk s v 0 (leafRow (table s) (capacity s) 0) (leaf g c) leaf-agrees (3 ∷ 4 ∷ 2 ∷ 1 ∷ []) tt (base g + 12) root (root-stands s v)
 
   -- ---- lines
 
@@ -91,7 +88,7 @@ module _ (s : State) (v : Valid s) where
   row-line : (n : ℕ) → T (any (eqb n) (leaves s)) → rowLine (table s) (amounts s) n ≡ leafLine s n
   unfolding leaves
   row-line n t =
-      let m = walk-met es (leaf g c) (SW ∷ NW ∷ SE ∷ NE ∷ []) (base g + 12) root n root-stands t in
+      let m = walk-met es (leaf g c) (SW ∷ NW ∷ SE ∷ NE ∷ []) (base g + 12) root n (root-stands s v) t in
       leaf-line n (m .there) (m .its) (m .lists)
 
   row-lines : linesOf (table s) (amounts s) (leavesFrom (table s) (capacity s) (base g + 12) 1) ≡ flat (map (leafLine s) (leaves s))

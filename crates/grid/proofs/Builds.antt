@@ -1,9 +1,7 @@
 -- A build: refused, nothing changes; accepted, what is lent is the picture of the built state.
 -- Assumes nothing.
 use Prim.Native.Nat.{ℕ, _+_, _*_, _≤_, _<_}
-use native.Mathlib.Nat.{mul-comm}
-use native.Mathlib.Omega.{arith}
-use mathlib.Core.Path.{_≡_, refl, sym, ap, _∙_}
+use mathlib.Core.Path.{_≡_, sym, _∙_}
 use mathlib.Core.Logic.{_≢_}
 use mathlib.Core.List.{List, [], _∷_}
 use lib.Dec.{ltb}
@@ -16,14 +14,13 @@ use Rattle.mesh.specs.State as State
 use Rattle.mesh.specs.Picture.{rowWords}
 use Rattle.mesh.specs.Refusal.{_if_, refusal}
 use Rattle.mesh.specs.Build.{numbered, built}
-use Rattle.mesh.specs.Call.{Lent, picture, no1, no2, unless, buildChecks, buildCall}
+use Rattle.mesh.specs.Call.{Lent, picture, buildChecks, buildCall}
 use Rattle.geometry.proofs.Base.{Rectangle}
 use Rattle.sound.proofs.Checking.{both-pass}
 use Rattle.build.specs.Steps.{Made}
 use Rattle.laws.proofs.Refusals.{unless-accepted, unless-refused}
 use Rattle.laws.proofs.Calls.{Buildable, build-checked}
 use Rattle.grid.specs.declared.Header.{Header}
-use Rattle.grid.specs.declared.Built.{Built}
 use Rattle.grid.specs.Calls.{lentOf, builtOf, Builds}
 use Rattle.grid.proofs.First.{lengths}
 

@@ -1,16 +1,16 @@
 -- Demands 1, 2 and 3 of the public calls: what any outcome that a call's contract allows must be.
 -- Assumes nothing.
-use Prim.Native.Nat.{ℕ, _+_, _*_, _≤_}
+use Prim.Native.Nat.{ℕ, _≤_}
 use mathlib.Core.Path.{_≡_, refl, sym, ap, subst, _∙_}
 use mathlib.Core.Logic.{_≢_, _↔_}
 use mathlib.Core.List.{List, [], _∷_}
 use lib.Dec.{T}
-use lib.ListN.{length, take}
+use lib.ListN.{take}
 use lib.IntN.{ℤ}
 use lib.Ieee.{Float}
-use Rattle.mesh.specs.Place.{Grid, rectangle}
+use Rattle.mesh.specs.Place.{rectangle}
 use Rattle.mesh.specs.Picture.{Sound}
-use Rattle.mesh.specs.Tape.{Run, run}
+use Rattle.mesh.specs.Tape.{run}
 use Rattle.mesh.specs.State.{blank}
 use Rattle.mesh.specs.Build.{built}
 use Rattle.mesh.specs.Call as Call

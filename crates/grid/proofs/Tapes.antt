@@ -1,13 +1,13 @@
 -- A tape: refused by the first checks, nothing changes; otherwise what is lent is a picture, and the run of the tape is the call's.
 -- Assumes nothing.
 use Prim.Native.Nat.{ℕ}
-use mathlib.Core.Path.{_≡_, sym, _∙_}
+use mathlib.Core.Path.{_≡_, sym}
 use mathlib.Core.Logic.{_≢_}
 use mathlib.Core.List.{List}
 use lib.IntN.{ℤ}
 use lib.Ieee.{Float}
 use Rattle.mesh.specs.Place.{base}
-use Rattle.mesh.specs.Call.{lentChecks, checkCall, tapeCall}
+use Rattle.mesh.specs.Call.{checkCall, tapeCall}
 use Rattle.laws.proofs.Refusals.{unless-refused}
 use Rattle.calling.proofs.Called.{values-length, lent-sound}
 use Rattle.tape.specs.Drawn.{Pictured}

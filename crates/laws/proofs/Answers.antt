@@ -22,7 +22,7 @@ use Rattle.mesh.specs.Lookup.{lookupChecks}
 use Rattle.mesh.specs.Page.{pageChecks}
 use Rattle.mesh.specs.Call.{Lent, stateOf, lentChecks, picture, unless, checkCall, Built, buildChecks, buildCall, Taped, tapeCall, Wrote, scanCall, Found, lookupCall, pageCall}
 use Rattle.mesh.proofs.Runs.{run-stop, run-next}
-use Rattle.laws.proofs.Refusals.{unless-is}
+use Rattle.laws.proofs.Refusals.{unless-names}
 use Rattle.geometry.proofs.Bools.{or-left, or-right, or-cases, and-left, and-right, is-yes, yes-is}
 
 -- ---- a number that a list of checks can give
@@ -114,25 +114,25 @@ module _ (cap : ℕ) (l : Lent) where
 
   pub build-answers : (g : Grid) → T (among (0 ∷ 1 ∷ 2 ∷ 11 ∷ []) (buildCall cap l g .why))
   unfolding buildCall buildChecks
-  build-answers g = subst (λ (n : ℕ). T (among (0 ∷ 1 ∷ 2 ∷ 11 ∷ []) n)) (sym (unless-is _ _ (λ (r : Built). r .why) (λ n. refl) refl (refusal (buildChecks cap l g)))) (refusal-among (buildChecks cap l g))
+  build-answers g = subst (λ (n : ℕ). T (among (0 ∷ 1 ∷ 2 ∷ 11 ∷ []) n)) (sym (unless-names _ _ (λ (r : Built). r .why) (λ n. refl) refl (refusal (buildChecks cap l g)))) (refusal-among (buildChecks cap l g))
 
   pub scan-answers : (n : ℕ) (o : List ℕ) (k : ℕ) (from to : ℤ) (out : List ℕ) → T (among (0 ∷ 1 ∷ 2 ∷ 3 ∷ 6 ∷ 17 ∷ 18 ∷ []) (scanCall cap l n o k from to out .why))
   unfolding scanCall lentChecks scanChecks
   scan-answers n o k from to out =
       let cs = lentChecks cap l ++ scanChecks (stateOf l) (length out) n o k from to in
-      subst (λ (n : ℕ). T (among (0 ∷ 1 ∷ 2 ∷ 3 ∷ 6 ∷ 17 ∷ 18 ∷ []) n)) (sym (unless-is _ _ (λ (r : Wrote). r .why) (λ n. refl) refl (refusal cs))) (refusal-among cs)
+      subst (λ (n : ℕ). T (among (0 ∷ 1 ∷ 2 ∷ 3 ∷ 6 ∷ 17 ∷ 18 ∷ []) n)) (sym (unless-names _ _ (λ (r : Wrote). r .why) (λ n. refl) refl (refusal cs))) (refusal-among cs)
 
   pub lookup-answers : (u v : ℕ) → T (among (0 ∷ 1 ∷ 2 ∷ 3 ∷ 19 ∷ []) (lookupCall cap l u v .why))
   unfolding lookupCall lentChecks lookupChecks
   lookup-answers u v =
       let cs = lentChecks cap l ++ lookupChecks (stateOf l) u v in
-      subst (λ (n : ℕ). T (among (0 ∷ 1 ∷ 2 ∷ 3 ∷ 19 ∷ []) n)) (sym (unless-is _ _ (λ (r : Found). r .why) (λ n. refl) refl (refusal cs))) (refusal-among cs)
+      subst (λ (n : ℕ). T (among (0 ∷ 1 ∷ 2 ∷ 3 ∷ 19 ∷ []) n)) (sym (unless-names _ _ (λ (r : Found). r .why) (λ n. refl) refl (refusal cs))) (refusal-among cs)
 
   pub page-answers : (out : List ℕ) → T (among (0 ∷ 1 ∷ 2 ∷ 3 ∷ 18 ∷ []) (pageCall cap l out .why))
   unfolding pageCall lentChecks pageChecks
   page-answers out =
       let cs = lentChecks cap l ++ pageChecks (stateOf l) (length out) in
-      subst (λ (n : ℕ). T (among (0 ∷ 1 ∷ 2 ∷ 3 ∷ 18 ∷ []) n)) (sym (unless-is _ _ (λ (r : Wrote). r .why) (λ n. refl) refl (refusal cs))) (refusal-among cs)
+      subst (λ (n : ℕ). T (among (0 ∷ 1 ∷ 2 ∷ 3 ∷ 18 ∷ []) n)) (sym (unless-names _ _ (λ (r : Wrote). r .why) (λ n. refl) refl (refusal cs))) (refusal-among cs)
 
   pub tape-answers : (bytes : List ℕ) → T (among ofTapes (tapeCall cap l bytes .why))
   unfolding tapeCall run unless checkCall

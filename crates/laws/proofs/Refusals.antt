@@ -37,10 +37,6 @@ module _ {A : Type 0} (f : ℕ → A) (x : A) where
   unless-why why names zero e = refl
   unless-why why names (suc n) e = sym (names (suc n)) ∙ e
 
-  pub unless-is : (why : A → ℕ) → ((n : ℕ) → why (f n) ≡ n) → why x ≡ 0 → (n : ℕ) → why (unless n f x) ≡ n
-  unfolding unless
-  unless-is why names z zero = z
-  unless-is why names z (suc n) = names (suc n)
   -- the answer names the refusal, where the other names none
   pub unless-names : (why : A → ℕ) → ((n : ℕ) → why (f n) ≡ n) → why x ≡ 0 → (n : ℕ) → why (unless n f x) ≡ n
   unless-names why names z zero = z

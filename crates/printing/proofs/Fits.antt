@@ -8,7 +8,7 @@ use mathlib.Core.List.{List, [], _∷_}
 use lib.Dec.{ltb}
 use lib.ListN.{length}
 use borrow.Author.Tests.{le-ltb}
-use Rattle.mesh.specs.Place.{NE, SE, SW, NW, base}
+use Rattle.mesh.specs.Place.{NE, SE, SW, NW, base, root}
 use Rattle.mesh.specs.Mesh.{leaf}
 use Rattle.mesh.specs.State.{State, cells, gridOf}
 use Rattle.mesh.specs.Valid.{Valid}
@@ -17,7 +17,8 @@ use Rattle.mesh.specs.Page.{leaves}
 use Rattle.mesh.specs.Call as Call
 use Rattle.mesh.specs.Call.{unless, over, wrote}
 use Rattle.mesh.specs.Program.{headChecks, tapePage, program, programCall}
-use Rattle.walking.proofs.Walks.{walk-length}
+use Rattle.walking.proofs.Walks.{root-stands}
+use Rattle.walking.proofs.Few.{walk-few}
 use Rattle.walking.proofs.Orders.{permutation-order}
 use Rattle.grid.specs.declared.Wrote.{Wrote}
 use Rattle.grid.specs.Calls.{wroteOf}
@@ -27,7 +28,7 @@ use Rattle.printing.proofs.Ran.{ran, ran-valid}
 
 leaves-few : (s : State) → Valid s → length (leaves s) ≤ length (s .entries)
 unfolding leaves
-leaves-few s v = walk-length s v (leaf (gridOf s) (cells (s .entries))) (SW ∷ NW ∷ SE ∷ NE ∷ []) (permutation-order (3 ∷ 4 ∷ 2 ∷ 1 ∷ []) tt) (base (gridOf s) + 12) (omega arith)
+leaves-few s v = walk-few s v (leaf (gridOf s) (cells (s .entries))) (SW ∷ NW ∷ SE ∷ NE ∷ []) (permutation-order (3 ∷ 4 ∷ 2 ∷ 1 ∷ []) tt) (base (gridOf s) + 12) root (root-stands s v)
 
 -- ---- the program
 

@@ -9,7 +9,6 @@ use mathlib.Core.Bool.{Bool, true, false, not, _&&_, cond, and-true}
 use mathlib.Core.Option.{Option, none, some, Option·none-ne-some, Option·some-injective}
 use mathlib.Core.List.{List, _++_, map}
 use lib.Dec.{T, T-not, not-T, eqb, eqb→eq, eqb-refl}
-use lib.ListN.{length}
 use Rattle.mesh.specs.Tools.{any, count, flat, isSome, orElse}
 use Rattle.mesh.specs.Place.{Place, Wind, root, base, same, kid, parent}
 use Rattle.mesh.specs.Mesh.{patch}
@@ -19,11 +18,11 @@ use Rattle.mesh.specs.Scan.{standing, own, walk}
 use Rattle.geometry.proofs.Bools.{yes-is, is-yes, or-cases}
 use Rattle.geometry.proofs.Lists.{any-append}
 use Rattle.geometry.proofs.Places.{In, same-is, same-refl}
-use Rattle.geometry.proofs.Counting.{count-append, count-none, count-keep, any-parts, count-parts, once-length}
+use Rattle.geometry.proofs.Counting.{count-append, count-none, count-keep, any-parts, count-parts}
 use Rattle.geometry.proofs.Distinct.{keep-in}
 use Rattle.geometry.proofs.Kids.{parent-depth, some-kid}
 use Rattle.geometry.proofs.Tree.{patch-high}
-use Rattle.numbering.proofs.Entries.{used-is, in-list, stands-in}
+use Rattle.numbering.proofs.Entries.{stands-in}
 use Rattle.numbering.proofs.Numbers.{Numbered, valid-numbered, number-place, place-number, numbered-not-zero}
 use Rattle.walking.proofs.Below.{Below, below-here, below-same, below-kid, below-which, below-one, patch-above, root-above}
 
@@ -164,6 +163,9 @@ module _ (s : State) (v : Valid s) where
   pub stands-above : (q : Place) → T (patch (gridOf s) (cells (s .entries)) q) → (m : ℕ) (r : Place) → Below r m q → number (s .entries) r ≢ 0
   stands-above q t m r b = numbered-not-zero (s .entries) (valid-numbered v) r (v .every r (patch-above (gridOf s) (cells (s .entries)) (v .mesh) m b t))
 
+  pub root-stands : number (s .entries) root ≢ 0
+  root-stands = numbered-not-zero (s .entries) (valid-numbered v) root (stands-in (s .entries) 1 root (v .first-root))
+
   -- a walk from the root through all levels meets each patch that it lists once, and nothing else
   pub walk-all : (f : Place → Bool) (ws : List Wind) → Order ws → (n : ℕ) → base (gridOf s) + 12 ≤ n → (k : ℕ) → count (eqb k) (walk (s .entries) f ws n root) ≡ cond (isUsed (entry (s .entries) k) && f (placeAt (s .entries) k)) 1 0
   walk-all f ws ord n h k = go (placeOf (entry (s .entries) k)) refl
@@ -172,7 +174,7 @@ module _ (s : State) (v : Valid s) where
       u = valid-numbered v
 
       met : T (any (eqb k) (walk (s .entries) f ws n root)) → Met (s .entries) f n root k
-      met t = walk-met (s .entries) f ws n root k (numbered-not-zero (s .entries) u root (stands-in (s .entries) 1 root (v .first-root))) t
+      met t = walk-met (s .entries) f ws n root k root-stands t
 
       here : (q : Place) (b : Bool) → placeOf (entry (s .entries) k) ≡ some q → f q ≡ b → count (eqb k) (walk (s .entries) f ws n root) ≡ cond b 1 0
       here q true e y =
@@ -189,21 +191,6 @@ module _ (s : State) (v : Valid s) where
       go : (o : Option Place) → placeOf (entry (s .entries) k) ≡ o → count (eqb k) (walk (s .entries) f ws n root) ≡ cond (isSome o && f (orElse root (λ p. p) o)) 1 0
       go none e = count-none (eqb k) (walk (s .entries) f ws n root) (λ t. Option·none-ne-some _ (sym e ∙ met t .its))
       go (some q) e = here q (f q) e refl
-
-  -- so it is no longer than the list of the entries
-  pub walk-length : (f : Place → Bool) (ws : List Wind) → Order ws → (n : ℕ) → base (gridOf s) + 12 ≤ n → length (walk (s .entries) f ws n root) ≤ length (s .entries)
-  walk-length f ws ord n h = once-length (length (s .entries)) (walk (s .entries) f ws n root) (λ k. rw (walk-all f ws ord n h k) (bit (listed k))) (λ k l. walk-all f ws ord n h k ∙ out k l (isUsed (entry (s .entries) k)) refl)
-    where
-      listed : ℕ → Bool
-      listed k = isUsed (entry (s .entries) k) && f (placeAt (s .entries) k)
-
-      bit : (b : Bool) → cond b 1 0 ≤ 1
-      bit true = omega arith
-      bit false = omega arith
-
-      out : (k : ℕ) → length (s .entries) ≤ k → (b : Bool) → isUsed (entry (s .entries) k) ≡ b → _≡_ {A = ℕ} (cond (listed k) 1 0) 0
-      out k l true e = let (p, q) = used-is (entry (s .entries) k) (is-yes (isUsed (entry (s .entries) k)) e) in absurd (omega (arith, in-list (s .entries) k p q))
-      out k l false e = rw e
 
   -- where it lists everything, each number in use
   pub walk-patches : (ws : List Wind) → Order ws → (n : ℕ) → base (gridOf s) + 12 ≤ n → (k : ℕ) → count (eqb k) (walk (s .entries) (λ q. true) ws n root) ≡ cond (isUsed (entry (s .entries) k)) 1 0
