@@ -1,8 +1,9 @@
 -- What the definitions give where a branch of the code has decided a test.
 -- Assumes nothing.
-use Prim.Native.Nat.{ℕ, zero, suc, _+_, _-_, _*_, _≤_}
+use Prim.Native.Nat.{ℕ, zero, suc, _+_, _-_, _*_, _≤_, _<_}
 use native.Mathlib.Omega.{arith}
-use mathlib.Core.Path.{_≡_, refl, sym, _∙_}
+use native.Mathlib.Decide.{ℕ-discrete}
+use mathlib.Core.Path.{_≡_, refl, sym, ap, _∙_}
 use mathlib.Core.Logic.{_≢_}
 use mathlib.Core.Bool.{Bool, true, false, not, _&&_, _||_, cond}
 use mathlib.Core.List.{List, [], _∷_}
@@ -17,7 +18,7 @@ use Rattle.table.specs.Words.{wordOf, linkOf, flagOf, vacant, taken}
 use Rattle.table.proofs.Taken.{taken-within}
 use Rattle.numbering.proofs.Checks.{passes}
 use Rattle.deciding.specs.Marks.{sentenceTable}
-use Rattle.deciding.specs.Decide.{enoughFrom, enough, kidsDoomed, lacking, otherUnder, row6, row7}
+use Rattle.deciding.specs.Decide.{NoneBelow, enoughFrom, enough, kidsDoomed, lacking, otherUnder, row6, row7}
 
 -- ---- tests
 
@@ -64,14 +65,32 @@ sentence-written t n x y b e f h = rw (e, h, f)
 -- ---- the search for free numbers
 
 module _ (t : List ℤ) where
-  pub search-start : (m cap : ℕ) → enough t cap m ≡ enoughFrom t m (cap + 1 - 1) 1
-  unfolding enough
-  search-start m cap = let e : cap + 1 - 1 ≡ cap = omega arith in rw e
-
   pub search-found : (m l k : ℕ) → m ≡ 0 → true ≡ enoughFrom t m l k
   unfolding enoughFrom
   search-found m zero k e = rw e
   search-found m (suc l) k e = rw e
+
+  -- rows that are not free can be left out
+  search-past : (j m l k : ℕ) → ((i : ℕ) → i < k + j → vacant t i ≡ false) → enoughFrom t m (j + l) k ≡ enoughFrom t m l (k + j)
+  unfolding enoughFrom
+  search-past zero m l k h = let a : 0 + l ≡ l = omega arith in let e : k + 0 ≡ k = omega arith in rw (a, e)
+  search-past (suc j) m l k h =
+      let a : suc j + l ≡ suc (j + l) = omega arith in
+      let z : m - 0 ≡ m = omega arith in
+      let e : suc k + j ≡ k + suc j = omega arith in
+      rw (a, h k (omega arith), z) (ap (λ (b : Bool). eqb m 0 || b) (search-past j m l (suc k) (λ i x. h i (omega arith)) ∙ ap (enoughFrom t m l) e) ∙ found (ℕ-discrete m 0))
+    where
+      found : Dec (m ≡ 0) → (eqb m 0 || enoughFrom t m l (k + suc j)) ≡ enoughFrom t m l (k + suc j)
+      found (yes e) = rw (← search-found m l (k + suc j) e) (rw e)
+      found (no e) = rw (ne-eqb m 0 e)
+
+  pub search-start : (m cap low : ℕ) → low ≤ cap + 1 → NoneBelow t low → enough t cap m ≡ enoughFrom t m (cap + 1 - low) low
+  unfolding enough
+  search-start m cap low l h =
+      let f = h .from in
+      let a : low - 1 + (cap + 1 - low) ≡ cap = omega arith in
+      let b : 1 + (low - 1) ≡ low = omega arith in
+      ap (λ (x : ℕ). enoughFrom t m x 1) (sym a) ∙ search-past (low - 1) m (cap + 1 - low) 1 (λ i x. h .none i (omega arith)) ∙ ap (enoughFrom t m (cap + 1 - low)) b
 
   pub search-over : (m l k : ℕ) → l ≡ 0 → eqb m 0 ≡ enoughFrom t m l k
   unfolding enoughFrom

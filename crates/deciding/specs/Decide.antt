@@ -1,7 +1,8 @@
 -- What a request is refused for, by the words of a table: what 01's checks ask, each of one row or a few, and the refusal of each kind of request.
 -- Assumes nothing.
-use Prim.Native.Nat.{ℕ, zero, suc, _+_, _-_}
-use mathlib.Core.Bool.{Bool, not, _&&_, _||_, cond}
+use Prim.Native.Nat.{ℕ, zero, suc, _+_, _-_, _≤_, _<_}
+use mathlib.Core.Path.{_≡_}
+use mathlib.Core.Bool.{Bool, false, not, _&&_, _||_, cond}
 use mathlib.Core.List.{List, [], _∷_}
 use lib.Dec.{eqb}
 use lib.IntN.{ℤ}
@@ -10,6 +11,11 @@ use Rattle.mesh.specs.Tools.{any, every, count}
 use Rattle.mesh.specs.Valid.{finite}
 use Rattle.mesh.specs.Refusal.{Check, _if_, refusal}
 use Rattle.table.specs.Words.{linkOf, flagOf, vacant, taken, depthOf}
+
+-- no row below low is free
+pub record NoneBelow (t : List ℤ) (low : ℕ) : Type 0 where
+  pub from : 1 ≤ low
+  pub none : (k : ℕ) → k < low → vacant t k ≡ false
 
 module _ (t : List ℤ) where
   -- whether m of the l numbers from k on are free: the search ends as soon as they are found

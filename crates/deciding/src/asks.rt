@@ -6,7 +6,7 @@ ghost use lib.Dec.{eqb};
 ghost use lib.ListN.{length};
 ghost use Rattle.mesh.specs.Picture.{rowWords};
 ghost use Rattle.table.specs.Words.{linkOf, flagOf, vacant};
-ghost use Rattle.deciding.specs.Decide.{parental, kidsDoomed, lacking, enough, otherUnder};
+ghost use Rattle.deciding.specs.Decide.{parental, kidsDoomed, lacking, NoneBelow, enough, otherUnder};
 use table::words::flag;
 use table::words::is_vacant;
 use table::words::link;
@@ -69,13 +69,13 @@ fn left_past(t: &[i32], k: usize, m: usize) -> usize
     if is_vacant(t, k) { m - 1 } else { m }
 }
 
-// Whether m numbers are free: the search ends as soon as they are found.
-pub fn is_enough(t: &[i32], cap: usize, m: usize) -> bool
-    requires { ⌜ (cap * rowWords + rowWords ≤ length (now t)) × (cap ≤ 4095) ⌝ }
+// Whether m numbers are free: the search starts at low, below which none is, and ends as soon as they are found.
+pub fn is_enough(t: &[i32], cap: usize, m: usize, low: usize) -> bool
+    requires { ⌜ (cap * rowWords + rowWords ≤ length (now t)) × (cap ≤ 4095) × (low ≤ cap + 1) × NoneBelow (now t) low ⌝ }
     ensures { λ r. ⌜ r ≡ enough (now (t .entry)) cap m ⌝ }
 {
     let mut left = m;
-    let mut k = 1;
+    let mut k = low;
     while k <= cap {
         if left == 0 {
             return true;

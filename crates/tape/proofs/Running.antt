@@ -37,7 +37,7 @@ module _ (bytes : List ℕ) (cap d mark₀ : ℕ) (t₀ : List ℤ) (v₀ : List
   module _ {t : List ℤ} {v : List Float} {at done low mark : ℕ} (o : Ongoing t v at done low mark) where
     -- what the code asks for, at each request
     pub asked-for : Pictured mark₀ cap d t₀ v₀ → Sized t v cap d low × Tame t cap d
-    asked-for p = let x = o .present (p .state) (p .columns) (p .rows) (p .drawn) (p .depth) in (drawn-sized (x .drawn) (p .depth) (x .bounded .to), drawn-tame (x .drawn) (p .depth))
+    asked-for p = let x = o .present (p .state) (p .columns) (p .rows) (p .drawn) (p .depth) in (drawn-sized (x .drawn) (p .depth) (x .bounded), drawn-tame (x .drawn) (p .depth))
 
     module _ {t′ : List ℤ} {v′ : List Float} {why low′ next : ℕ} (u : Turned bytes at cap d low t v t′ v′ why low′ next) where
       pub goes-next : {mark′ : ℕ} → why ≡ 0 → mark′ ≡ (mark + 1) % 65536 → Ongoing t′ v′ next (done + 1) low′ mark′

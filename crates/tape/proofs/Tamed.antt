@@ -13,9 +13,11 @@ use Rattle.mesh.specs.Valid.{Valid}
 use Rattle.mesh.specs.Picture.{rowWords, table}
 use Rattle.geometry.proofs.Base.{base-range}
 use Rattle.pictures.proofs.Rows.{table-length, amounts-length}
+use Rattle.pictures.proofs.Taken.{vacant-row}
+use Rattle.deciding.specs.Decide.{NoneBelow}
 use Rattle.deciding.proofs.Marked.{flags-small}
 use Rattle.edit.proofs.Meeting.{picture-small}
-use Rattle.tape.specs.Drawn.{Drawn, Sized, Tame}
+use Rattle.tape.specs.Drawn.{Drawn, Bounded, Sized, Tame}
 use Rattle.tape.proofs.Drawing.{drawn-depth, from-picture}
 
 picture-tame : (s : State) → Valid s → Tame (table s) (capacity s) (base (gridOf s))
@@ -25,12 +27,15 @@ module _ {s : State} {columns rows mark cap d : ℕ} {t : List ℤ} {v : List Fl
   pub drawn-tame : Tame t cap d
   drawn-tame = from-picture Tame p e (picture-tame s (p .valid))
 
-  pub drawn-sized : {low : ℕ} → low ≤ cap + 1 → Sized t v cap d low
-  drawn-sized l =
+  drawn-none-below : {low : ℕ} → Bounded (s .entries) cap low → NoneBelow t low
+  drawn-none-below b = rw (p .is-table) (record { from = b .from; none = λ k l. vacant-row s (p .valid) k ∙ b .none-below k l })
+
+  pub drawn-sized : {low : ℕ} → Bounded (s .entries) cap low → Sized t v cap d low
+  drawn-sized b =
       let (least, most) = base-range (gridOf s) (p .valid .rectangle) in
       let x : length t ≡ length (s .entries) * rowWords = ap length (p .is-table) ∙ table-length s in
       let y : length v ≡ length (s .entries) = ap length (p .is-values) ∙ amounts-length s in
       let size = p .valid .sizes in
       let same = p .is-capacity in
       let deep = drawn-depth p e in
-      record { words = omega arith; values = omega arith; cap-from = omega arith; cap-to = omega arith; depth = omega arith; low-to = l }
+      record { words = omega arith; values = omega arith; cap-from = omega arith; cap-to = omega arith; depth = omega arith; low-to = b .to; none-below = drawn-none-below b }

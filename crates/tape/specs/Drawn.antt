@@ -12,6 +12,7 @@ use Rattle.mesh.specs.State.{State, Entry, isFree, entry, capacity}
 use Rattle.mesh.specs.Valid.{Valid}
 use Rattle.mesh.specs.Picture.{rowWords, table, amounts}
 use Rattle.table.specs.Words.{wordOf}
+use Rattle.deciding.specs.Decide.{NoneBelow}
 use Rattle.edit.specs.Small.{AllSmall}
 
 -- the header, the words and the values are those of the state
@@ -30,7 +31,7 @@ pub record Bounded (es : List Entry) (cap low : ℕ) : Type 0 where
 
 -- ---- what the code asks for
 
--- the lengths of the lists and the ranges of the numbers
+-- the lengths of the lists and the ranges of the numbers, and that no row below low is free
 pub record Sized (t : List ℤ) (v : List Float) (cap d low : ℕ) : Type 0 where
   pub words : length t ≡ rowWords * (cap + 1)
   pub values : length v ≡ cap + 1
@@ -38,6 +39,7 @@ pub record Sized (t : List ℤ) (v : List Float) (cap d low : ℕ) : Type 0 wher
   pub cap-to : cap ≤ 4095
   pub depth : d ≤ 6
   pub low-to : low ≤ cap + 1
+  pub none-below : NoneBelow t low
 
 -- the words of every row are small enough for sums with them to fit; those of a picture are
 pub record Tame (t : List ℤ) (cap d : ℕ) : Type 0 where

@@ -23,7 +23,7 @@ pub fn refine(t: &mut [i32], v: &mut [f64], cap: usize, d: u32, n: usize, low: u
     requires { ⌜ Sized (now t) (now v) cap d low × Tame (now t) cap d ⌝ }
     ensures { λ r. ⌜ Applied (refine n) cap d low (now (t .entry)) (now (v .entry)) (now (t .exit)) (now (v .exit)) (r .why) (r .low) ⌝ }
 {
-    let why = refine_refusal(t, cap, d, n);
+    let why = refine_refusal(t, cap, d, n, low);
     if why != 0 {
         return Step { why, low };
     }
