@@ -14,7 +14,8 @@ use lib.IntN.{ℤ}
 use Rattle.mesh.specs.Tools.{all}
 use Rattle.table.specs.Words.{linkOf}
 use Rattle.editing.specs.Steps.{putWord}
-use Rattle.editing.specs.Tables.{Border, refreshUnlessNil, eachKid, refreshDown, refreshLevel, refreshLevels, dropCorner, killTable}
+use Rattle.editing.specs.Tables.{Lowers, Border, refreshUnlessNil, eachKid, refreshDown, refreshLevel, refreshLevels, dropCorner, killTable}
+use Rattle.editing.proofs.Lowering.{lowers-nothing, lowers-then, lowers-none, frees-word, frees-flags, frees-levels}
 use Rattle.geometry.proofs.Lists.{all-at}
 use Rattle.edit.specs.Edges.{ofRow, stillBorder, cleared}
 
@@ -98,3 +99,20 @@ module _ (t : List ℤ) (cap d n : ℕ) where
       t₂ ≡ killTable t cap d n
   unfolding killTable
   killed b h1 h2 h3 h4 h5 h6 h7 h8 = rw (h8, h7, h6, h5, h4, h3, h2, h1)
+
+-- ---- the numbers that a kill frees are those of the corners and the ghosts that go
+
+pub cleared-lowers : (t : List ℤ) (n : ℕ) {low a b c r : ℕ} {t₁ t₂ t₃ t₄ t₅ t₆ : List ℤ} →
+    t₁ ≡ putWord t n 12 0 →
+    t₂ ≡ putWord t₁ n 13 0 →
+    Lowers t₂ t₃ low a →
+    Lowers t₃ t₄ a b →
+    Lowers t₄ t₅ b c →
+    Lowers t₅ t₆ c r →
+    Lowers t t₆ low r
+cleared-lowers t n {low} {t₁ = t₁} h1 h2 f g h i =
+    let none : Lowers t t₁ low low = lowers-none (lowers-nothing t low) (rw h1 (frees-flags t n 0 (λ e. omega arith))) in
+    lowers-then (lowers-none none (rw h2 (frees-word t₁ n 13 0 (omega arith) (λ e. omega arith)))) (lowers-then f (lowers-then g (lowers-then h i)))
+
+pub killed-lowers : (cap d : ℕ) (b : Border) {low r : ℕ} {t t₁ t₂ : List ℤ} → Lowers t t₁ low r → t₂ ≡ refreshLevels 13 b 0 t₁ cap d → Lowers t t₂ low r
+killed-lowers cap d b {t₁ = t₁} f h = rw h (lowers-none f (frees-levels cap d 13 b 0 t₁))

@@ -1,71 +1,27 @@
 -- A new patch doubles the bound of indices and depths at most, since only its own row's are written, from its parent's.
 -- Assumes nothing.
-use mathlib.Core.Path.{_≡_, refl, sym, ap, subst, _∙_}
-use mathlib.Core.Logic.{_≢_}
+use mathlib.Core.Path.{_≡_, sym, subst, _∙_}
 use mathlib.Core.Bool.{Bool, true, false, cond}
-use mathlib.Core.List.{List, [], _∷_}
-use Prim.Native.Nat.{ℕ, zero, suc, _+_, _-_, _*_, _≤_, _<_}
+use mathlib.Core.List.{List}
+use Prim.Native.Nat.{ℕ, _+_, _-_, _*_, _≤_, _<_}
 use native.Mathlib.Omega.{arith}
 use lib.Dec.{eqb}
-use lib.ListN.{set, getD}
-use lib.Seq.{getD-set-other}
+use lib.ListN.{set}
 use lib.IntN.{ℤ, pos, subℕ}
 use Rattle.mesh.specs.Place.{Wind, N, E, S, W, compass}
 use Rattle.mesh.specs.Winds.{wordOfWind}
 use Rattle.mesh.specs.Picture.{rowWords}
-use Rattle.mesh.proofs.Winds.{rule}
 use Rattle.table.specs.Words.{code, wordOf, depthFrom, depthOf}
 use Rattle.table.specs.Worked.{kidWord, sideOf}
 use Rattle.table.proofs.Links.{depth-back}
 use Rattle.pictures.proofs.Linked.{kid-word-lt}
-use Rattle.editing.specs.Steps.{putWord, putUnlessNil, linkSide, placeIn, linkIn}
+use Rattle.editing.specs.Steps.{putWord, linkSide, placeIn, linkIn}
 use Rattle.editing.specs.Tables.{Lending, spot, kidAt, freeFrom, kidSpots, supplied, suppliedAll}
+use Rattle.editing.proofs.Written.{word-other, word-either, Keeps, keeps-put, keeps-unless, keeps-then, wind-word}
 use Rattle.edit.specs.Small.{Small, AllSmall}
 use Rattle.edit.specs.Lent.{lending}
 
--- ---- one word
-
--- what is read after a write is what was written or what was there
-set-either : {A : Type 0} (P : A → Type 0) (l : List A) (i j : ℕ) (a d : A) → P a → P (getD l j d) → P (getD (set l i a) j d)
-set-either P [] i j a d h k = k
-set-either P (x ∷ l) zero zero a d h k = h
-set-either P (x ∷ l) zero (suc j) a d h k = k
-set-either P (x ∷ l) (suc i) zero a d h k = k
-set-either P (x ∷ l) (suc i) (suc j) a d h k = set-either P l i j a d h k
-
-module _ (t : List ℤ) (k w : ℕ) (z : ℤ) (n i : ℕ) where
-  word-other : w < 14 → i < 14 → w ≢ i → wordOf (set t (k * rowWords + w) z) n i ≡ wordOf t n i
-  unfolding wordOf
-  word-other a b h = ap code (getD-set-other t (k * rowWords + w) (n * rowWords + i) z (pos 0) (λ e. h (same e)))
-    where
-      same : n * rowWords + i ≡ k * rowWords + w → w ≡ i
-      same e = omega arith
-
-  word-either : (P : ℕ → Type 0) → P (code z) → P (wordOf t n i) → P (wordOf (set t (k * rowWords + w) z) n i)
-  unfolding wordOf
-  word-either P a b = set-either (λ y. P (code y)) t (k * rowWords + w) (n * rowWords + i) z (pos 0) a b
-
 -- ---- links
-
--- the words of a row past its links
-record Keeps (t u : List ℤ) : Type 0 where
-  same : (n i : ℕ) → 9 ≤ i → i < 14 → wordOf u n i ≡ wordOf t n i
-
-keeps-put : (t : List ℤ) (k w x : ℕ) → w < 9 → Keeps t (putWord t k w x)
-keeps-put t k w x h = record { same = λ n i a b. word-other t k w (pos x) n i (omega arith) b (λ e. omega arith) }
-
-keeps-unless : (t : List ℤ) (k w x : ℕ) → w < 9 → Keeps t (putUnlessNil t k w x)
-keeps-unless t k w x h = go (eqb k 0)
-  where
-    go : (b : Bool) → Keeps t (cond b t (putWord t k w x))
-    go true = record { same = λ n i a b. refl }
-    go false = keeps-put t k w x h
-
-keeps-then : {t u v : List ℤ} → Keeps t u → Keeps u v → Keeps t v
-keeps-then f g = record { same = λ n i a b. g .same n i a b ∙ f .same n i a b }
-
-wind-word : (w : Wind) → wordOfWind w < 9
-wind-word w = let h = rule w .below in omega arith
 
 keeps-side : (t : List ℤ) (cap k : ℕ) (w : Wind) → Keeps t (linkSide t cap k w)
 unfolding linkSide

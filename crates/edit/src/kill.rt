@@ -7,7 +7,7 @@ ghost use lib.ListN.{length, getD};
 ghost use Rattle.mesh.specs.Tools.{all};
 ghost use Rattle.mesh.specs.Picture.{rowWords};
 ghost use Rattle.table.specs.Words.{linkOf};
-ghost use Rattle.editing.specs.Tables.{kidless, dropUp, dropCorner, refreshDown, refreshLevel, refreshLevels, stillUsed, killTable, killValues};
+ghost use Rattle.editing.specs.Tables.{Lowers, kidless, dropUp, dropCorner, refreshDown, refreshLevel, refreshLevels, stillUsed, killTable, killValues};
 ghost use Rattle.edit.specs.Edges.{ofRow, Within, borderOf, stillBorder, cleared};
 use crate::anew::refresh_unless_nil;
 use crate::remove::touched_row;
@@ -30,40 +30,42 @@ fn kidless(t: &[i32], cap: usize, n: usize) -> bool
 }
 
 // A ghost without a kid goes, and then its parent if that has none left, up to so many levels.
-fn drop_up(t: &mut [i32], cap: usize, levels: u32, n: usize)
+fn drop_up(t: &mut [i32], cap: usize, levels: u32, n: usize, low: usize) -> usize
     requires { ⌜ (cap * rowWords + rowWords ≤ length (now t)) × (cap ≤ 4095) × (n ≤ cap) ⌝ }
-    ensures { λ _. ⌜ now (t .exit) ≡ dropUp levels (now (t .entry)) cap n ⌝ }
+    ensures { λ r. ⌜ (now (t .exit) ≡ dropUp levels (now (t .entry)) cap n) × Lowers (now (t .entry)) (now (t .exit)) low r ⌝ }
 {
     let mut e = levels;
     let mut k = n;
+    let mut least = low;
     while e > 0 {
         if k == 0 {
-            return;
+            return least;
         }
         if !kidless(t, cap, k) {
-            return;
+            return least;
         }
         let p = link(t, cap, k, 0);
-        take_out(t, cap, k);
+        least = take_out(t, cap, k, least);
         k = p;
         e -= 1;
     }
+    least
 }
 
 // A corner of the killed cell that no cell touches goes, and the ghosts above it that have no kid left.
-fn drop_corner(t: &mut [i32], cap: usize, d: u32, n: usize)
+fn drop_corner(t: &mut [i32], cap: usize, d: u32, n: usize, low: usize) -> usize
     requires { ⌜ (cap * rowWords + rowWords ≤ length (now t)) × (cap ≤ 4095) × (n ≤ cap) ⌝ }
-    ensures { λ _. ⌜ now (t .exit) ≡ dropCorner (now (t .entry)) cap d n ⌝ }
+    ensures { λ r. ⌜ (now (t .exit) ≡ dropCorner (now (t .entry)) cap d n) × Lowers (now (t .entry)) (now (t .exit)) low r ⌝ }
 {
     if n == 0 {
-        return;
+        return low;
     }
     if touched_row(t, cap, d, n) {
-        return;
+        return low;
     }
     let p = link(t, cap, n, 0);
-    take_out(t, cap, n);
-    drop_up(t, cap, d, p);
+    let a = take_out(t, cap, n, low);
+    drop_up(t, cap, d, p, a)
 }
 
 // The row that the word at place q of ws names.
@@ -169,31 +171,41 @@ fn still_border(
 }
 
 // The cell n is none, and those of its corners that no cell touches any more go.
-fn clear_cell(t: &mut [i32], cap: usize, d: u32, n: usize, north: usize, east: usize, both: usize)
+fn clear_cell(
+    t: &mut [i32],
+    cap: usize,
+    d: u32,
+    n: usize,
+    north: usize,
+    east: usize,
+    both: usize,
+    low: usize,
+) -> usize
     requires { ⌜ (cap * rowWords + rowWords ≤ length (now t)) × (cap ≤ 4095) × (n ≤ cap) × (north ≤ cap) × (east ≤ cap) × (both ≤ cap) ⌝ }
-    ensures { λ _. ⌜ now (t .exit) ≡ cleared (now (t .entry)) cap d n north east both ⌝ }
+    ensures { λ r. ⌜ (now (t .exit) ≡ cleared (now (t .entry)) cap d n north east both) × Lowers (now (t .entry)) (now (t .exit)) low r ⌝ }
 {
     put(t, n, 12, 0);
     put(t, n, 13, 0);
-    drop_corner(t, cap, d, both);
-    drop_corner(t, cap, d, north);
-    drop_corner(t, cap, d, east);
-    drop_corner(t, cap, d, n);
+    let a = drop_corner(t, cap, d, both, low);
+    let b = drop_corner(t, cap, d, north, a);
+    let c = drop_corner(t, cap, d, east, b);
+    drop_corner(t, cap, d, n, c)
 }
 
-// Kills the cell n.
-pub fn kill_table(t: &mut [i32], cap: usize, d: u32, n: usize)
+// Kills the cell n; the bound below which no number is free, after it.
+pub fn kill_table(t: &mut [i32], cap: usize, d: u32, n: usize, low: usize) -> usize
     requires { ⌜ (cap * rowWords + rowWords ≤ length (now t)) × (cap ≤ 4095) × (n ≤ cap) × (d ≤ 32) ⌝ }
-    ensures { λ _. ⌜ now (t .exit) ≡ killTable (now (t .entry)) cap d n ⌝ }
+    ensures { λ r. ⌜ (now (t .exit) ≡ killTable (now (t .entry)) cap d n) × Lowers (now (t .entry)) (now (t .exit)) low r ⌝ }
 {
     let north = link(t, cap, n, 5);
     let east = link(t, cap, n, 6);
     let both = link(t, cap, east, 5);
     let south = link(t, cap, n, 7);
     let west = link(t, cap, n, 8);
-    clear_cell(t, cap, d, n, north, east, both);
+    let next = clear_cell(t, cap, d, n, north, east, both, low);
     let b = still_border(t, cap, n, north, east, both, south, west);
     refresh_levels(t, cap, d, b);
+    next
 }
 
 // The values.
@@ -205,10 +217,11 @@ pub fn kill_values(v: &mut [f64], n: usize)
 }
 
 // Kills the cell n, its value too.
-pub fn kill(t: &mut [i32], v: &mut [f64], cap: usize, d: u32, n: usize)
+pub fn kill(t: &mut [i32], v: &mut [f64], cap: usize, d: u32, n: usize, low: usize) -> usize
     requires { ⌜ (cap * rowWords + rowWords ≤ length (now t)) × (cap ≤ 4095) × (cap < length (now v)) × (n ≤ cap) × (d ≤ 32) ⌝ }
-    ensures { λ _. ⌜ (now (t .exit) ≡ killTable (now (t .entry)) cap d n) × (now (v .exit) ≡ killValues n (now (v .entry))) ⌝ }
+    ensures { λ r. ⌜ (now (t .exit) ≡ killTable (now (t .entry)) cap d n) × (now (v .exit) ≡ killValues n (now (v .entry))) × Lowers (now (t .entry)) (now (t .exit)) low r ⌝ }
 {
-    kill_table(t, cap, d, n);
+    let next = kill_table(t, cap, d, n, low);
     kill_values(v, n);
+    next
 }

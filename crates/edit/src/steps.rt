@@ -1,11 +1,12 @@
 // The steps of a request on the words of a table: a new patch is linked in, and a patch that goes is taken out.
 ghost use mathlib.Core.Path.{_≡_};
-ghost use Prim.Native.Nat.{_+_, _*_, _<_, _≤_};
+ghost use Prim.Native.Nat.{_+_, _-_, _*_, _<_, _≤_};
 ghost use lib.ListN.{length, getD};
 ghost use Rattle.mesh.specs.Place.{NE};
 ghost use Rattle.mesh.specs.Winds.{winds};
 ghost use Rattle.mesh.specs.Picture.{rowWords};
 ghost use Rattle.editing.specs.Steps.{putUnlessNil, linkSide, placeIn, linkIn, dropSide, takeOut};
+ghost use Rattle.editing.specs.Tables.{Lowers};
 ghost use Rattle.edit.specs.Small.{Small};
 use table::words::depth;
 use table::words::link;
@@ -78,10 +79,16 @@ fn drop_side(t: &mut [i32], cap: usize, k: usize, w: usize)
     put_unless_nil(t, x, o + 1, 0);
 }
 
-// The row k, which has no kids, is free.
-pub fn take_out(t: &mut [i32], cap: usize, k: usize)
-    requires { ⌜ (cap * rowWords + rowWords ≤ length (now t)) × (cap ≤ 4095) × (k ≤ cap) ⌝ }
-    ensures { λ _. ⌜ now (t .exit) ≡ takeOut (now (t .entry)) cap k ⌝ }
+fn lesser(a: usize, b: usize) -> usize
+    ensures { λ r. ⌜ r ≡ a - (a - b) ⌝ }
+{
+    if a < b { a } else { b }
+}
+
+// The row k, which has no kids, is free; the bound below which none is, with it.
+pub fn take_out(t: &mut [i32], cap: usize, k: usize, low: usize) -> usize
+    requires { ⌜ (cap * rowWords + rowWords ≤ length (now t)) × (cap ≤ 4095) × (1 ≤ k) × (k ≤ cap) ⌝ }
+    ensures { λ r. ⌜ (now (t .exit) ≡ takeOut (now (t .entry)) cap k) × Lowers (now (t .entry)) (now (t .exit)) low r ⌝ }
 {
     let p = link(t, cap, k, 0);
     let w = kid_word(word(t, k, 10) % 2, word(t, k, 11) % 2);
@@ -91,4 +98,5 @@ pub fn take_out(t: &mut [i32], cap: usize, k: usize)
     drop_side(t, cap, k, 6);
     drop_side(t, cap, k, 7);
     clear_row(t, k);
+    lesser(low, k)
 }

@@ -102,19 +102,19 @@ pub length-dropSide : (t : List ℤ) (cap k : ℕ) (w : Wind) → length (dropSi
 unfolding dropSide
 length-dropSide t cap k w = length-putUnlessNil t (linkOf t cap k (wordOfWind w)) (wordOfWind (compass w .opposite)) 0
 
+-- the table in which no other row names the row k
+abbrev pub unnamed : List ℤ → ℕ → ℕ → List ℤ
+unnamed t cap k =
+    let t₁ = putWord t (linkOf t cap k 0) (kidWord (wordOf t k 10 % 2) (wordOf t k 11 % 2)) 0 in
+    dropSide (dropSide (dropSide (dropSide t₁ cap k N) cap k E) cap k S) cap k W
+
+pub length-unnamed : (t : List ℤ) (cap k : ℕ) → length (unnamed t cap k) ≡ length t
+length-unnamed t cap k = simp (length-dropSide, length-set)
+
 module _ (t : List ℤ) (cap : ℕ) (fits : cap * rowWords + rowWords ≤ length t) where
   pub length-takeOut : (k : ℕ) → k ≤ cap → length (takeOut t cap k) ≡ length t
   unfolding takeOut
-  length-takeOut k h = put-length after freeRow k refl (omega (arith, long)) ∙ long
-    where
-      before : List ℤ
-      before = putWord t (linkOf t cap k 0) (kidWord (wordOf t k 10 % 2) (wordOf t k 11 % 2)) 0
-
-      after : List ℤ
-      after = dropSide (dropSide (dropSide (dropSide before cap k N) cap k E) cap k S) cap k W
-
-      long : length after ≡ length t
-      long = simp (length-dropSide, length-set)
+  length-takeOut k h = put-length (unnamed t cap k) freeRow k refl (omega (arith, length-unnamed t cap k)) ∙ length-unnamed t cap k
 
   pub length-dropUntouched : (d n : ℕ) → n ≤ cap → length (dropUntouched t cap d n) ≡ length t
   length-dropUntouched d n h = length-cond (eqb n 0 || touchedRow t cap d n) _ _ refl (length-takeOut n h)

@@ -1,5 +1,6 @@
 -- The laws of the steps on a linked table, bottom up.
 pub mod Spots
+pub mod Written
 pub mod Linked
 pub mod Rooted
 pub mod Sides
@@ -41,3 +42,4 @@ pub mod Building
 pub mod Sprouts
 pub mod Blank
 pub mod Lengths
+pub mod Lowering

@@ -3,12 +3,13 @@
 use Prim.Native.Nat.{ℕ, _/_, _%_, _^_}
 use native.Mathlib.Omega.{arith}
 use native.Mathlib.Decide.{ℕ-discrete}
-use mathlib.Core.Path.{_≡_, sym, ap, _∙_}
+use mathlib.Core.Path.{_≡_, refl, sym, ap, _∙_}
 use mathlib.Core.Logic.{_≢_}
 use mathlib.Core.Bool.{Bool, true, false, cond}
 use mathlib.Core.Option.{Option}
 use mathlib.Core.List.{List}
 use lib.Dec.{eqb}
+use lib.ListN.{getD}
 use borrow.Author.Tests.{eq-eqb, ne-eqb}
 use Rattle.mesh.specs.Tools.{digits, orElse, isSome}
 use Rattle.mesh.specs.Place.{Place, Grid}
@@ -22,14 +23,17 @@ use Rattle.editing.proofs.Linked.{picture-linked}
 use Rattle.editing.proofs.Setting.{flags-same}
 use Rattle.editing.proofs.Flags.{bit, complete-bit, sentenced-bit}
 
--- a patch is not Dead
-pub flags-alive : (g : Grid) (c : Place → Bool) (p : Place) (b : Bool) → digits (flags g c p b) ≢ 8192
-unfolding flags derived
-flags-alive g c p b e =
-    let dead : eqb (digits (flags g c p b) / 2 ^ 13 % 2) 1 ≡ false = digit-at (flags g c p b) 13 in
+-- a row without the flag Dead is not free
+pub digits-alive : (bs : List Bool) → getD bs 13 false ≡ false → digits bs ≢ 8192
+digits-alive bs h e =
+    let dead : eqb (digits bs / 2 ^ 13 % 2) 1 ≡ false = digit-at bs 13 ∙ h in
     let alive : true ≡ false = rw e at dead in
     let z : _≡_ {A = ℕ} 0 1 = cc in
     omega arith
+
+pub flags-alive : (g : Grid) (c : Place → Bool) (p : Place) (b : Bool) → digits (flags g c p b) ≢ 8192
+unfolding flags derived
+flags-alive g c p b = digits-alive (flags g c p b) refl
 
 -- the mark Sentenced of what stands at a place
 abbrev pub markOf : List Entry → Place → Bool

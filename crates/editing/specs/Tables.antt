@@ -1,14 +1,15 @@
 -- What an accepted refinement, removal or kill does to the words of a table, step by step and only near the cell.
 -- Assumes nothing.
-use Prim.Native.Nat.{ℕ, zero, suc, _+_, _-_}
-use mathlib.Core.Bool.{Bool, not, _&&_, _||_, cond}
+use Prim.Native.Nat.{ℕ, zero, suc, _+_, _-_, _≤_, _<_}
+use mathlib.Core.Path.{_≡_}
+use mathlib.Core.Bool.{Bool, true, not, _&&_, _||_, cond}
 use mathlib.Core.List.{List, [], _∷_, _++_}
 use lib.Dec.{eqb}
 use lib.ListN.{set, getD}
 use lib.IntN.{ℤ}
 use lib.Ieee.{Float}
 use Rattle.mesh.specs.State.{plusZero}
-use Rattle.table.specs.Words.{wordOf, linkOf}
+use Rattle.table.specs.Words.{wordOf, linkOf, vacant}
 use Rattle.table.specs.Worked.{kidWord, cellIn}
 use Rattle.editing.specs.Steps.{putWord, putUnlessNil, linkIn, takeOut}
 use Rattle.editing.specs.Anew.{refreshed}
@@ -24,6 +25,12 @@ freeFrom t (suc n) k = cond (eqb (wordOf t k 12) 8192) k (freeFrom t n (k + 1))
 pub record Lending : Type 0 where
   pub words : List ℤ
   pub low : ℕ
+
+-- t becomes u, and the bound low becomes low′: no row below it is free in u that was not in t
+pub record Lowers (t u : List ℤ) (low low′ : ℕ) : Type 0 where
+  pub below : low′ ≤ low
+  pub from : 1 ≤ low → 1 ≤ low′
+  pub freed : (k : ℕ) → k < low′ → vacant u k ≡ true → vacant t k ≡ true
 
 -- ---- rows near a cell
 

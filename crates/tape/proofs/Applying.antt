@@ -18,7 +18,7 @@ use Rattle.numbering.proofs.Filling.{filled-free, fill-entry}
 use Rattle.deciding.specs.Decide.{refineRefusal, sentenceRefusal, removeRefusal, killRefusal, setRefusal}
 use Rattle.deciding.specs.Marks.{sentenceTable, measureTable}
 use Rattle.deciding.proofs.Marked.{sentence-table, sentence-amounts, set-table, set-amounts}
-use Rattle.editing.specs.Tables.{Lending, refineTable, refineValues, removeTable, removeValues, killTable, killValues}
+use Rattle.editing.specs.Tables.{Lending, Lowers, refineTable, refineValues, removeTable, removeValues, killTable, killValues}
 use Rattle.editing.proofs.Refined.{refine-table}
 use Rattle.editing.proofs.RefinedValues.{refine-values}
 use Rattle.editing.proofs.Removal.{remove-table, remove-values}
@@ -26,7 +26,7 @@ use Rattle.editing.proofs.Killing.{kill-table, kill-values}
 use Rattle.edit.specs.Lent.{lending}
 use Rattle.tape.specs.Drawn.{Drawn, Bounded}
 use Rattle.tape.specs.Applied.{Applied}
-use Rattle.tape.proofs.Drawing.{from-picture, to-picture, bounded-one, accepted-done, marked-drawn}
+use Rattle.tape.proofs.Drawing.{from-picture, to-picture, marked-drawn, lowered-bounded}
 use Rattle.tape.proofs.Deciding.{Decides, refine-decides, sentence-decides, remove-decides, kill-decides, set-decides}
 
 module _ (q : Request) (cap d low : ℕ) (t : List ℤ) (v : List Float) where
@@ -50,9 +50,9 @@ module _ (q : Request) (cap d low : ℕ) (t : List ℤ) (v : List Float) where
     low-to = l;
   }
 
-  -- none is free below 1
-  bounds-one : Bounds 1
-  bounds-one s columns rows mark p e u ok = bounded-one (accepted-done s (p .valid) q ok .valid)
+  -- the bound with the numbers that the words free
+  lowered-bounds : {t′ : List ℤ} {v′ : List Float} {low′ : ℕ} → Makes t′ v′ → Lowers t t′ low low′ → Bounds low′
+  lowered-bounds m f s columns rows mark p e u ok = let (a, c) = m s columns rows mark p e u ok in lowered-bounded p (marked-drawn q p ok a c) f u
 
 -- cells that become others leave the free numbers as they are
 fill-bounded : (ps : List Place) (x : Option Cell) {es : List Entry} {cap low : ℕ} → Bounded es cap low → Bounded (fill ps x es) cap low
@@ -118,8 +118,10 @@ module _ (cap d n low : ℕ) (t : List ℤ) (v : List Float) where
 
   -- ---- remove and kill
 
-  pub remove-applied : {why : ℕ} (t′ : List ℤ) (v′ : List Float) → why ≡ removeRefusal t cap n → why ≡ 0 → t′ ≡ removeTable t cap d n → v′ ≡ removeValues t cap n v → Applied (remove n) cap d low t v t′ v′ 0 1
-  remove-applied t′ v′ x z y w = accepted-applied (remove n) cap d low t v t′ v′ 1 (remove-decides cap d n t v (sym z ∙ x)) makes (bounds-one (remove n) cap d low t v) (omega arith)
+  pub remove-applied : {why : ℕ} (t′ : List ℤ) (v′ : List Float) (low′ : ℕ) → why ≡ removeRefusal t cap n → why ≡ 0 → low ≤ cap + 1
+      → t′ ≡ removeTable t cap d n → v′ ≡ removeValues t cap n v → Lowers t t′ low low′ → Applied (remove n) cap d low t v t′ v′ 0 low′
+  remove-applied t′ v′ low′ x z l y w f =
+      accepted-applied (remove n) cap d low t v t′ v′ low′ (remove-decides cap d n t v (sym z ∙ x)) makes (lowered-bounds (remove n) cap d low t v makes f) (omega (arith, f .below))
     where
       makes : Makes (remove n) cap d low t v t′ v′
       makes s columns rows mark p e b ok = (
@@ -127,8 +129,10 @@ module _ (cap d n low : ℕ) (t : List ℤ) (v : List Float) where
         w ∙ rw (p .is-values) (from-picture (λ t cap d. removeValues t cap n (amounts s) ≡ amounts (effect s (remove n))) p e (remove-values s (p .valid) n ok)),
       )
 
-  pub kill-applied : {why : ℕ} (t′ : List ℤ) (v′ : List Float) → why ≡ killRefusal t cap d n → why ≡ 0 → t′ ≡ killTable t cap d n → v′ ≡ killValues n v → Applied (kill n) cap d low t v t′ v′ 0 1
-  kill-applied t′ v′ x z y w = accepted-applied (kill n) cap d low t v t′ v′ 1 (kill-decides cap d n t v (sym z ∙ x)) makes (bounds-one (kill n) cap d low t v) (omega arith)
+  pub kill-applied : {why : ℕ} (t′ : List ℤ) (v′ : List Float) (low′ : ℕ) → why ≡ killRefusal t cap d n → why ≡ 0 → low ≤ cap + 1
+      → t′ ≡ killTable t cap d n → v′ ≡ killValues n v → Lowers t t′ low low′ → Applied (kill n) cap d low t v t′ v′ 0 low′
+  kill-applied t′ v′ low′ x z l y w f =
+      accepted-applied (kill n) cap d low t v t′ v′ low′ (kill-decides cap d n t v (sym z ∙ x)) makes (lowered-bounds (kill n) cap d low t v makes f) (omega (arith, f .below))
     where
       makes : Makes (kill n) cap d low t v t′ v′
       makes s columns rows mark p e b ok = (

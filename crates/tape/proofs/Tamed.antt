@@ -1,6 +1,6 @@
 -- What the code asks for holds of every picture: lists of the right lengths, and words that are small.
 -- Assumes nothing.
-use Prim.Native.Nat.{ℕ, _+_, _*_, _≤_}
+use Prim.Native.Nat.{ℕ, _*_}
 use native.Mathlib.Omega.{arith}
 use mathlib.Core.Path.{_≡_, ap, _∙_}
 use mathlib.Core.List.{List}
@@ -13,12 +13,11 @@ use Rattle.mesh.specs.Valid.{Valid}
 use Rattle.mesh.specs.Picture.{rowWords, table}
 use Rattle.geometry.proofs.Base.{base-range}
 use Rattle.pictures.proofs.Rows.{table-length, amounts-length}
-use Rattle.pictures.proofs.Taken.{vacant-row}
 use Rattle.deciding.specs.Decide.{NoneBelow}
 use Rattle.deciding.proofs.Marked.{flags-small}
 use Rattle.edit.proofs.Meeting.{picture-small}
 use Rattle.tape.specs.Drawn.{Drawn, Bounded, Sized, Tame}
-use Rattle.tape.proofs.Drawing.{drawn-depth, from-picture}
+use Rattle.tape.proofs.Drawing.{drawn-depth, from-picture, drawn-vacant}
 
 picture-tame : (s : State) → Valid s → Tame (table s) (capacity s) (base (gridOf s))
 picture-tame s v = record { indices = picture-small v; flags = flags-small s }
@@ -28,7 +27,7 @@ module _ {s : State} {columns rows mark cap d : ℕ} {t : List ℤ} {v : List Fl
   drawn-tame = from-picture Tame p e (picture-tame s (p .valid))
 
   drawn-none-below : {low : ℕ} → Bounded (s .entries) cap low → NoneBelow t low
-  drawn-none-below b = rw (p .is-table) (record { from = b .from; none = λ k l. vacant-row s (p .valid) k ∙ b .none-below k l })
+  drawn-none-below b = record { from = b .from; none = λ k l. drawn-vacant p k ∙ b .none-below k l }
 
   pub drawn-sized : {low : ℕ} → Bounded (s .entries) cap low → Sized t v cap d low
   drawn-sized b =

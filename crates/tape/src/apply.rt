@@ -43,7 +43,6 @@ pub fn sentence(t: &mut [i32], v: &mut [f64], cap: usize, d: u32, n: usize, low:
     Step { why: 0, low }
 }
 
-// A removal can free any number, so that the search for free ones starts anew.
 pub fn remove(t: &mut [i32], v: &mut [f64], cap: usize, d: u32, n: usize, low: usize) -> Step
     requires { ⌜ Sized (now t) (now v) cap d low ⌝ }
     ensures { λ r. ⌜ Applied (remove n) cap d low (now (t .entry)) (now (v .entry)) (now (t .exit)) (now (v .exit)) (r .why) (r .low) ⌝ }
@@ -52,8 +51,8 @@ pub fn remove(t: &mut [i32], v: &mut [f64], cap: usize, d: u32, n: usize, low: u
     if why != 0 {
         return Step { why, low };
     }
-    edit::remove::remove(t, v, cap, d, n);
-    Step { why: 0, low: 1 }
+    let next = edit::remove::remove(t, v, cap, d, n, low);
+    Step { why: 0, low: next }
 }
 
 pub fn kill(t: &mut [i32], v: &mut [f64], cap: usize, d: u32, n: usize, low: usize) -> Step
@@ -64,8 +63,8 @@ pub fn kill(t: &mut [i32], v: &mut [f64], cap: usize, d: u32, n: usize, low: usi
     if why != 0 {
         return Step { why, low };
     }
-    edit::kill::kill(t, v, cap, d, n);
-    Step { why: 0, low: 1 }
+    let next = edit::kill::kill(t, v, cap, d, n, low);
+    Step { why: 0, low: next }
 }
 
 pub fn set_value(

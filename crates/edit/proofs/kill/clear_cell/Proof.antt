@@ -1,7 +1,7 @@
 -- `edit::kill::clear_cell` meets its contract.
 -- Assumes nothing.
 use borrow.Author.Needs.{needs}
-use Rattle.edit.proofs.Borders.{cell-cleared}
+use Rattle.edit.proofs.Borders.{cell-cleared, cleared-lowers}
 use Rattle.edit.proofs.kill.clear_cell.Statement.{statement}
 use Rattle.edit.proofs.kill.clear_cell.Tie as tie
 
@@ -35,7 +35,7 @@ returns c =
     let b₅ = b₄ .before .before .before in
     let b₆ = b₅ .before .before .before in
     let b₇ = b₆ .before .before in
-    cell-cleared (b₇ .args .t .now) _ _ _ _ _ _ (b₆ .put .ensures) (b₅ .put2 .ensures) (b₄ .drop-corner .ensures) (b₃ .drop-corner2 .ensures) (b₂ .drop-corner3 .ensures) (b₁ .drop-corner4 .ensures)
+    (cell-cleared (b₇ .args .t .now) _ _ _ _ _ _ (b₆ .put .ensures) (b₅ .put2 .ensures) (b₄ .drop-corner .ensures .0) (b₃ .drop-corner2 .ensures .0) (b₂ .drop-corner3 .ensures .0) (b₁ .drop-corner4 .ensures .0), cleared-lowers (b₇ .args .t .now) _ (b₆ .put .ensures) (b₅ .put2 .ensures) (b₄ .drop-corner .ensures .1) (b₃ .drop-corner2 .ensures .1) (b₂ .drop-corner3 .ensures .1) (b₁ .drop-corner4 .ensures .1))
 
 pub clear-cell-spec : {M : Type 1} → statement M
 clear-cell-spec =

@@ -2,7 +2,7 @@
 -- Assumes nothing.
 use native.Mathlib.Omega.{arith}
 use borrow.Author.Needs.{needs}
-use Rattle.edit.proofs.Borders.{killed}
+use Rattle.edit.proofs.Borders.{killed, killed-lowers}
 use Rattle.edit.proofs.kill.kill_table.Statement.{statement}
 use Rattle.edit.proofs.kill.kill_table.Tie as tie
 
@@ -43,7 +43,7 @@ returns c =
     let b₆ = b₅ .before .before in
     let b₇ = b₆ .before .before in
     let b₈ = b₇ .before .before in
-    killed _ _ _ _ _ (b₈ .link .ensures .1) (b₇ .link2 .ensures .1) (b₆ .link3 .ensures .1) (b₅ .link4 .ensures .1) (b₄ .link5 .ensures .1) (b₃ .clear-cell .ensures) (b₂ .still-border .ensures .1) (b₁ .refresh-levels .ensures)
+    (killed _ _ _ _ _ (b₈ .link .ensures .1) (b₇ .link2 .ensures .1) (b₆ .link3 .ensures .1) (b₅ .link4 .ensures .1) (b₄ .link5 .ensures .1) (b₃ .clear-cell .ensures .0) (b₂ .still-border .ensures .1) (b₁ .refresh-levels .ensures), killed-lowers _ _ _ (b₃ .clear-cell .ensures .1) (b₁ .refresh-levels .ensures))
 
 pub kill-table-spec : {M : Type 1} → statement M
 kill-table-spec =

@@ -16,7 +16,7 @@ same-length : tie.Need-same-length
 same-length c = search needs
 
 returns : tie.Need-returns
-returns c = c .before .drop-untouched .ensures ∙ ap (dropUntouched _ _ _) (c .before .before .before .kid .ensures .1)
+returns c = (c .before .drop-untouched .ensures .0 ∙ ap (dropUntouched _ _ _) (c .before .before .before .kid .ensures .1), c .before .drop-untouched .ensures .1)
 
 pub drop-kid-spec : {M : Type 1} → statement M
 drop-kid-spec = tie.close (tie.spec kid-requires drop-untouched-requires same-length returns)

@@ -1,7 +1,7 @@
 -- `edit::remove::remove_table` meets its contract.
 -- Assumes nothing.
 use borrow.Author.Needs.{needs}
-use Rattle.edit.proofs.Requests.{removed}
+use Rattle.edit.proofs.Requests.{removed, removed-lowers}
 use Rattle.edit.proofs.remove.remove_table.Statement.{statement}
 use Rattle.edit.proofs.remove.remove_table.Tie as tie
 
@@ -38,7 +38,7 @@ returns c =
     let b₅ = b₄ .before .before in
     let b₆ = b₅ .before .before in
     let b₇ = b₆ .before .before .before in
-    removed _ _ _ _ (b₇ .put-cells .ensures) (b₆ .link .ensures .1) (b₅ .link2 .ensures .1) (b₄ .link3 .ensures .1) (b₃ .drop-kids .ensures) (b₂ .drop-corners .ensures) (b₁ .refresh-near .ensures)
+    (removed _ _ _ _ (b₇ .put-cells .ensures) (b₆ .link .ensures .1) (b₅ .link2 .ensures .1) (b₄ .link3 .ensures .1) (b₃ .drop-kids .ensures .0) (b₂ .drop-corners .ensures .0) (b₁ .refresh-near .ensures), removed-lowers _ _ _ _ (b₇ .put-cells .ensures) (b₃ .drop-kids .ensures .1) (b₂ .drop-corners .ensures .1) (b₁ .refresh-near .ensures))
 
 pub remove-table-spec : {M : Type 1} → statement M
 remove-table-spec =

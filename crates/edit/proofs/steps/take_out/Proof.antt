@@ -1,6 +1,7 @@
 -- `edit::steps::take_out` meets its contract.
 -- Assumes nothing.
 use borrow.Author.Needs.{needs}
+use Rattle.editing.proofs.Lowering.{lowers-out}
 use Rattle.edit.proofs.Linking.{taken-out}
 use Rattle.edit.proofs.steps.take_out.Statement.{statement}
 use Rattle.edit.proofs.steps.take_out.Tie as tie
@@ -35,12 +36,15 @@ drop-side-requires-4 c κs = search needs
 clear-row-requires : tie.Need-clear-row-requires
 clear-row-requires c κs = search needs
 
+lesser-requires : tie.Need-lesser-requires
+lesser-requires c κs = search needs
+
 same-length : tie.Need-same-length
 same-length c = search needs
 
 returns : tie.Need-returns
 returns c =
-    let b₁ = c .before in
+    let b₁ = c .before .before in
     let b₂ = b₁ .before .before .before in
     let b₃ = b₂ .before .before .before in
     let b₄ = b₃ .before .before .before in
@@ -50,7 +54,9 @@ returns c =
     let b₈ = b₇ .before in
     let b₉ = b₈ .before .before in
     let b₁₀ = b₉ .before .before in
-    taken-out _ _ _ (b₁₀ .link .ensures .1) (b₉ .word .ensures) (b₈ .word2 .ensures) (b₇ .kid-word .ensures .1) (b₆ .put .ensures) (b₅ .drop-side .ensures) (b₄ .drop-side2 .ensures) (b₃ .drop-side3 .ensures) (b₂ .drop-side4 .ensures) (b₁ .clear-row .ensures)
+    let pre = b₁₀ .before .before .pre in
+    let e = taken-out _ _ _ (b₁₀ .link .ensures .1) (b₉ .word .ensures) (b₈ .word2 .ensures) (b₇ .kid-word .ensures .1) (b₆ .put .ensures) (b₅ .drop-side .ensures) (b₄ .drop-side2 .ensures) (b₃ .drop-side3 .ensures) (b₂ .drop-side4 .ensures) (b₁ .clear-row .ensures) in
+    (e, lowers-out _ _ _ (pre .0) (pre .3) _ (pre .2) e (c .lesser .ensures))
 
 pub take-out-spec : {M : Type 1} → statement M
 take-out-spec =
@@ -66,5 +72,6 @@ take-out-spec =
     drop-side-requires-3
     drop-side-requires-4
     clear-row-requires
+    lesser-requires
     same-length
     returns)

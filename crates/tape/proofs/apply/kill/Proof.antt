@@ -26,7 +26,7 @@ same-length-3 : tie.Need-same-length-3
 same-length-3 c = search needs
 
 returns-2 : tie.Need-returns-2
-returns-2 c = kill-applied _ _ _ _ _ _ _ _ (c .before .before .before .before .before .before .before .kill-refusal .ensures) (c .before .before .before .before .before .before .if1 .left) (c .before .before .before .kill .ensures .0) (c .before .before .before .kill .ensures .1)
+returns-2 c = kill-applied _ _ _ _ _ _ _ _ _ (c .before .before .before .before .before .before .before .kill-refusal .ensures) (c .before .before .before .before .before .before .if1 .left) (omega arith) (c .before .before .before .kill .ensures .0) (c .before .before .before .kill .ensures .1) (c .before .before .before .kill .ensures .2)
 
 pub kill-spec : {M : Type 1} → statement M
 kill-spec =

@@ -26,7 +26,7 @@ same-length-3 : tie.Need-same-length-3
 same-length-3 c = search needs
 
 returns-2 : tie.Need-returns-2
-returns-2 c = remove-applied _ _ _ _ _ _ _ _ (c .before .before .before .before .before .before .before .remove-refusal .ensures) (c .before .before .before .before .before .before .if1 .left) (c .before .before .before .remove .ensures .0) (c .before .before .before .remove .ensures .1)
+returns-2 c = remove-applied _ _ _ _ _ _ _ _ _ (c .before .before .before .before .before .before .before .remove-refusal .ensures) (c .before .before .before .before .before .before .if1 .left) (omega arith) (c .before .before .before .remove .ensures .0) (c .before .before .before .remove .ensures .1) (c .before .before .before .remove .ensures .2)
 
 pub remove-spec : {M : Type 1} → statement M
 remove-spec =

@@ -1,0 +1,141 @@
+-- The bound below which no row is free: it goes down to a row that is taken out, and stays where flags and links are written.
+-- Assumes nothing.
+use Prim.Native.Nat.{ℕ, zero, suc, _+_, _-_, _*_, _%_, _≤_, _<_}
+use native.Mathlib.Omega.{arith}
+use mathlib.Core.Path.{_≡_, refl, sym, ap, _∙_, subst}
+use mathlib.Core.Logic.{_≢_}
+use mathlib.Core.Bool.{Bool, true, false, cond}
+use mathlib.Core.List.{List, [], _∷_}
+use lib.Dec.{eqb}
+use lib.IntN.{ℤ, pos}
+use lib.ListN.{length}
+use borrow.Author.Tests.{eqb-true}
+use Rattle.mesh.specs.Place.{Wind, N, E, S, W, compass}
+use Rattle.mesh.specs.Winds.{wordOfWind}
+use Rattle.mesh.specs.Picture.{rowWords}
+use Rattle.table.specs.Words.{code, wordOf, linkOf, flagOf, vacant}
+use Rattle.table.specs.Worked.{kidWord}
+use Rattle.table.specs.Writes.{freeRow}
+use Rattle.pictures.proofs.Linked.{kid-word-lt}
+use Rattle.editing.specs.Steps.{putWord, putUnlessNil, dropSide, takeOut}
+use Rattle.editing.specs.Anew.{flagsAnew, refreshed}
+use Rattle.editing.specs.Tables.{Lowers, Spot, Border, kidAt, refreshUnlessNil, refreshAt, putCells, eachKid, refreshDown, refreshLevel, refreshLevels}
+use Rattle.editing.proofs.Spots.{put-other}
+use Rattle.editing.proofs.Starting.{digits-alive}
+use Rattle.editing.proofs.Lengths.{unnamed, length-unnamed}
+use Rattle.editing.proofs.Written.{word-other, word-either, Keeps, keeps-put, keeps-unless, keeps-then, wind-word}
+
+pub lowers-nothing : (t : List ℤ) (low : ℕ) → Lowers t t low low
+lowers-nothing t low = record { below = omega arith; from = λ l. l; freed = λ k l e. e }
+
+pub lowers-then : {t u v : List ℤ} {a b c : ℕ} → Lowers t u a b → Lowers u v b c → Lowers t v a c
+lowers-then f g = record {
+  below = omega (arith, f .below, g .below);
+  from = λ l. g .from (f .from l);
+  freed = λ k l e. f .freed k (omega (arith, g .below)) (g .freed k l e);
+}
+
+-- ---- steps that free no row
+
+-- a row that is free in u is so in t
+pub record FreesNone (t u : List ℤ) : Type 0 where
+  pub was : (k : ℕ) → vacant u k ≡ true → vacant t k ≡ true
+
+pub lowers-none : {t u v : List ℤ} {a b : ℕ} → Lowers t u a b → FreesNone u v → Lowers t v a b
+lowers-none f g = record { below = f .below; from = f .from; freed = λ k l e. f .freed k l (g .was k e) }
+
+nothing : {t : List ℤ} → FreesNone t t
+nothing = record { was = λ k e. e }
+
+next : {t u v : List ℤ} → FreesNone t u → FreesNone u v → FreesNone t v
+next f g = record { was = λ k e. f .was k (g .was k e) }
+
+either : (b : Bool) {t u v : List ℤ} → FreesNone t u → FreesNone t v → FreesNone t (cond b u v)
+either true f g = f
+either false f g = g
+
+pub frees-word : (t : List ℤ) (n w x : ℕ) → w < 14 → w ≢ 12 → FreesNone t (putWord t n w x)
+unfolding vacant
+frees-word t n w x l h = record { was = λ k e. ap (λ (y : ℕ). eqb y 8192) (sym (word-other t n w (pos x) k 12 l (omega arith) h)) ∙ e }
+
+pub frees-flags : (t : List ℤ) (n x : ℕ) → x ≢ 8192 → FreesNone t (putWord t n 12 x)
+unfolding vacant
+frees-flags t n x h = record {
+  was = λ k. word-either t n 12 (pos x) k 12 (λ y. eqb y 8192 ≡ true → eqb (wordOf t k 12) 8192 ≡ true) (λ e. absurd (h (eqb-true x 8192 e))) (λ e. e);
+}
+
+-- ---- cells that are none
+
+pub frees-cells : (xs : List Spot) (t : List ℤ) (cap f st : ℕ) → f ≢ 8192 → FreesNone t (putCells xs t cap f st)
+unfolding putCells
+frees-cells [] t cap f st h = nothing
+frees-cells (x ∷ xs) t cap f st h =
+    let k = kidAt t cap x in
+    let u = putUnlessNil t k 12 f in
+    next (either (eqb k 0) nothing (frees-flags t k f h))
+    (next (either (eqb k 0) nothing (frees-word u k 13 st (omega arith) (λ e. omega arith)))
+    (frees-cells xs (putUnlessNil u k 13 st) cap f st h))
+
+-- ---- flags anew: a row that gets them is not Dead
+
+module _ (cap d : ℕ) where
+  frees-refreshed : (t : List ℤ) (n : ℕ) → FreesNone t (refreshed t cap d n)
+  unfolding refreshed flagsAnew
+  frees-refreshed t n = frees-flags t n _ (digits-alive (flagsAnew t cap d n (flagOf t 12 n)) refl)
+
+  frees-anew : (t : List ℤ) (n : ℕ) → FreesNone t (refreshUnlessNil t cap d n)
+  frees-anew t n = either (eqb n 0) nothing (frees-refreshed t n)
+
+  pub frees-near : (xs : List Spot) (t : List ℤ) → FreesNone t (refreshAt xs t cap d)
+  unfolding refreshAt
+  frees-near [] t = nothing
+  frees-near (x ∷ xs) t = next (frees-anew t (kidAt t cap x)) (frees-near xs (refreshUnlessNil t cap d (kidAt t cap x)))
+
+  each : (f : List ℤ → ℕ → List ℤ) → ((t : List ℤ) (k : ℕ) → FreesNone t (f t k)) → (n : ℕ) (ws : List ℕ) (t : List ℤ) → FreesNone t (eachKid f cap n ws t)
+  each f h n [] t = nothing
+  each f h n (w ∷ ws) t = next (h t (linkOf t cap n w)) (each f h n ws (f t (linkOf t cap n w)))
+
+  frees-down : (ws : List ℕ) (e : ℕ) (t : List ℤ) (n : ℕ) → FreesNone t (refreshDown ws e t cap d n)
+  unfolding refreshDown
+  frees-down ws zero t n = frees-anew t n
+  frees-down ws (suc e) t n = either (eqb n 0) nothing (each (λ u k. refreshDown ws e u cap d k) (λ u k. frees-down ws e u k) n ws t)
+
+  frees-level : (b : Border) (e : ℕ) (t : List ℤ) → FreesNone t (refreshLevel b e t cap d)
+  unfolding refreshLevel
+  frees-level b e t =
+      next (frees-down (3 ∷ 2 ∷ 4 ∷ 1 ∷ []) e t (b .own))
+      (next (frees-down (3 ∷ 2 ∷ []) e _ (b .north))
+      (next (frees-down (3 ∷ 4 ∷ []) e _ (b .east))
+      (next (frees-down (3 ∷ []) e _ (b .both))
+      (next (frees-down (4 ∷ 1 ∷ []) e _ (b .south)) (frees-down (2 ∷ 1 ∷ []) e _ (b .west))))))
+
+  pub frees-levels : (n : ℕ) (b : Border) (e : ℕ) (t : List ℤ) → FreesNone t (refreshLevels n b e t cap d)
+  unfolding refreshLevels
+  frees-levels zero b e t = nothing
+  frees-levels (suc n) b e t = next (frees-level b e t) (frees-levels n b (e + 1) (refreshLevel b e t cap d))
+
+-- ---- a row that is taken out
+
+keeps-drop : (t : List ℤ) (cap k : ℕ) (w : Wind) → Keeps t (dropSide t cap k w)
+unfolding dropSide
+keeps-drop t cap k w = keeps-unless t (linkOf t cap k (wordOfWind w)) (wordOfWind (compass w .opposite)) 0 (wind-word (compass w .opposite))
+
+keeps-unnamed : (t : List ℤ) (cap k : ℕ) → Keeps t (unnamed t cap k)
+keeps-unnamed t cap k =
+    keeps-then (keeps-put t (linkOf t cap k 0) (kidWord (wordOf t k 10 % 2) (wordOf t k 11 % 2)) 0 (kid-word-lt (wordOf t k 10 % 2) (wordOf t k 11 % 2) (omega arith)))
+    (keeps-then (keeps-drop _ cap k N) (keeps-then (keeps-drop _ cap k E) (keeps-then (keeps-drop _ cap k S) (keeps-drop _ cap k W))))
+
+module _ (t : List ℤ) (cap k : ℕ) (fits : cap * rowWords + rowWords ≤ length t) (within : k ≤ cap) where
+  -- the flags of the other rows stay
+  out-other : (m : ℕ) → m ≢ k → wordOf (takeOut t cap k) m 12 ≡ wordOf t m 12
+  unfolding takeOut wordOf
+  out-other m h = ap code (put-other (unnamed t cap k) freeRow k refl (omega (arith, length-unnamed t cap k)) m 12 (omega arith) h) ∙ keeps-unnamed t cap k .same m 12 (omega arith) (omega arith)
+
+  -- the bound is the lesser of the two
+  pub lowers-out : (low : ℕ) {r : ℕ} {u : List ℤ} → 1 ≤ k → u ≡ takeOut t cap k → r ≡ low - (low - k) → Lowers t u low r
+  unfolding vacant
+  lowers-out low {r} one e i = subst (λ (x : List ℤ). Lowers t x low r) (sym e) (record {
+    below = omega arith;
+    from = λ l. omega arith;
+    freed = λ m l f. ap (λ (y : ℕ). eqb y 8192) (sym (out-other m (λ z. omega arith))) ∙ f;
+  })
