@@ -5,7 +5,7 @@ use Prim.Native.Nat.{ℕ, zero, suc, _+_, _/_, _%_, _≤_, _<_}
 use native.Mathlib.Omega.{arith}
 use native.Mathlib.Decide.{ℕ-discrete, decLt}
 use mathlib.Core.Path.{_≡_, refl, sym, ap, _∙_}
-use mathlib.Core.Logic.{_≢_, _⊎_, inl, inr}
+use mathlib.Core.Logic.{_⊎_, inl, inr}
 use mathlib.Core.Bool.{Bool, true, false, not, _&&_, _||_, cond, Bool·beq}
 use mathlib.Core.Option.{Option, none, some, Option·some-injective}
 use mathlib.Core.List.{List, [], _∷_}
@@ -29,8 +29,8 @@ use Rattle.geometry.proofs.Bools.{is-yes, yes-is, no-is, and-both, or-left, or-
 use Rattle.geometry.proofs.Lists.{at-every}
 use Rattle.geometry.proofs.Kids.{up, parent-up, no-parent, parent-depth, all-kids, kids-all, kid-has, leaf-cell, leaf-kidless}
 use Rattle.geometry.proofs.Digits.{kidBy, parent-by, kid-by-parent, kid-by-digits}
-use Rattle.geometry.proofs.Near.{Corner, c-east, c-north, c-both}
-use Rattle.geometry.proofs.Tree.{patch-parent, corner-patch, patch-touched, ghost-kid, patch-high}
+use Rattle.geometry.proofs.Near.{c-east, c-north, c-both}
+use Rattle.geometry.proofs.Tree.{patch-parent, patch-touched, ghost-kid, patch-high}
 use Rattle.geometry.proofs.Base.{halved, depth-zero-root}
 use Rattle.numbering.proofs.Entries.{place-used, cell-there}
 use Rattle.numbering.proofs.Numbers.{valid-numbered, number-place, place-number, not-zero, numbered-not-zero, cells-contents, entry-contents}
@@ -38,7 +38,7 @@ use Rattle.pictures.proofs.Rows.{amounts-at}
 use Rattle.pictures.proofs.Equal.{float-refl}
 use Rattle.pictures.proofs.Links.{_of_, wind-lt}
 use Rattle.pictures.proofs.Pictured.{link-word, word-status, free-flags, free-words, nil-words, word-col, word-row, word-flags, sentenced-flag, patch-not-free}
-use Rattle.pictures.proofs.Linked.{kid-word-lt, patch-numbered, depth-of, link-parent, link-side, link-kid-of, kids-every, side-of}
+use Rattle.pictures.proofs.Linked.{kid-word-lt, patch-numbered, corner-numbered, depth-of, link-parent, link-side, link-kid-of, kids-every, side-of}
 use Rattle.pictures.proofs.Flagged.{sentenced-cell, cell-flag, ghost-flags, cell-of, cell-side, flags-from, cell-south}
 
 -- ---- tests
@@ -258,10 +258,6 @@ module _ (s : State) (v : Valid s) where
         (kids-all (λ q. Bool·beq (flagOf (table s) 0 (number es q)) b) p (λ q e. rw (cell-flag s v (some q), is q e) (beq-refl b)))
 
     module _ (t : T (c p)) where
-      -- the number of a corner
-      corner-number : {q : Place} → Corner g p q → number es q ≢ 0
-      corner-number {q} k = numbered-not-zero es (valid-numbered v) q (v .every q (corner-patch g c (v .mesh .low p t) k t))
-
       -- in the rectangle or in a cell of the level below
       abbrev groundTest : Bool
       groundTest = cond (eqb (depthOf (table s) (base g) n) (base g)) (ltb (word n 10) (g .columns) && ltb (word n 11) (g .rows)) (flagOf (table s) 0 (link n 0))
@@ -292,14 +288,14 @@ module _ (s : State) (v : Valid s) where
           let east : link n 6 ≡ number es (toEast g p) = link-side s v n p h E tt in
           let north : link n 5 ≡ number es (toNorth g p) = link-side s v n p h N tt in
           let both : link (number es (toEast g p)) 5 ≡ number es (toNorth g (toEast g p)) =
-          link-side s v (number es (toEast g p)) (toEast g p) (number-place es (toEast g p) (corner-number c-east)) N tt in
+          link-side s v (number es (toEast g p)) (toEast g p) (number-place es (toEast g p) (corner-numbered s v t c-east)) N tt in
           rw (
             east,
             north,
             both,
-            ne-eqb (number es (toEast g p)) 0 (corner-number c-east),
-            ne-eqb (number es (toNorth g p)) 0 (corner-number c-north),
-            ne-eqb (number es (toNorth g (toEast g p))) 0 (corner-number c-both),
+            ne-eqb (number es (toEast g p)) 0 (corner-numbered s v t c-east),
+            ne-eqb (number es (toNorth g p)) 0 (corner-numbered s v t c-north),
+            ne-eqb (number es (toNorth g (toEast g p))) 0 (corner-numbered s v t c-both),
           )
           (at-every (groundTest ∷ (pictured kidCellsAre s n true || pictured kidCellsAre s n false) ∷ []) (ground-ok, (split-ok, tt)))
 

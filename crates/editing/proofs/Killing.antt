@@ -22,11 +22,11 @@ use Rattle.mesh.specs.Picture.{table, amounts}
 use Rattle.mesh.specs.Refusal.{refusal}
 use Rattle.mesh.specs.Request.{kill, checks, effect, fill, prune}
 use Rattle.table.specs.Words.{code, wordOf, linkOf}
-use Rattle.geometry.proofs.Bools.{is-yes, no-is}
+use Rattle.geometry.proofs.Bools.{no-is}
 use Rattle.geometry.proofs.Places.{In, in-one}
 use Rattle.geometry.proofs.Digits.{step-depth}
 use Rattle.geometry.proofs.Near.{Corner, c-here, c-east, c-north, c-both, corner-depth}
-use Rattle.geometry.proofs.Tree.{touched-patch, corner-patch, cell-patch, ghost-kid, kid-ghost}
+use Rattle.geometry.proofs.Tree.{touched-patch, cell-patch, ghost-kid, kid-ghost}
 use Rattle.geometry.proofs.Base.{root-patch}
 use Rattle.geometry.proofs.Kids.{parent-depth}
 use Rattle.geometry.proofs.Along.{anyKid, Along, a-here}
@@ -38,7 +38,7 @@ use Rattle.numbering.proofs.Filling.{fill-number}
 use Rattle.numbering.proofs.Keeping.{Kept}
 use Rattle.numbering.proofs.Naming.{Named, named-in}
 use Rattle.numbering.proofs.Taking.{kill-passed, kill-kept}
-use Rattle.pictures.proofs.Linked.{touched-stands}
+use Rattle.pictures.proofs.Linked.{touched-stands, corner-numbered}
 use Rattle.editing.specs.Linked.{Flags, tableWith, withFlags, flagsOf}
 use Rattle.editing.specs.Steps.{putWord}
 use Rattle.editing.specs.Tables.{stillUsed, refreshLevels, killTable, killValues}
@@ -49,7 +49,7 @@ use Rattle.editing.proofs.Flags.{Ready, link-side}
 use Rattle.editing.proofs.Celling.{withAll, put-value, valuesOf}
 use Rattle.editing.proofs.Starting.{markOf, startFlags, start-alive, picture-start}
 use Rattle.editing.proofs.Thinning.{thinned-nothing, thinned-place, thinned-prune}
-use Rattle.editing.proofs.Losing.{patch-left, untouched-kidless}
+use Rattle.editing.proofs.Losing.{patch-left, high-left, untouched-kidless}
 use Rattle.editing.proofs.Between.{Between, in-between}
 use Rattle.editing.proofs.Pruned.{prune-values}
 use Rattle.editing.proofs.Emptied.{emptied-complete, emptied-sentenced, emptied-away}
@@ -93,9 +93,6 @@ module _ (s : State) (v : Valid s) (n : ℕ) (h : refusal (checks s (kill n)) �
 
   own-number : n ≡ number es p
   own-number = sym (place-number es (r .numbered) n p there)
-
-  corner-there : (q : Place) → Corner g p q → number es q ≢ 0
-  corner-there q k = numbered-not-zero es (r .numbered) q (v .every q (corner-patch g c (omega (arith, ground)) k (its .is-there)))
 
   -- ---- the entries between, and after
 
@@ -155,18 +152,13 @@ module _ (s : State) (v : Valid s) (n : ℕ) (h : refusal (checks s (kill n)) �
       (λ q i.
       let k = in-corner g p q i in
       let e = fill-number (p ∷ []) none es q in
-      (corner-depth k ∙ ground, sym e, λ z. corner-there q k (sym e ∙ z)))
+      (corner-depth k ∙ ground, sym e, λ z. corner-numbered s v (its .is-there) k (sym e ∙ z)))
 
   -- every patch that is left is one of the mesh
   high-patch : (m : ℕ) (q : Place) → placeOf (entry (dropped .left) m) ≡ some q → base g ≤ q .depth → T (patch g (cells between) q)
-  high-patch m q e l = go (any (same q) (corners g p)) refl
-    where
-      go : (b : Bool) → any (same q) (corners g p) ≡ b → T (patch g (cells between) q)
-      go true i = touched-patch g (cells between) q l (dropped .only-touched q (is-yes (any (same q) (corners g p)) i) (stands-in (dropped .left) m q e))
-      go false i =
-          patch-left g c (cells between) (p ∷ []) (mid .left) q l
-          (λ x j k. let w : In q (corners g p) = corner-in g p (subst (λ (y : Place). Corner g y q) (in-one x p j) k) in let z : T false = rw i at w in z)
-          (mid .was-patch m q (thinned-place (dropped .less .thinned) m q e))
+  high-patch m q e l =
+      high-left g c (cells between) (p ∷ []) (mid .left) (corners g p) q l (λ x i k. corner-in g p (subst (λ (y : Place). Corner g y q) (in-one x p i) k))
+      (λ i. dropped .only-touched q i (stands-in (dropped .left) m q e)) (mid .was-patch m q (thinned-place (dropped .less .thinned) m q e))
 
   -- a ghost has a kid, down to level 0
   ghost-patch : (k m : ℕ) (q : Place) → q .depth + k ≡ base g → placeOf (entry (dropped .left) m) ≡ some q → T (patch g (cells between) q)
@@ -270,10 +262,10 @@ module _ (s : State) (v : Valid s) (n : ℕ) (h : refusal (checks s (kill n)) �
       go : (b : Bool) → patch g (cells after) q ≡ b → stillUsed (tableWith g after f₁) (number es q) ≡ number after q
       go true e =
           let i : number after q ≡ number es q = kept .number-is q ∙ rw e in
-          let j : placeOf (entry after (number es q)) ≡ some q = ap (λ (m : ℕ). placeOf (entry after m)) (sym i) ∙ number-place after q (λ z. corner-there q k (sym i ∙ z)) in
+          let j : placeOf (entry after (number es q)) ≡ some q = ap (λ (m : ℕ). placeOf (entry after m)) (sym i) ∙ number-place after q (λ z. corner-numbered s v (its .is-there) k (sym i ∙ z)) in
           rw (ne-eqb (wordOf (tableWith g after f₁) (number es q) 12) 8192 (λ z. alive (any (same q) (p ∷ [])) (sym (flags-of g after f₁ (number es q) q j) ∙ z))) (sym i)
       go false e =
-          let i = kept .freed (number es q) q (number-place es q (corner-there q k)) (λ t. let w : T false = rw e at t in w) in
+          let i = kept .freed (number es q) q (number-place es q (corner-numbered s v (its .is-there) k)) (λ t. let w : T false = rw e at t in w) in
           rw (eq-eqb (wordOf (tableWith g after f₁) (number es q) 12) 8192 (ap code (word-free g after f₁ (number es q) 12 (omega arith) i))) (sym (kept .number-is q ∙ rw e))
 
   -- ---- the steps together
@@ -292,7 +284,7 @@ module _ (s : State) (v : Valid s) (n : ℕ) (h : refusal (checks s (kill n)) �
       let north : linkOf t cap n 5 ≡ number es (toNorth g p) = link-side r f₀ n p there N tt in
       let east : linkOf t cap n 6 ≡ number es (toEast g p) = link-side r f₀ n p there E tt in
       let both : linkOf t cap (linkOf t cap n 6) 5 ≡ number es (toNorth g (toEast g p)) =
-      ap (λ (k : ℕ). linkOf t cap k 5) east ∙ link-side r f₀ (number es (toEast g p)) (toEast g p) (number-place es (toEast g p) (corner-there (toEast g p) c-east)) N tt in
+      ap (λ (k : ℕ). linkOf t cap k 5) east ∙ link-side r f₀ (number es (toEast g p)) (toEast g p) (number-place es (toEast g p) (corner-numbered s v (its .is-there) c-east)) N tt in
       let south : linkOf t cap n 7 ≡ numberOf es (toSouth g p) = link-side r f₀ n p there S tt in
       let west : linkOf t cap n 8 ≡ numberOf es (toWest g p) = link-side r f₀ n p there W tt in
       λ i. finish (own-number i) (north i) (east i) (both i) (south i) (west i) (without-cell i)
@@ -321,5 +313,5 @@ module _ (s : State) (v : Valid s) (n : ℕ) (h : refusal (checks s (kill n)) �
   unfolding killValues effect amounts
   kill-values =
       ap (λ (k : ℕ). set (valuesOf es) k plusZero) own-number
-      ∙ put-value es (r .numbered) p none (corner-there p c-here)
+      ∙ put-value es (r .numbered) p none (corner-numbered s v (its .is-there) c-here)
       ∙ sym (prune-values g between (cell-patch g (cells between) (mid .mesh)))

@@ -2,13 +2,15 @@
 -- Assumes nothing.
 use Prim.Native.Nat.{ℕ, zero, suc, _+_, _-_, _≤_, _<_}
 use native.Mathlib.Omega.{arith}
-use mathlib.Core.Path.{_≡_, subst}
-use mathlib.Core.Bool.{Bool}
+use mathlib.Core.Path.{_≡_, refl, subst}
+use mathlib.Core.Bool.{Bool, true, false}
 use mathlib.Core.Option.{some}
 use mathlib.Core.List.{List}
 use lib.Dec.{T}
-use Rattle.mesh.specs.Place.{Place, Grid, base, parent}
+use Rattle.mesh.specs.Tools.{any}
+use Rattle.mesh.specs.Place.{Place, Grid, base, same, parent}
 use Rattle.mesh.specs.Mesh.{Mesh, touched, patch, leaf}
+use Rattle.geometry.proofs.Bools.{is-yes}
 use Rattle.geometry.proofs.Places.{In}
 use Rattle.geometry.proofs.Kids.{up, parent-up, up-is, parent-depth, leaf-kidless}
 use Rattle.geometry.proofs.Near.{Corner, corner-up, corner-depth, touched-corner, corner-touched}
@@ -20,6 +22,14 @@ module _ (g : Grid) (c d : Place → Bool) (ps : List Place) (left : (r : Place)
   patch-left q l off t =
       let (r, k, b) = touched-corner g c q (patch-touched g c q l t) in
       touched-patch g d q l (corner-touched g d k (left r b (λ i. off r i k)))
+
+  -- where the cells that go touch some places only, a patch stays one if it is touched or none of these places
+  pub high-left : (qs : List Place) (q : Place) → base g ≤ q .depth → ((r : Place) → In r ps → Corner g r q → In q qs) → (In q qs → T (touched g d q)) → T (patch g c q) → T (patch g d q)
+  high-left qs q l near on t = go (any (same q) qs) refl
+    where
+      go : (b : Bool) → any (same q) qs ≡ b → T (patch g d q)
+      go true i = touched-patch g d q l (on (is-yes (any (same q) qs) i))
+      go false i = patch-left q l (λ r j k. let w : T false = rw i at (near r j k) in w) t
 
   -- a ghost stays a patch if every patch of level 0 does
   ghost-by : ((q : Place) → q .depth ≡ base g → T (patch g c q) → T (patch g d q)) → (n : ℕ) (q : Place) → q .depth + n ≡ base g → T (patch g c q) → T (patch g d q)

@@ -21,7 +21,7 @@ use Rattle.geometry.proofs.Bools.{no-is}
 use Rattle.geometry.proofs.Places.{In}
 use Rattle.geometry.proofs.Kids.{up, up-is, in-parent}
 use Rattle.geometry.proofs.Near.{Corner, c-east, corner-up}
-use Rattle.geometry.proofs.Tree.{touched-patch, corner-patch}
+use Rattle.geometry.proofs.Tree.{touched-patch}
 use Rattle.geometry.proofs.Wanted.{wanted-corner, wanted-distinct, kid-wanted}
 use Rattle.geometry.proofs.Frames.{grown-else}
 use Rattle.numbering.proofs.Numbers.{Numbered, valid-numbered, numbered-not-zero, contents}
@@ -29,6 +29,7 @@ use Rattle.numbering.proofs.Filling.{filled-free, fill-entry, fill-place, fill-
 use Rattle.numbering.proofs.Giving.{next-free, Gave, kept-place, kept-number}
 use Rattle.numbering.proofs.Refining.{Refinable, refinable, have, here, kids-there, after-numbered, after-contents, after-cells, after-valid, effect-is, refine-takes}
 use Rattle.table.specs.Words.{wordOf}
+use Rattle.pictures.proofs.Linked.{corner-numbered}
 use Rattle.editing.specs.Linked.{Flags, tableWith, flagsOf}
 use Rattle.editing.specs.Tables.{Lending, kidSpots, wantedSpots, outsideSpots, refreshAt, putCells, suppliedAll, kidStatus, refineTable}
 use Rattle.editing.proofs.Linked.{status-of, picture-linked}
@@ -80,15 +81,11 @@ module _ (s : State) (v : Valid s) (n : ℕ) (p : Place) (x : Cell) (r : Refinab
   low : base g ≤ p .depth
   low = v .mesh .low p (here s v n p x r)
 
-  -- the cell's corners
-  corner-stands : (q : Place) → Corner g p q → number es q ≢ 0
-  corner-stands q k = numbered-not-zero es u q (v .every q (corner-patch g (cells es) low k (here s v n p x r)))
-
   -- the places above the nine are among them
   above-stands : (q o : Place) → In q (wanted g p) → parent q ≡ some o → number es o ≢ 0
   above-stands q o i e =
       let (k, a, c) = wanted-corner g p q i in
-      corner-stands o (subst (λ (z : Place). Corner g p z) (up-is q o e) (subst (λ (z : Place). Corner g z (up q)) (up-is k p a) (corner-up c)))
+      corner-numbered s v (here s v n p x r) (subst (λ (z : Place). Corner g p z) (up-is q o e) (subst (λ (z : Place). Corner g z (up q)) (up-is k p a) (corner-up c)))
 
   given-own : placeOf (entry (given .entries) n) ≡ some p
   given-own = kept-place gave n p own
@@ -103,7 +100,7 @@ module _ (s : State) (v : Valid s) (n : ℕ) (p : Place) (x : Cell) (r : Refinab
   after-number = fill-number (kids p) (some (kidCell x)) (given .entries)
 
   east-stands : number after (toEast g p) ≢ 0
-  east-stands z = let y = corner-stands (toEast g p) c-east in y (sym (after-number (toEast g p) ∙ kept-number gave (toEast g p) y) ∙ z)
+  east-stands z = let y = corner-numbered s v (here s v n p x r) c-east in y (sym (after-number (toEast g p) ∙ kept-number gave (toEast g p) y) ∙ z)
 
   -- ---- the flags before the rows are refreshed
 
@@ -162,7 +159,7 @@ module _ (s : State) (v : Valid s) (n : ℕ) (p : Place) (x : Cell) (r : Refinab
 
     supplied-table : Lends g cap f given supply
     supplied-table =
-        let names : AllNamed es (p .depth) (wantedSpots (table s) cap n) (map some (wanted g p)) = rw (picture-start s u) (wanted-named (valid-rooted v) f n p own (corner-stands (toEast g p) c-east)) in
+        let names : AllNamed es (p .depth) (wantedSpots (table s) cap n) (map some (wanted g p)) = rw (picture-start s u) (wanted-named (valid-rooted v) f n p own (corner-numbered s v (here s v n p x r) c-east)) in
         give-lends (start-alive g es) (r .low) (wanted g p) start names above-stands (wanted-distinct g p) (r .room)
 
     -- ---- the kids are cells

@@ -6,7 +6,7 @@ use native.Mathlib.Omega.{arith}
 use native.Mathlib.Decide.{decLe}
 use mathlib.Core.Path.{_≡_, refl, sym, ap, _∙_, subst}
 use mathlib.Core.Logic.{_≢_}
-use mathlib.Core.Bool.{Bool, true, false, cond}
+use mathlib.Core.Bool.{Bool, false, cond}
 use mathlib.Core.Option.{none, some}
 use mathlib.Core.List.{List, _++_, map}
 use lib.Dec.{T}
@@ -19,12 +19,12 @@ use Rattle.mesh.specs.Valid.{Valid}
 use Rattle.mesh.specs.Picture.{table, amounts}
 use Rattle.mesh.specs.Refusal.{refusal}
 use Rattle.mesh.specs.Request.{remove, checks, effect, wanted, fill, prune}
-use Rattle.geometry.proofs.Bools.{is-yes, no-is}
+use Rattle.geometry.proofs.Bools.{no-is}
 use Rattle.geometry.proofs.Places.{In}
 use Rattle.geometry.proofs.Kids.{in-parent, parent-depth, leaf-cell}
 use Rattle.geometry.proofs.Near.{c-east, corner-depth}
-use Rattle.geometry.proofs.Tree.{touched-patch, corner-patch, cell-patch}
-use Rattle.geometry.proofs.Wanted.{corner-wanted, kid-wanted, wanted-depth}
+use Rattle.geometry.proofs.Tree.{cell-patch}
+use Rattle.geometry.proofs.Wanted.{corner-wanted, kid-wanted}
 use Rattle.numbering.proofs.Entries.{stands-in}
 use Rattle.numbering.proofs.Numbers.{numbered-not-zero, contents}
 use Rattle.numbering.proofs.Filling.{fill-place, fill-number, fill-stands}
@@ -32,7 +32,7 @@ use Rattle.numbering.proofs.Pruning.{prune-kept}
 use Rattle.numbering.proofs.Keeping.{Kept}
 use Rattle.numbering.proofs.Naming.{Named}
 use Rattle.numbering.proofs.Taking.{remove-passed, remove-kept}
-use Rattle.pictures.proofs.Linked.{touched-stands}
+use Rattle.pictures.proofs.Linked.{touched-stands, corner-numbered}
 use Rattle.editing.specs.Linked.{Flags, tableWith}
 use Rattle.editing.specs.Tables.{kidSpots, wantedSpots, outsideSpots, putCells, dropAt, refreshAt, putValues, removeTable, removeValues}
 use Rattle.editing.proofs.Linked.{picture-linked}
@@ -45,7 +45,7 @@ use Rattle.editing.proofs.Starting.{startFlags, picture-start}
 use Rattle.editing.proofs.Emptied.{emptied-complete, emptied-sentenced, emptied-away}
 use Rattle.editing.proofs.Nearby.{Nearly, ready, refresh-near}
 use Rattle.editing.proofs.Thinning.{thinned-nothing, thinned-place, thinned-prune}
-use Rattle.editing.proofs.Losing.{patch-left, ghost-left, untouched-kidless}
+use Rattle.editing.proofs.Losing.{patch-left, high-left, ghost-left, untouched-kidless}
 use Rattle.editing.proofs.Dropping.{Dropped, dropped-all}
 use Rattle.editing.proofs.Between.{Between, in-between}
 use Rattle.editing.proofs.Pruned.{prune-values}
@@ -82,9 +82,6 @@ module _ (s : State) (v : Valid s) (n : ℕ) (h : refusal (checks s (remove n)) 
 
   there : placeOf (entry es n) ≡ some p
   there = ap placeOf (its .is-entry)
-
-  east-there : number es (toEast g p) ≢ 0
-  east-there = numbered-not-zero es (r .numbered) (toEast g p) (v .every (toEast g p) (corner-patch g c low c-east (its .is-there)))
 
   -- ---- the entries between, and after
 
@@ -152,31 +149,23 @@ module _ (s : State) (v : Valid s) (n : ℕ) (h : refusal (checks s (remove n)) 
       dropped-all cap (omega (arith, low)) (ready near₁)
       (λ q d out m z e k. untouched-kidless g c (cells between) (kids p) (mid .left) (v .mesh) leaves q z (omega (arith, low)) out k (mid .was-patch m z e))
       (map some (wanted g p)) (record { rooted = r₁; thinned = thinned-nothing g (cells between) between })
-      (wanted-named r₁ f₁ n p there₁ (λ z. east-there (sym (fill-number (kids p) none es (toEast g p)) ∙ z)))
+      (wanted-named r₁ f₁ n p there₁ (λ z. corner-numbered s v (its .is-there) c-east (sym (fill-number (kids p) none es (toEast g p)) ∙ z)))
 
   -- every patch that is left is one of the mesh
   left-patch : (m : ℕ) (q : Place) → placeOf (entry (dropped .left) m) ≡ some q → T (patch g (cells between) q)
-  left-patch m q e = go (any (same q) (wanted g p)) refl
+  left-patch m q e = go (decLe (base g) (q .depth))
     where
       was : T (patch g c q)
       was = mid .was-patch m q (thinned-place (dropped .less .thinned) m q e)
 
-      high : base g ≤ q .depth → (In q (wanted g p) → ⊥) → T (patch g (cells between) q)
-      high l o = patch-left g c (cells between) (kids p) (mid .left) q l (λ x i k. o (corner-wanted g p (in-parent x p i) k)) was
-
       ground : (x : Place) → x .depth ≡ base g → T (patch g c x) → T (patch g (cells between) x)
       ground x d = patch-left g c (cells between) (kids p) (mid .left) x (omega arith) (λ y i k. omega (arith, low, corner-depth k, parent-depth y p (in-parent y p i)))
 
-      deep : (In q (wanted g p) → ⊥) → Dec (base g ≤ q .depth) → T (patch g (cells between) q)
-      deep o (yes l) = high l o
-      deep o (no l) = ghost-left g c (cells between) (kids p) (mid .left) ground q (omega (arith, l)) was
-
-      go : (b : Bool) → any (same q) (wanted g p) ≡ b → T (patch g (cells between) q)
-      go true i =
-          let k : In q (wanted g p) = is-yes (any (same q) (wanted g p)) i in
-          touched-patch g (cells between) q (omega (arith, low, wanted-depth g p q k))
-          (dropped .only-touched q (rw (among-all q (wanted g p)) k) (stands-in (dropped .left) m q e))
-      go false i = deep (λ k. let w : T false = rw i at k in w) (decLe (base g) (q .depth))
+      go : Dec (base g ≤ q .depth) → T (patch g (cells between) q)
+      go (yes l) =
+          high-left g c (cells between) (kids p) (mid .left) (wanted g p) q l (λ x i k. corner-wanted g p (in-parent x p i) k)
+          (λ k. dropped .only-touched q (rw (among-all q (wanted g p)) k) (stands-in (dropped .left) m q e)) was
+      go (no l) = ghost-left g c (cells between) (kids p) (mid .left) ground q (omega (arith, l)) was
 
   left-is : dropped .left ≡ after
   left-is = thinned-prune (dropped .less .thinned) left-patch
@@ -195,15 +184,12 @@ module _ (s : State) (v : Valid s) (n : ℕ) (h : refusal (checks s (remove n)) 
   there₂ : placeOf (entry after n) ≡ some p
   there₂ = ap placeOf (prune-kept g between n p there₁ (rw (← mid .cells-same) (cell-patch g (cells after) (kept .valid .mesh) p p-cell))) ∙ there₁
 
-  east-there₂ : number after (toEast g p) ≢ 0
-  east-there₂ = numbered-not-zero after (r₂ .numbered) (toEast g p) (kept .valid .every (toEast g p) (corner-patch g (cells after) low c-east p-cell))
-
   pub remove-table : removeTable (table s) (capacity s) (base (gridOf s)) n ≡ table (effect s (remove n))
   unfolding removeTable effect
   remove-table =
       ap (λ (t : List ℤ). let u = dropAt (wantedSpots t cap n) t cap (base g) in refreshAt (wantedSpots u cap n ++ outsideSpots u cap n) u cap (base g)) without-cells
       ∙ ap (λ (u : List ℤ). refreshAt (wantedSpots u cap n ++ outsideSpots u cap n) u cap (base g)) (dropped .is-table ∙ ap (λ (ds : List Entry). tableWith g ds f₁) left-is)
-      ∙ refresh-near near₂ r₂ n there₂ east-there₂
+      ∙ refresh-near near₂ r₂ n there₂ (corner-numbered (withEntries s after) (kept .valid) p-cell c-east)
       ∙ sym (picture-linked (withEntries s after) (r₂ .numbered))
 
   pub remove-values : removeValues (table s) (capacity s) n (amounts s) ≡ amounts (effect s (remove n))

@@ -22,7 +22,7 @@ use Rattle.table.specs.Words.{linkOf, depthOf}
 use Rattle.table.specs.Worked.{kidWord, sideOf}
 use Rattle.geometry.proofs.Kids.{parent-up, no-parent, parent-kid}
 use Rattle.geometry.proofs.Digits.{kidBy, colMoved, rowMoved, stays, step-digits}
-use Rattle.geometry.proofs.Near.{touched-corner}
+use Rattle.geometry.proofs.Near.{Corner, touched-corner}
 use Rattle.geometry.proofs.Tree.{corner-patch, patch-parent, patch-high}
 use Rattle.geometry.proofs.Base.{base-range, depth-zero-root}
 use Rattle.numbering.proofs.Numbers.{valid-numbered, number-place, place-number, numbered-not-zero}
@@ -59,6 +59,10 @@ module _ (s : State) (v : Valid s) where
   -- a patch stands under its place's number
   pub patch-numbered : (p : Place) → T (patch g c p) → placeOf (entry es (number es p)) ≡ some p
   patch-numbered p t = number-place es p (numbered-not-zero es (valid-numbered v) p (v .every p t))
+
+  -- the corners of a cell have numbers
+  pub corner-numbered : {p q : Place} → T (c p) → Corner g p q → number es q ≢ 0
+  corner-numbered {p} {q} t k = numbered-not-zero es (valid-numbered v) q (v .every q (corner-patch g c (v .mesh .low p t) k t))
 
   -- the depth that the level's word says
   pub depth-of : (n : ℕ) (p : Place) → placeOf (entry es n) ≡ some p → depthOf (table s) (base g) n ≡ p .depth
