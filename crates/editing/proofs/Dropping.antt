@@ -40,6 +40,22 @@ pub record Less (g : Grid) (cap : ℕ) (c : Place → Bool) (es ds : List Entry)
   pub rooted : Rooted g cap ds
   pub thinned : Thinned g c es ds
 
+-- the table t is what is left of the entries ds, thinner than es
+pub record Left (g : Grid) (cap : ℕ) (c : Place → Bool) (f : Flags) (es ds : List Entry) (t : List ℤ) : Type 0 where
+  pub left : List Entry
+  pub is-table : t ≡ tableWith g left f
+  pub less : Less g cap c es left
+  pub fewer : (q : Place) → T (any (stands q) left) → T (any (stands q) ds)
+
+module _ {g : Grid} {cap : ℕ} {c : Place → Bool} {f : Flags} {es ds : List Entry} {t : List ℤ} where
+  -- all of them
+  abbrev pub left-whole : Less g cap c es ds → t ≡ tableWith g ds f → Left g cap c f es ds t
+  left-whole h i = record { left = ds; is-table = i; less = h; fewer = λ q u. u }
+
+  -- what is left of some that are fewer
+  abbrev pub left-then : {ms : List Entry} {u : List ℤ} → ((q : Place) → T (any (stands q) ms) → T (any (stands q) ds)) → t ≡ u → Left g cap c f es ms u → Left g cap c f es ds t
+  left-then k i a = record { left = a .left; is-table = i ∙ a .is-table; less = a .less; fewer = λ q u. k q (a .fewer q u) }
+
 module _ {g : Grid} {cap : ℕ} {c : Place → Bool} {es ds : List Entry} (h : Less g cap c es ds) where
   -- the flags' needs stay right, as the touched places from level 0 up are patches
   pub less-ready : {f : Flags} {e : ℕ} → base g ≤ e → Ready g es f c e → Ready g ds f c e
@@ -86,20 +102,17 @@ module _ {g : Grid} {cap : ℕ} {c : Place → Bool} {es ds : List Entry} (h : L
 
 -- ---- the places of some spots, where no cell touches them
 
--- the table t is what is left of the entries ds, thinner than es, and of the places qs only touched ones are; no number changes at the depth e
+-- of the places qs only touched ones are left; no number changes at the depth e
 pub record Dropped (g : Grid) (cap : ℕ) (c : Place → Bool) (f : Flags) (e : ℕ) (es ds : List Entry) (t : List ℤ) (qs : List (Option Place)) : Type 0 where
-  pub left : List Entry
-  pub is-table : t ≡ tableWith g left f
-  pub less : Less g cap c es left
-  pub fewer : (q : Place) → T (any (stands q) left) → T (any (stands q) ds)
-  pub above : (o : Place) → o .depth ≡ e → number ds o ≡ number left o
-  pub only-touched : (q : Place) → T (among q qs) → T (any (stands q) left) → T (touched g c q)
+  pub rest : Left g cap c f es ds t
+  pub above : (o : Place) → o .depth ≡ e → number ds o ≡ number (rest .left) o
+  pub only-touched : (q : Place) → T (among q qs) → T (any (stands q) (rest .left)) → T (touched g c q)
 
 module _ {g : Grid} (cap : ℕ) {es : List Entry} {f : Flags} {c : Place → Bool} {e : ℕ} (low : base g ≤ suc e) (ready : Ready g es f c (suc e))
     (kidless : (q : Place) → q .depth ≡ suc e → (T (touched g c q) → ⊥) → (n : ℕ) (z : Place) → placeOf (entry es n) ≡ some z → parent z ≡ some q → ⊥) where
   module _ {ds : List Entry} (h : Less g cap c es ds) where
     unchanged : {t : List ℤ} {qs : List (Option Place)} → t ≡ tableWith g ds f → ((q : Place) → T (among q qs) → T (any (stands q) ds) → T (touched g c q)) → Dropped g cap c f e es ds t qs
-    unchanged i k = record { left = ds; is-table = i; less = h; fewer = λ q t. t; above = λ o d. refl; only-touched = k }
+    unchanged i k = record { rest = left-whole h i; above = λ o d. refl; only-touched = k }
 
     dropped-out : (q : Place) → q .depth ≡ suc e → number ds q ≢ 0 → (T (touched g c q) → ⊥) → Dropped g cap c f e es ds (takeOut (tableWith g ds f) cap (number ds q)) (some q ∷ [])
     dropped-out q d z k =
@@ -108,10 +121,7 @@ module _ {g : Grid} (cap : ℕ) {es : List Entry} {f : Flags} {c : Place → Boo
         let bare : (n : ℕ) (p : Place) → placeOf (entry ds n) ≡ some p → parent p ≡ some q → ⊥ = λ n p i. kidless q d k n p (thinned-place (h .thinned) n p i) in
         let out : T (any (stands q) (set ds (number ds q) free)) → ⊥ = out-gone h f q z gone not-root bare in
         record {
-          left = set ds (number ds q) free;
-          is-table = out-table h f q z gone not-root bare;
-          less = out-less h f q z gone not-root bare;
-          fewer = λ p t. out-fewer h f q z gone not-root bare p t;
+          rest = left-then (out-fewer h f q z gone not-root bare) (out-table h f q z gone not-root bare) (left-whole (out-less h f q z gone not-root bare) refl);
           above = λ o i. sym (out-number h f q z gone not-root bare o (λ y. (let x : o .depth ≡ q .depth = ap (λ (p : Place). p .depth) y in omega arith)));
           only-touched = λ p i t. absurd (out (subst (λ (x : Place). T (any (stands x) (set ds (number ds q) free))) (in-one p q i) t));
         }
@@ -142,14 +152,14 @@ module _ {g : Grid} (cap : ℕ) {es : List Entry} {f : Flags} {c : Place → Boo
   dropped-all [] h no-more = unchanged h refl (λ q i. absurd i)
   dropped-all (o ∷ qs) {ds} h (one-more {x} {xs = xs} n ns) =
       let a = dropped-one h o (λ q i. named-depth (subst (Names ds e x) i n)) in
-      let b = dropped-all qs (a .less) (named-same (a .above) ns) in
+      let b = dropped-all qs (a .rest .less) (named-same (a .above) ns) in
       record {
-        left = b .left;
-        is-table = ap (λ (k : ℕ). dropAt xs (dropUntouched (tableWith g ds f) cap (base g) k) cap (base g)) (kid-at (h .rooted) f n) ∙ ap (λ (t : List ℤ). dropAt xs t cap (base g)) (a .is-table) ∙ b .is-table;
-        less = b .less;
-        fewer = λ q t. a .fewer q (b .fewer q t);
+        rest =
+            left-then (a .rest .fewer)
+            (ap (λ (k : ℕ). dropAt xs (dropUntouched (tableWith g ds f) cap (base g) k) cap (base g)) (kid-at (h .rooted) f n) ∙ ap (λ (t : List ℤ). dropAt xs t cap (base g)) (a .rest .is-table))
+            (b .rest);
         above = λ p d. a .above p d ∙ b .above p d;
-        only-touched = λ q i t. either q (orElse false (same q) o) (or-cases (orElse false (same q) o) (among q qs) i) (λ j. a .only-touched q (or-left (orElse false (same q) o) false j) (b .fewer q t)) (λ j. b .only-touched q j t);
+        only-touched = λ q i t. either q (orElse false (same q) o) (or-cases (orElse false (same q) o) (among q qs) i) (λ j. a .only-touched q (or-left (orElse false (same q) o) false j) (b .rest .fewer q t)) (λ j. b .only-touched q j t);
       }
     where
       either : (q : Place) (b : Bool) → T b ⊎ T (among q qs) → (T b → T (touched g c q)) → (T (among q qs) → T (touched g c q)) → T (touched g c q)

@@ -155,36 +155,36 @@ module _ (s : State) (v : Valid s) (n : ℕ) (h : refusal (checks s (kill n)) �
       (corner-depth k ∙ ground, sym e, λ z. corner-numbered s v (its .is-there) k (sym e ∙ z)))
 
   -- every patch that is left is one of the mesh
-  high-patch : (m : ℕ) (q : Place) → placeOf (entry (dropped .left) m) ≡ some q → base g ≤ q .depth → T (patch g (cells between) q)
+  high-patch : (m : ℕ) (q : Place) → placeOf (entry (dropped .rest .left) m) ≡ some q → base g ≤ q .depth → T (patch g (cells between) q)
   high-patch m q e l =
       high-left g c (cells between) (p ∷ []) (mid .left) (corners g p) q l (λ x i k. corner-in g p (subst (λ (y : Place). Corner g y q) (in-one x p i) k))
-      (λ i. dropped .only-touched q i (stands-in (dropped .left) m q e)) (mid .was-patch m q (thinned-place (dropped .less .thinned) m q e))
+      (λ i. dropped .only-touched q i (stands-in (dropped .rest .left) m q e)) (mid .was-patch m q (thinned-place (dropped .rest .less .thinned) m q e))
 
   -- a ghost has a kid, down to level 0
-  ghost-patch : (k m : ℕ) (q : Place) → q .depth + k ≡ base g → placeOf (entry (dropped .left) m) ≡ some q → T (patch g (cells between) q)
+  ghost-patch : (k m : ℕ) (q : Place) → q .depth + k ≡ base g → placeOf (entry (dropped .rest .left) m) ≡ some q → T (patch g (cells between) q)
   ghost-patch zero m q d e = high-patch m q e (omega arith)
   ghost-patch (suc k) m q d e =
-      let (z, i, t) = dropped .budding q (omega arith) (stands-in (dropped .left) m q e) in
-      let (j, b, u) = in-stands (dropped .left) z t in
+      let (z, i, t) = dropped .budding q (omega arith) (stands-in (dropped .rest .left) m q e) in
+      let (j, b, u) = in-stands (dropped .rest .left) z t in
       kid-ghost g (cells between) q z (omega arith) i (ghost-patch k j z (omega (arith, parent-depth z q i)) u)
 
-  left-patch : (m : ℕ) (q : Place) → placeOf (entry (dropped .left) m) ≡ some q → T (patch g (cells between) q)
+  left-patch : (m : ℕ) (q : Place) → placeOf (entry (dropped .rest .left) m) ≡ some q → T (patch g (cells between) q)
   left-patch m q e = go (decLe (base g) (q .depth))
     where
       go : Dec (base g ≤ q .depth) → T (patch g (cells between) q)
       go (yes l) = high-patch m q e l
       go (no l) = ghost-patch (base g - q .depth) m q (omega (arith, l)) e
 
-  left-is : dropped .left ≡ after
-  left-is = thinned-prune (dropped .less .thinned) left-patch
+  left-is : dropped .rest .left ≡ after
+  left-is = thinned-prune (dropped .rest .less .thinned) left-patch
 
   without-corners : dropCorners (map (number es) (corners g p)) (tableWith g between f₁) cap (base g) ≡ tableWith g after f₁
-  without-corners = dropped .is-table ∙ ap (λ (ds : List Entry). tableWith g ds f₁) left-is
+  without-corners = dropped .rest .is-table ∙ ap (λ (ds : List Entry). tableWith g ds f₁) left-is
 
   -- ---- the flags along the border are worked out anew
 
   r₂ : Rooted g cap after
-  r₂ = subst (Rooted g cap) left-is (dropped .less .rooted)
+  r₂ = subst (Rooted g cap) left-is (dropped .rest .less .rooted)
 
   aim : Aim g cap after
   aim = record {

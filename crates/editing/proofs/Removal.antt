@@ -152,11 +152,11 @@ module _ (s : State) (v : Valid s) (n : ℕ) (h : refusal (checks s (remove n)) 
       (wanted-named r₁ f₁ n p there₁ (λ z. corner-numbered s v (its .is-there) c-east (sym (fill-number (kids p) none es (toEast g p)) ∙ z)))
 
   -- every patch that is left is one of the mesh
-  left-patch : (m : ℕ) (q : Place) → placeOf (entry (dropped .left) m) ≡ some q → T (patch g (cells between) q)
+  left-patch : (m : ℕ) (q : Place) → placeOf (entry (dropped .rest .left) m) ≡ some q → T (patch g (cells between) q)
   left-patch m q e = go (decLe (base g) (q .depth))
     where
       was : T (patch g c q)
-      was = mid .was-patch m q (thinned-place (dropped .less .thinned) m q e)
+      was = mid .was-patch m q (thinned-place (dropped .rest .less .thinned) m q e)
 
       ground : (x : Place) → x .depth ≡ base g → T (patch g c x) → T (patch g (cells between) x)
       ground x d = patch-left g c (cells between) (kids p) (mid .left) x (omega arith) (λ y i k. omega (arith, low, corner-depth k, parent-depth y p (in-parent y p i)))
@@ -164,16 +164,16 @@ module _ (s : State) (v : Valid s) (n : ℕ) (h : refusal (checks s (remove n)) 
       go : Dec (base g ≤ q .depth) → T (patch g (cells between) q)
       go (yes l) =
           high-left g c (cells between) (kids p) (mid .left) (wanted g p) q l (λ x i k. corner-wanted g p (in-parent x p i) k)
-          (λ k. dropped .only-touched q (rw (among-all q (wanted g p)) k) (stands-in (dropped .left) m q e)) was
+          (λ k. dropped .only-touched q (rw (among-all q (wanted g p)) k) (stands-in (dropped .rest .left) m q e)) was
       go (no l) = ghost-left g c (cells between) (kids p) (mid .left) ground q (omega (arith, l)) was
 
-  left-is : dropped .left ≡ after
-  left-is = thinned-prune (dropped .less .thinned) left-patch
+  left-is : dropped .rest .left ≡ after
+  left-is = thinned-prune (dropped .rest .less .thinned) left-patch
 
   -- ---- and the flags are worked out anew
 
   r₂ : Rooted g cap after
-  r₂ = subst (Rooted g cap) left-is (dropped .less .rooted)
+  r₂ = subst (Rooted g cap) left-is (dropped .rest .less .rooted)
 
   near₂ : Nearly g after p c f₁
   near₂ = near after (kept .valid .mesh) (kept .cells-is) (kept .contents-is) (kept .valid .every) (mid .stood)
@@ -188,7 +188,7 @@ module _ (s : State) (v : Valid s) (n : ℕ) (h : refusal (checks s (remove n)) 
   unfolding removeTable effect
   remove-table =
       ap (λ (t : List ℤ). let u = dropAt (wantedSpots t cap n) t cap (base g) in refreshAt (wantedSpots u cap n ++ outsideSpots u cap n) u cap (base g)) without-cells
-      ∙ ap (λ (u : List ℤ). refreshAt (wantedSpots u cap n ++ outsideSpots u cap n) u cap (base g)) (dropped .is-table ∙ ap (λ (ds : List Entry). tableWith g ds f₁) left-is)
+      ∙ ap (λ (u : List ℤ). refreshAt (wantedSpots u cap n ++ outsideSpots u cap n) u cap (base g)) (dropped .rest .is-table ∙ ap (λ (ds : List Entry). tableWith g ds f₁) left-is)
       ∙ refresh-near near₂ r₂ n there₂ (corner-numbered (withEntries s after) (kept .valid) p-cell c-east)
       ∙ sym (picture-linked (withEntries s after) (r₂ .numbered))
 

@@ -33,7 +33,7 @@ use Rattle.editing.proofs.Flags.{Ready, link-parent}
 use Rattle.editing.proofs.Named.{kid-link}
 use Rattle.editing.proofs.Touching.{touched-row}
 use Rattle.editing.proofs.Thinning.{thinned-place, thinned-stands}
-use Rattle.editing.proofs.Dropping.{Less, less-ready, out-table, out-less, out-number, out-fewer, out-stays, out-gone}
+use Rattle.editing.proofs.Dropping.{Less, Left, left-whole, left-then, less-ready, out-table, out-less, out-number, out-fewer, out-stays, out-gone}
 
 -- ---- kids that stand
 
@@ -85,16 +85,13 @@ module _ {g : Grid} {cap : ℕ} {ds : List Entry} (r : Rooted g cap ds) (f : Fla
 
 -- ---- ghosts without a kid
 
--- The table t is what is left of the entries ds, thinner than es: every ghost has a kid. From level 0 up only the places qs may have gone, and
+-- Every ghost that is left has a kid. From level 0 up only the places qs may have gone, and
 -- those of them that stay are touched.
 pub record Withered (g : Grid) (cap : ℕ) (c : Place → Bool) (f : Flags) (es ds : List Entry) (t : List ℤ) (qs : List Place) : Type 0 where
-  pub left : List Entry
-  pub is-table : t ≡ tableWith g left f
-  pub less : Less g cap c es left
-  pub budding : Budding g left
-  pub fewer : (q : Place) → T (any (stands q) left) → T (any (stands q) ds)
-  pub others : (q : Place) → base g ≤ q .depth → (In q qs → ⊥) → number ds q ≡ number left q
-  pub only-touched : (q : Place) → In q qs → T (any (stands q) left) → T (touched g c q)
+  pub rest : Left g cap c f es ds t
+  pub budding : Budding g (rest .left)
+  pub others : (q : Place) → base g ≤ q .depth → (In q qs → ⊥) → number ds q ≡ number (rest .left) q
+  pub only-touched : (q : Place) → In q qs → T (any (stands q) (rest .left)) → T (touched g c q)
 
 up-step : (e : ℕ) (t : List ℤ) (cap k : ℕ) (a : Bool) → k ≢ 0 → kidless t cap k ≡ a → dropUp (suc e) t cap k ≡ cond (not a) t (dropUp e (takeOut t cap k) cap (linkOf t cap k 0))
 unfolding dropUp
@@ -150,13 +147,10 @@ module _ {g : Grid} (cap : ℕ) {es : List Entry} (f : Flags) {c : Place → Boo
     and-above : (e : ℕ) (t : List ℤ) → t ≡ dropUp e (takeOut (tableWith g ds f) cap (number ds x)) cap (linkOf (tableWith g ds f) cap (number ds x) 0)
         → Withered g cap c f es less (dropUp e (tableWith g less f) cap (number less (up x))) [] → Withered g cap c f es ds t (x ∷ [])
     and-above e t i w = record {
-      left = w .left;
-      is-table = i ∙ steps ∙ w .is-table;
-      less = w .less;
+      rest = left-then (out-fewer h f x z gone not-root bare) (i ∙ steps) (w .rest);
       budding = w .budding;
-      fewer = λ q u. out-fewer h f x z gone not-root bare q (w .fewer q u);
       others = λ q l o. sym (out-number h f x z gone not-root bare q (λ y. o (in-here q x [] y))) ∙ w .others q l (λ k. k);
-      only-touched = λ q k u. none-there (subst (λ (y : Place). T (any (stands y) less)) (in-one q x k) (w .fewer q u));
+      only-touched = λ q k u. none-there (subst (λ (y : Place). T (any (stands y) less)) (in-one q x k) (w .rest .fewer q u));
     }
       where
         steps : dropUp e (takeOut (tableWith g ds f) cap (number ds x)) cap (linkOf (tableWith g ds f) cap (number ds x) 0) ≡ dropUp e (tableWith g less f) cap (number less (up x))
@@ -179,11 +173,8 @@ module _ {g : Grid} (cap : ℕ) {es : List Entry} (f : Flags) {c : Place → Boo
       -- a ghost alone goes
       ghost : {u : List ℤ} → Withered g cap c f es ds u (x ∷ []) → Withered g cap c f es ds u []
       ghost w = record {
-        left = w .left;
-        is-table = w .is-table;
-        less = w .less;
+        rest = w .rest;
         budding = w .budding;
-        fewer = w .fewer;
         others = λ q k o. w .others q k (λ i. omega (arith, ap (λ (p : Place). p .depth) (in-one q x i)));
         only-touched = λ q k. absurd k;
       }
@@ -192,11 +183,8 @@ module _ {g : Grid} (cap : ℕ) {es : List Entry} (f : Flags) {c : Place → Boo
           → ((ds : List Entry) → Less g cap c es ds → (x : Place) → x .depth < e → x .depth < base g → number ds x ≢ 0 → BuddingBut g ds x → Withered g cap c f es ds (dropUp e (tableWith g ds f) cap (number ds x)) [])
           → Withered g cap c f es ds (dropUp (suc e) t cap (number ds x)) []
       go false i ih = record {
-        left = ds;
-        is-table = up-step e t cap (number ds x) false z i;
-        less = h;
+        rest = left-whole h (up-step e t cap (number ds x) false z i);
         budding = λ q k u. one q k u (same q x) refl;
-        fewer = λ q u. u;
         others = λ q k o. refl;
         only-touched = λ q k. absurd k;
       }
@@ -228,11 +216,8 @@ module _ {g : Grid} (cap : ℕ) {es : List Entry} (f : Flags) {c : Place → Boo
 
         go : (a : Bool) → touched g c q ≡ a → touchedRow t cap (base g) (number ds q) ≡ touched g c q → Withered g cap c f es ds (dropCorner t cap (base g) (number ds q)) (q ∷ [])
         go true i j = record {
-          left = ds;
-          is-table = corner-step t cap (base g) (number ds q) true z (j ∙ i);
-          less = h;
+          rest = left-whole h (corner-step t cap (base g) (number ds q) true z (j ∙ i));
           budding = bud;
-          fewer = λ p u. u;
           others = λ p k o. refl;
           only-touched = λ p k u. subst (λ (x : Place). T (touched g c x)) (sym (in-one p q k)) (is-yes (touched g c q) i);
         }
@@ -255,25 +240,22 @@ module _ {g : Grid} (cap : ℕ) {es : List Entry} (f : Flags) {c : Place → Boo
     pub cornered-all : (qs : List Place) → Distinct qs → (at : Place → ℕ) {ds : List Entry} → Less g cap c es ds → Budding g ds
         → ((q : Place) → In q qs → (q .depth ≡ base g) × (at q ≡ number ds q) × (number ds q ≢ 0))
         → Withered g cap c f es ds (dropCorners (map at qs) (tableWith g ds f) cap (base g)) qs
-    cornered-all [] dis at {ds} h bud there = record { left = ds; is-table = refl; less = h; budding = bud; fewer = λ p u. u; others = λ p k o. refl; only-touched = λ p k. absurd k }
+    cornered-all [] dis at {ds} h bud there = record { rest = left-whole h refl; budding = bud; others = λ p k o. refl; only-touched = λ p k. absurd k }
     cornered-all (q ∷ qs) dis at {ds} h bud there =
         let (d, i, z) = there q (in-here q q qs refl) in
         let a = cornered h bud q d z in
-        let b = cornered-all qs (dis .1) at (a .less) (a .budding) (λ p k.
+        let b = cornered-all qs (dis .1) at (a .rest .less) (a .budding) (λ p k.
         let (e, j, y) = there p (in-there p q qs k) in
-        let same-number : number ds p ≡ number (a .left) p = a .others p (omega arith) (λ m. dis .0 (subst (λ (x : Place). In x qs) (in-one p q m) k)) in
+        let same-number : number ds p ≡ number (a .rest .left) p = a .others p (omega arith) (λ m. dis .0 (subst (λ (x : Place). In x qs) (in-one p q m) k)) in
         (e, j ∙ same-number, λ x. y (same-number ∙ x))) in
         record {
-          left = b .left;
-          is-table =
-              ap (λ (k : ℕ). dropCorners (map at qs) (dropCorner (tableWith g ds f) cap (base g) k) cap (base g)) i
-              ∙ ap (λ (t : List ℤ). dropCorners (map at qs) t cap (base g)) (a .is-table)
-              ∙ b .is-table;
-          less = b .less;
+          rest =
+              left-then (a .rest .fewer)
+              (ap (λ (k : ℕ). dropCorners (map at qs) (dropCorner (tableWith g ds f) cap (base g) k) cap (base g)) i ∙ ap (λ (t : List ℤ). dropCorners (map at qs) t cap (base g)) (a .rest .is-table))
+              (b .rest);
           budding = b .budding;
-          fewer = λ p u. a .fewer p (b .fewer p u);
           others = λ p k o. a .others p k (λ m. o (in-here p q qs (in-one p q m))) ∙ b .others p k (λ m. o (in-there p q qs m));
-          only-touched = λ p k u. either p (in-cases p q qs k) (λ m. a .only-touched p (in-here p q [] m) (b .fewer p u)) (λ m. b .only-touched p m u);
+          only-touched = λ p k u. either p (in-cases p q qs k) (λ m. a .only-touched p (in-here p q [] m) (b .rest .fewer p u)) (λ m. b .only-touched p m u);
         }
       where
         either : (p : Place) → (p ≡ q) ⊎ In p qs → (p ≡ q → T (touched g c p)) → (In p qs → T (touched g c p)) → T (touched g c p)
