@@ -39,6 +39,7 @@ module _ {A : Type 0} (f : ℕ → A) (x : A) where
 
   -- the answer names the refusal, where the other names none
   pub unless-names : (why : A → ℕ) → ((n : ℕ) → why (f n) ≡ n) → why x ≡ 0 → (n : ℕ) → why (unless n f x) ≡ n
+  unfolding unless
   unless-names why names z zero = z
   unless-names why names z (suc n) = names (suc n)
 
