@@ -1,10 +1,9 @@
 -- The tests of a ghost, of a point and of a cell, from the words and flags that were read.
 -- Assumes nothing.
-use mathlib.Core.Path.{_≡_, refl, sym, ap, _∙_}
+use mathlib.Core.Path.{_≡_, refl, sym, _∙_}
 use mathlib.Core.Bool.{Bool, true, false, not, _&&_, _||_, Bool·beq, and-true, and-assoc}
 use mathlib.Core.List.{List}
 use Prim.Native.Nat.{ℕ}
-use native.Mathlib.Omega.{arith}
 use lib.Dec.{eqb}
 use lib.IntN.{ℤ}
 use lib.Ieee.{Float}
@@ -14,10 +13,8 @@ use Rattle.mesh.specs.Place.{Grid, base}
 use Rattle.table.specs.Words.{wordOf, linkOf, flagOf, depthOf}
 use Rattle.table.specs.Worked.{flagsFrom}
 use Rattle.checking.specs.Rowwise.{ghostOk, touchedOk, cellOk, sentenceOk, pointOk}
-use Rattle.sound.specs.Parts.{kidCells, insideOf}
-
-clash : {A : Type 0} → false ≡ true → A
-clash h = let z : _≡_ {A = ℕ} 0 1 = cc in let no : ⊥ = omega arith in absurd no
+use Rattle.table.proofs.Tests.{both-pass}
+use Rattle.sound.specs.Parts.{kidCells, noKids, insideOf}
 
 -- ---- the four kids
 
@@ -48,39 +45,51 @@ module _ (t : List ℤ) (cap n : ℕ) where
   alike false false false true = refl
   alike false false false false = refl
 
-  module _ {a b c e : ℕ} (p : a ≡ linkOf t cap n 1) (q : b ≡ linkOf t cap n 2) (r : c ≡ linkOf t cap n 3) (s : e ≡ linkOf t cap n 4) where
-    pub agree-is : {i j k l : Bool} → i ≡ flagOf t 0 a → j ≡ flagOf t 0 b → k ≡ flagOf t 0 c → l ≡ flagOf t 0 e → (Bool·beq i j && Bool·beq i k && Bool·beq i l) ≡ (kidCells t cap n true || kidCells t cap n false)
-    agree-is {i} {j} {k} {l} x y z u = rw (← p, ← q, ← r, ← s, ← x, ← y, ← z, ← u) (alike i j k l)
-
-    all-zero : (x y z u : Bool) → (x && y && z && u) ≡ true → (x ≡ true) × (y ≡ true) × (z ≡ true) × (u ≡ true)
-    all-zero true true true true h = (refl, refl, refl, refl)
-    all-zero true true true false h = (refl, refl, refl, h)
-    all-zero true true false u h = (refl, refl, h, clash h)
-    all-zero true false z u h = (refl, h, clash h, clash h)
-    all-zero false y z u h = (h, clash h, clash h, clash h)
-
-    one-flag : (i : Bool) → true ≡ (Bool·beq i i && Bool·beq i i && Bool·beq i i)
-    one-flag true = refl
-    one-flag false = refl
-
-    -- without kids all four are the nil patch
-    pub agree-none : (eqb a 0 && eqb b 0 && eqb c 0 && eqb e 0) ≡ true → true ≡ (kidCells t cap n true || kidCells t cap n false)
-    agree-none h =
-        let (x, y, z, u) = all-zero (eqb a 0) (eqb b 0) (eqb c 0) (eqb e 0) h in
-        one-flag (flagOf t 0 0) ∙ agree-is (ap (flagOf t 0) (sym (eqb-true a 0 x))) (ap (flagOf t 0) (sym (eqb-true b 0 y))) (ap (flagOf t 0) (sym (eqb-true c 0 z))) (ap (flagOf t 0) (sym (eqb-true e 0 u)))
-
-module _ (g : Grid) (cap : ℕ) (t : List ℤ) (v : List Float) (n : ℕ) where
-  -- ---- ghosts, and what touches a patch
-
-  pub ghost-is : {a b c e : ℕ} {f : Bool} →
+  pub no-kids-is : {a b c e : ℕ} →
       a ≡ linkOf t cap n 1 →
       b ≡ linkOf t cap n 2 →
       c ≡ linkOf t cap n 3 →
       e ≡ linkOf t cap n 4 →
-      f ≡ eqb (wordOf t n 12) 0 →
-      (f && not (eqb a 0 && eqb b 0 && eqb c 0 && eqb e 0)) ≡ ghostOk g cap t v n
+      (eqb a 0 && eqb b 0 && eqb c 0 && eqb e 0) ≡ noKids t cap n
+  no-kids-is a b c e = rw (a, b, c, e) (simp (and-true, and-assoc))
+
+  pub agree-is : {a b c e : ℕ} {i j k l : Bool} →
+      a ≡ linkOf t cap n 1 →
+      i ≡ flagOf t 0 a →
+      b ≡ linkOf t cap n 2 →
+      j ≡ flagOf t 0 b →
+      c ≡ linkOf t cap n 3 →
+      k ≡ flagOf t 0 c →
+      e ≡ linkOf t cap n 4 →
+      l ≡ flagOf t 0 e →
+      (Bool·beq i j && Bool·beq i k && Bool·beq i l) ≡ (kidCells t cap n true || kidCells t cap n false)
+  agree-is {i = i} {j} {k} {l} p x q y r z s u = rw (← p, ← q, ← r, ← s, ← x, ← y, ← z, ← u) (alike i j k l)
+
+  -- without kids each link is 0
+  pub bare-links : noKids t cap n ≡ true → (linkOf t cap n 1 ≡ 0) × (linkOf t cap n 2 ≡ 0) × (linkOf t cap n 3 ≡ 0) × (linkOf t cap n 4 ≡ 0)
+  bare-links h =
+      let (x, more) = both-pass _ _ h in
+      let (y, rest) = both-pass _ _ more in
+      let (z, last) = both-pass _ _ rest in
+      let (u, end) = both-pass _ _ last in
+      (eqb-true (linkOf t cap n 1) 0 x, eqb-true (linkOf t cap n 2) 0 y, eqb-true (linkOf t cap n 3) 0 z, eqb-true (linkOf t cap n 4) 0 u)
+
+  one-flag : (i : Bool) → true ≡ (Bool·beq i i && Bool·beq i i && Bool·beq i i)
+  one-flag true = refl
+  one-flag false = refl
+
+  -- and all four are the nil patch
+  pub agree-none : {b : Bool} → b ≡ noKids t cap n → b ≡ true → true ≡ (kidCells t cap n true || kidCells t cap n false)
+  agree-none e h =
+      let (x, y, z, u) = bare-links (sym e ∙ h) in
+      one-flag (flagOf t 0 0) ∙ agree-is (sym x) refl (sym y) refl (sym z) refl (sym u) refl
+
+module _ (g : Grid) (cap : ℕ) (t : List ℤ) (v : List Float) (n : ℕ) where
+  -- ---- ghosts, and what touches a patch
+
+  pub ghost-is : {f k : Bool} → f ≡ eqb (wordOf t n 12) 0 → k ≡ noKids t cap n → (f && not k) ≡ ghostOk g cap t v n
   unfolding ghostOk
-  ghost-is a b c e f = rw (a, b, c, e, f) (simp (and-true, and-assoc))
+  ghost-is f k = rw (f, k)
 
   pub touched-own : {c : Bool} → c ≡ flagOf t 0 n → c ≡ true → true ≡ touchedOk g cap t v n
   unfolding touchedOk

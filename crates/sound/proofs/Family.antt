@@ -1,22 +1,23 @@
 -- The tests of a row's place, kids and neighbours, from the words that were read.
 -- Assumes nothing.
-use mathlib.Core.Path.{_≡_, _∙_}
+use mathlib.Core.Path.{_≡_, refl, sym, _∙_}
 use mathlib.Core.Bool.{Bool, true, false, not, _&&_, and-true, and-assoc}
 use mathlib.Core.List.{List, [], _∷_}
 use Prim.Native.Nat.{ℕ, _+_, _/_, _%_, _≤_, _<_}
 use lib.Dec.{eqb}
 use lib.IntN.{ℤ}
 use lib.Ieee.{Float}
-use borrow.Author.Tests.{eq-eqb, ne-eqb}
+use borrow.Author.Tests.{eq-eqb, ne-eqb, le-leb}
+use native.Mathlib.Omega.{arith}
 use Rattle.mesh.specs.Tools.{every}
 use Rattle.mesh.specs.Place.{Grid, base, N, E, S, W}
 use Rattle.table.specs.Words.{wordOf, linkOf, depthOf}
 use Rattle.table.specs.Worked.{kidWord}
 use Rattle.table.specs.Sides.{sideBy}
-use Rattle.table.proofs.Tests.{is-past, is-within}
 use Rattle.table.proofs.Offsets.{side-digits}
 use Rattle.checking.specs.Rowwise.{rootOk, childOk, placeOk, kidOk, kidsOk, sidesOk}
-use Rattle.sound.specs.Parts.{sidesBy}
+use Rattle.sound.specs.Parts.{noKids, sidesBy}
+use Rattle.sound.proofs.CellRows.{bare-links}
 
 module _ (g : Grid) (cap : ℕ) (t : List ℤ) (v : List Float) (n : ℕ) where
   -- ---- the place
@@ -31,7 +32,7 @@ module _ (g : Grid) (cap : ℕ) (t : List ℤ) (v : List Float) (n : ℕ) where
   unfolding rootOk
   root-is h a e i j = rw (a, e, i, j, h) (simp (and-true, and-assoc))
 
-  module _ {d p : ℕ} (ground : d ≡ base g) (up : p ≡ linkOf t cap n 0) where
+  module _ {d p : ℕ} (ground : d ≡ base g) (up : p ≡ linkOf t cap n 0) (kept : linkOf t cap n 0 ≡ wordOf t n 0) where
     child-by : childOk g cap t v n ≡ every (
         not (eqb p 0) ∷
         eqb (wordOf t n 0) p ∷
@@ -44,61 +45,53 @@ module _ (g : Grid) (cap : ℕ) (t : List ℤ) (v : List Float) (n : ℕ) where
     unfolding childOk
     child-by = rw (ground, up)
 
+    named : eqb (wordOf t n 0) p ≡ true
+    named = eq-eqb (wordOf t n 0) p (sym (up ∙ kept))
+
     pub child-none : p ≡ 0 → false ≡ childOk g cap t v n
     child-none z = rw (child-by, eq-eqb p 0 z)
 
     -- each further test adds what the one before it has shown
-    module _ (some : p ≡ 0 → ⊥) {a : Bool} (names : a ≡ eqb (wordOf t n 0) (linkOf t cap n 0)) where
-      named : a ≡ eqb (wordOf t n 0) p
-      named = rw up names
+    module _ (some : p ≡ 0 → ⊥) {f : Bool} (frees : f ≡ eqb (wordOf t p 12) 8192) where
+      pub child-free : f ≡ true → false ≡ childOk g cap t v n
+      child-free h = rw (child-by, ne-eqb p 0 some, named, ← frees, h)
 
-      pub child-unnamed : a ≡ false → false ≡ childOk g cap t v n
-      child-unnamed h = rw (child-by, ne-eqb p 0 some, ← named, h)
+      module _ (used : f ≡ false) {e k : ℕ} (above : e ≡ depthOf t d p) (own : k ≡ depthOf t d n) where
+        pub child-deep : eqb (e + 1) k ≡ false → false ≡ childOk g cap t v n
+        child-deep h = rw (child-by, ne-eqb p 0 some, named, ← frees, used, ← above, ← own, h)
 
-      module _ (ok : a ≡ true) {f : Bool} (frees : f ≡ eqb (wordOf t p 12) 8192) where
-        pub child-free : f ≡ true → false ≡ childOk g cap t v n
-        child-free h = rw (child-by, ne-eqb p 0 some, ← named, ok, ← frees, h)
+        module _ (next : eqb (e + 1) k ≡ true) {i : ℕ} {x : Bool} (col : i ≡ wordOf t n 10) (half : x ≡ eqb (wordOf t p 10) (i / 2)) where
+          pub child-aside : x ≡ false → false ≡ childOk g cap t v n
+          child-aside h = rw (child-by, ne-eqb p 0 some, named, ← frees, used, ← above, ← own, next, ← col, ← half, h)
 
-        module _ (used : f ≡ false) {e k : ℕ} (above : e ≡ depthOf t d p) (own : k ≡ depthOf t d n) where
-          pub child-deep : eqb (e + 1) k ≡ false → false ≡ childOk g cap t v n
-          child-deep h = rw (child-by, ne-eqb p 0 some, ← named, ok, ← frees, used, ← above, ← own, h)
+          module _ (right : x ≡ true) {j : ℕ} {y : Bool} (row : j ≡ wordOf t n 11) (part : y ≡ eqb (wordOf t p 11) (j / 2)) where
+            pub child-off : y ≡ false → false ≡ childOk g cap t v n
+            child-off h = rw (child-by, ne-eqb p 0 some, named, ← frees, used, ← above, ← own, next, ← col, ← half, right, ← row, ← part, h)
 
-          module _ (next : eqb (e + 1) k ≡ true) {i : ℕ} {x : Bool} (col : i ≡ wordOf t n 10) (half : x ≡ eqb (wordOf t p 10) (i / 2)) where
-            pub child-aside : x ≡ false → false ≡ childOk g cap t v n
-            child-aside h = rw (child-by, ne-eqb p 0 some, ← named, ok, ← frees, used, ← above, ← own, next, ← col, ← half, h)
+            pub child-is : y ≡ true → {w : ℕ} {r : Bool} → w ≡ kidWord (i % 2) (j % 2) → r ≡ eqb (wordOf t p w) n → r ≡ childOk g cap t v n
+            child-is h c q = rw (child-by, ne-eqb p 0 some, named, ← frees, used, ← above, ← own, next, ← col, ← half, right, ← row, ← part, h, ← c, and-true) q
 
-            module _ (right : x ≡ true) {j : ℕ} {y : Bool} (row : j ≡ wordOf t n 11) (part : y ≡ eqb (wordOf t p 11) (j / 2)) where
-              pub child-off : y ≡ false → false ≡ childOk g cap t v n
-              child-off h = rw (child-by, ne-eqb p 0 some, ← named, ok, ← frees, used, ← above, ← own, next, ← col, ← half, right, ← row, ← part, h)
-
-              pub child-is : y ≡ true → {w : ℕ} {r : Bool} → w ≡ kidWord (i % 2) (j % 2) → r ≡ eqb (wordOf t p w) n → r ≡ childOk g cap t v n
-              child-is h c q = rw (child-by, ne-eqb p 0 some, ← named, ok, ← frees, used, ← above, ← own, next, ← col, ← half, right, ← row, ← part, h, ← c, and-true) q
-
-  module _ {d e : ℕ} (ground : d ≡ base g) (deep : e ≡ depthOf t d n) where
-    pub place-past : d + 12 < e → false ≡ placeOk g cap t v n
+  module _ {d : ℕ} (ground : d ≡ base g) (deep : depthOf t d n ≤ d + 12) where
+    pub place-root : {r : Bool} → n ≡ 1 → r ≡ rootOk g cap t v n → r ≡ placeOk g cap t v n
     unfolding placeOk
-    place-past h = rw (← ground, is-past deep h)
+    place-root o q = rw (← ground, le-leb (depthOf t d n) (d + 12) deep, eq-eqb n 1 o) q
 
-    pub place-root : {r : Bool} → e ≤ d + 12 → n ≡ 1 → r ≡ rootOk g cap t v n → r ≡ placeOk g cap t v n
+    pub place-child : {r : Bool} → (n ≡ 1 → ⊥) → r ≡ childOk g cap t v n → r ≡ placeOk g cap t v n
     unfolding placeOk
-    place-root h o q = rw (← ground, is-within deep h, eq-eqb n 1 o) q
-
-    pub place-child : {r : Bool} → e ≤ d + 12 → (n ≡ 1 → ⊥) → r ≡ childOk g cap t v n → r ≡ placeOk g cap t v n
-    unfolding placeOk
-    place-child h o q = rw (← ground, is-within deep h, ne-eqb n 1 o) q
+    place-child o q = rw (← ground, le-leb (depthOf t d n) (d + 12) deep, ne-eqb n 1 o) q
 
   -- ---- kids
 
-  module _ (l m : ℕ) {w k : ℕ} {a : Bool} (word : w ≡ kidWord l m) (link : k ≡ linkOf t cap n w) (names : a ≡ eqb (wordOf t n w) (linkOf t cap n w)) where
+  module _ (l m : ℕ) {w k : ℕ} (word : w ≡ kidWord l m) (link : k ≡ linkOf t cap n w) (kept : linkOf t cap n w ≡ wordOf t n w) where
     kid-link : k ≡ linkOf t cap n (kidWord l m)
     kid-link = cc
 
-    kid-names : a ≡ eqb (wordOf t n (kidWord l m)) k
-    kid-names = names ∙ rw (← link, word)
+    kid-names : eqb (wordOf t n (kidWord l m)) k ≡ true
+    kid-names = eq-eqb (wordOf t n (kidWord l m)) k (rw (← word) (sym (link ∙ kept)))
 
-    pub kid-none : k ≡ 0 → a ≡ kidOk g cap t v n l m
+    pub kid-none : k ≡ 0 → true ≡ kidOk g cap t v n l m
     unfolding kidOk
-    kid-none z = rw (← kid-link, ← kid-names, eq-eqb k 0 z, and-true)
+    kid-none z = rw (← kid-link, kid-names, eq-eqb k 0 z)
 
     pub kid-some : {i j : ℕ} {f o : Bool} →
         (k ≡ 0 → ⊥) →
@@ -106,9 +99,20 @@ module _ (g : Grid) (cap : ℕ) (t : List ℤ) (v : List Float) (n : ℕ) where
         o ≡ eqb (wordOf t k 0) n →
         i ≡ wordOf t k 10 →
         j ≡ wordOf t k 11 →
-        (a && (not f && o && eqb (i % 2) l && eqb (j % 2) m)) ≡ kidOk g cap t v n l m
+        (not f && o && eqb (i % 2) l && eqb (j % 2) m) ≡ kidOk g cap t v n l m
     unfolding kidOk
-    kid-some z f o i j = rw (← kid-link, ← kid-names, ne-eqb k 0 z, ← f, ← o, ← i, ← j) (simp (and-true, and-assoc))
+    kid-some z f o i j = rw (← kid-link, kid-names, ne-eqb k 0 z, ← f, ← o, ← i, ← j) (simp (and-true, and-assoc))
+
+  -- no kid word names a row
+  pub kids-bare : {b : Bool} → ((w : ℕ) → w < 9 → linkOf t cap n w ≡ wordOf t n w) → b ≡ noKids t cap n → b ≡ true → true ≡ kidsOk g cap t v n
+  unfolding kidsOk
+  kids-bare kept e h =
+      let (x, y, z, u) = bare-links t cap n (sym e ∙ h) in
+      let a = kid-none 1 1 refl refl (kept 1 (omega arith)) x in
+      let b = kid-none 1 0 refl refl (kept 2 (omega arith)) y in
+      let c = kid-none 0 0 refl refl (kept 3 (omega arith)) z in
+      let d = kid-none 0 1 refl refl (kept 4 (omega arith)) u in
+      rw (← a, ← b, ← c, ← d)
 
   module _ {a : Bool} (first : a ≡ kidOk g cap t v n 1 1) where
     pub kids-no1 : a ≡ false → false ≡ kidsOk g cap t v n

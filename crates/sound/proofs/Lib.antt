@@ -4,6 +4,7 @@ pub mod Family
 pub mod FlagSums
 pub mod CellRows
 pub mod ValueRows
-pub mod Linked
+pub mod Signs
+pub mod PlainRows
 pub mod Loop
 pub mod Checking

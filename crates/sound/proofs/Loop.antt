@@ -1,12 +1,13 @@
 -- A test of the numbers below n, as a loop that counts up by one meets them.
 -- Assumes nothing.
-use mathlib.Core.Path.{_≡_, sym, subst}
+use mathlib.Core.Path.{_≡_, refl, sym, subst}
 use mathlib.Core.Bool.{Bool, true, false, and-false}
 use mathlib.Core.Logic.{⊎-elim}
 use mathlib.Core.List.{List}
 use Prim.Native.Nat.{ℕ, zero, suc, _+_, _<_}
 use native.Mathlib.Nat.{eq-or-lt-of-le, le-of-suc-le-suc, not-suc-le-zero}
 use native.Mathlib.Numerals.{add-one}
+use native.Mathlib.Omega.{arith}
 use lib.Dec.{eqb}
 use lib.IntN.{ℤ}
 use lib.Ieee.{Float}
@@ -25,6 +26,10 @@ module _ (f : ℕ → Bool) where
       (λ e. rw (← e, h) (and-false (below k f)))
       (λ lt. rw (below-fails n k lt h))
       (eq-or-lt-of-le (le-of-suc-le-suc l))
+
+  pub below-all : (n : ℕ) → ((k : ℕ) → k < n → f k ≡ true) → below n f ≡ true
+  below-all zero h = refl
+  below-all (suc n) h = rw (below-all n (λ k l. h k (omega arith)), h n (omega arith))
 
 module _ (g : Grid) (cap : ℕ) (t : List ℤ) (v : List Float) where
   abbrev pub good : ℕ → Bool

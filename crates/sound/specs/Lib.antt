@@ -1,4 +1,5 @@
 -- What a check of rows requires of what is lent to it.
 pub mod Lent
+pub mod Plain
 pub mod Parts
 pub mod Called

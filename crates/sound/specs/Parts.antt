@@ -20,6 +20,10 @@ module _ (t : List ℤ) (cap : ℕ) where
   abbrev pub kidCells : ℕ → Bool → Bool
   kidCells n b = kidCellsAre (rectangle 0 0) cap t [] n b
 
+  -- no kid word names a row
+  abbrev pub noKids : ℕ → Bool
+  noKids n = every (eqb (linkOf t cap n 1) 0 ∷ eqb (linkOf t cap n 2) 0 ∷ eqb (linkOf t cap n 3) 0 ∷ eqb (linkOf t cap n 4) 0 ∷ [])
+
   -- a cell of level 0 lies in the rectangle, and any other in a cell of the level below
   abbrev pub insideOf : ℕ → ℕ → ℕ → ℕ → Bool
   insideOf columns rows d n = cond (eqb (depthOf t d n) d) (ltb (wordOf t n 10) columns && ltb (wordOf t n 11) rows) (flagOf t 0 (linkOf t cap n 0))

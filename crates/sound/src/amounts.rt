@@ -1,18 +1,18 @@
 // The values of rows in use.
 ghost use mathlib.Core.Path.{_≡_};
-ghost use Prim.Native.Nat.{_+_, _*_, _≤_, _<_};
+ghost use Prim.Native.Nat.{_≤_, _<_};
 ghost use lib.ListN.{length};
 ghost use Rattle.mesh.specs.Place.{rectangle};
-ghost use Rattle.mesh.specs.Picture.{rowWords};
 ghost use Rattle.checking.specs.Rowwise.{blankOk, heldOk, valueOk};
 ghost use Rattle.sound.specs.Lent.{Lent};
 ghost use Rattle.sound.specs.Parts.{carried};
+ghost use Rattle.sound.specs.Plain.{Plain};
+use crate::plain::flag;
+use crate::plain::link;
 use table::values::is_finite;
 use table::values::is_plus_zero;
 use table::values::same_bits;
 use table::values::value;
-use table::words::flag;
-use table::words::link;
 use table::words::says;
 
 // A blank row has the value +0, and its parent is blank if it is a cell.
@@ -21,12 +21,12 @@ pub fn blank_ok(t: &[i32], v: &[f64], cap: usize, columns: u32, rows: u32, d: u3
     ensures { λ r. ⌜ r ≡ blankOk (rectangle columns rows) cap (now (t .entry)) (now (v .entry)) n ⌝ }
 {
     let p = link(t, cap, n, 0);
-    is_plus_zero(value(v, n)) & (!flag(t, 0, n) | says(t, p, 13, 0))
+    is_plus_zero(value(v, n)) & (!flag(t, cap, 0, n) | says(t, p, 13, 0))
 }
 
 // A carried value is the one of the parent, which is not blank.
 fn carried_ok(t: &[i32], v: &[f64], cap: usize, n: usize) -> bool
-    requires { ⌜ (cap * rowWords + rowWords ≤ length (now t)) × (cap ≤ 4095) × (n ≤ cap) × (cap < length (now v)) ⌝ }
+    requires { ⌜ Plain (now t) cap × (n ≤ cap) × (cap < length (now v)) ⌝ }
     ensures { λ r. ⌜ r ≡ carried (now (t .entry)) cap (now (v .entry)) n ⌝ }
 {
     let p = link(t, cap, n, 0);
@@ -39,7 +39,7 @@ pub fn held_ok(t: &[i32], v: &[f64], cap: usize, columns: u32, rows: u32, d: u32
     ensures { λ r. ⌜ r ≡ heldOk (rectangle columns rows) cap (now (t .entry)) (now (v .entry)) n ⌝ }
 {
     let measured = says(t, n, 13, 1);
-    flag(t, 0, n) & is_finite(value(v, n)) & (measured | carried_ok(t, v, cap, n))
+    flag(t, cap, 0, n) & is_finite(value(v, n)) & (measured | carried_ok(t, v, cap, n))
 }
 
 pub fn value_ok(t: &[i32], v: &[f64], cap: usize, columns: u32, rows: u32, d: u32, n: usize) -> bool

@@ -5,6 +5,7 @@ ghost use lib.ListN.{length};
 ghost use Rattle.mesh.specs.Call.{checkCall};
 ghost use Rattle.checking.proofs.Words.{Fits, FitsAt};
 ghost use Rattle.sound.specs.Called.{lentOf};
+use crate::plain::plain;
 use crate::rowwise;
 use table::words::ROW_WORDS;
 
@@ -57,6 +58,9 @@ pub fn check(columns: u32, rows: u32, t: &[i32], v: &[f64], capacity: u32) -> u3
     }
     words_fit(t);
     let d = mesh::ground_depth(columns, rows);
+    if !plain(t, cap, d) {
+        return 3;
+    }
     if rowwise(t, v, cap, columns, rows, d) {
         return 0;
     }

@@ -1,35 +1,58 @@
 // The flags of a cell, and of a point that is none: `flags_from` with its first flag known.
 ghost use mathlib.Core.Path.{_≡_};
-ghost use mathlib.Core.Bool.{true, false};
-ghost use Prim.Native.Nat.{_+_, _*_, _≤_, _<_};
-ghost use lib.ListN.{length};
+ghost use mathlib.Core.Bool.{true, false, _&&_, _||_};
+ghost use Prim.Native.Nat.{_+_, _%_, _≤_, _<_};
+ghost use lib.Dec.{eqb};
 ghost use Rattle.mesh.specs.Tools.{digits};
-ghost use Rattle.mesh.specs.Picture.{rowWords};
-ghost use Rattle.table.specs.Words.{flagOf};
+ghost use Rattle.table.specs.Words.{wordOf, linkOf, flagOf, depthOf};
 ghost use Rattle.table.specs.Worked.{flagsFrom};
-use table::words::flag;
-use table::words::link;
+ghost use Rattle.sound.specs.Plain.{Plain, Levelled};
+use crate::plain::depth;
+use crate::plain::flag;
+use crate::plain::link;
+use crate::plain::word;
 use table::worked::digits_of_four;
-use table::worked::edge;
-use table::worked::meets;
-use table::worked::meets_far;
 use table::worked::weigh;
+
+// Whether a wall is boundary, if it has one cell: on level 0, and above where the wall of the parent is, by its bit k, and the word w is even.
+fn edge(t: &[i32], cap: usize, d: u32, n: usize, one: bool, w: usize, k: u32) -> bool
+    requires { ⌜ Plain (now t) cap × Levelled (now t) cap d × (n ≤ cap) × (9 < w) × (w < 13) × (k < 32) ⌝ }
+    ensures { λ r. ⌜ r ≡ (one && (eqb (depthOf (now (t .entry)) d n) d || (eqb (wordOf (now (t .entry)) n w % 2) 0 && flagOf (now (t .entry)) k (linkOf (now (t .entry)) cap n 0)))) ⌝ }
+{
+    if !one {
+        return false;
+    }
+    if depth(t, cap, d, n) == d {
+        return true;
+    }
+    (word(t, cap, n, w) % 2 == 0) & flag(t, cap, k, link(t, cap, n, 0))
+}
+
+// Whether one of the walls that meet at a corner is of the kind of bit k: h and v are the row's own, a and b the words of the neighbours that have the others.
+fn meets(t: &[i32], cap: usize, k: u32, n: usize, a: usize, b: usize, h: bool, v: bool) -> bool
+    requires { ⌜ Plain (now t) cap × (n ≤ cap) × (k < 31) × (a < 9) × (b < 9) ⌝ }
+    ensures { λ r. ⌜ r ≡ (h || (flagOf (now (t .entry)) k (linkOf (now (t .entry)) cap n a) || (v || flagOf (now (t .entry)) (k + 1) (linkOf (now (t .entry)) cap n b)))) ⌝ }
+{
+    let x = link(t, cap, n, a);
+    let y = link(t, cap, n, b);
+    h | (flag(t, cap, k, x) | (v | flag(t, cap, k + 1, y)))
+}
 
 // The flags of a cell.
 pub fn cell_flags(t: &[i32], cap: usize, d: u32, n: usize, sentenced: bool) -> u32
-    requires { ⌜ (cap * rowWords + rowWords ≤ length (now t)) × (cap ≤ 4095) × (n ≤ cap) × (d ≤ 32) × (flagOf (now t) 0 n ≡ true) ⌝ }
+    requires { ⌜ Plain (now t) cap × Levelled (now t) cap d × (n ≤ cap) × (flagOf (now t) 0 n ≡ true) ⌝ }
     ensures { λ r. ⌜ (r < 16384) × (r ≡ digits (flagsFrom (now (t .entry)) cap d n sentenced)) ⌝ }
 {
-    let one = !flag(t, 0, link(t, cap, n, 7));
-    let two = !flag(t, 0, link(t, cap, n, 8));
+    let one = !flag(t, cap, 0, link(t, cap, n, 7));
+    let two = !flag(t, cap, 0, link(t, cap, n, 8));
     let h = edge(t, cap, d, n, one, 11, 4);
     let v = edge(t, cap, d, n, two, 10, 5);
     let i = one & !h;
     let j = two & !v;
-    let edges = meets(t, cap, 4, n, h, v);
-    let inners = meets(t, cap, 8, n, i, j);
-    let edged = meets_far(t, cap, 4, n, h, v);
-    let fenced = meets_far(t, cap, 8, n, i, j);
+    let edges = meets(t, cap, 4, n, 8, 7, h, v);
+    let inners = meets(t, cap, 8, n, 8, 7, i, j);
+    let edged = meets(t, cap, 4, n, 5, 6, h, v);
+    let fenced = meets(t, cap, 8, n, 5, 6, i, j);
     digits_of_four(true, true, true, edges)
         + 16 * digits_of_four(h, v, edged, inners)
         + 256 * digits_of_four(i, j, fenced, false)
@@ -38,17 +61,17 @@ pub fn cell_flags(t: &[i32], cap: usize, d: u32, n: usize, sentenced: bool) -> u
 
 // The flags of a point that is no cell.
 pub fn bare_flags(t: &[i32], cap: usize, d: u32, n: usize) -> u32
-    requires { ⌜ (cap * rowWords + rowWords ≤ length (now t)) × (cap ≤ 4095) × (n ≤ cap) × (d ≤ 32) × (flagOf (now t) 0 n ≡ false) ⌝ }
+    requires { ⌜ Plain (now t) cap × Levelled (now t) cap d × (n ≤ cap) × (flagOf (now t) 0 n ≡ false) ⌝ }
     ensures { λ r. ⌜ (r < 16384) × (r ≡ digits (flagsFrom (now (t .entry)) cap d n false)) ⌝ }
 {
-    let one = flag(t, 0, link(t, cap, n, 7));
-    let two = flag(t, 0, link(t, cap, n, 8));
+    let one = flag(t, cap, 0, link(t, cap, n, 7));
+    let two = flag(t, cap, 0, link(t, cap, n, 8));
     let h = edge(t, cap, d, n, one, 11, 4);
     let v = edge(t, cap, d, n, two, 10, 5);
     let i = one & !h;
     let j = two & !v;
-    let edges = meets(t, cap, 4, n, h, v);
-    let inners = meets(t, cap, 8, n, i, j);
+    let edges = meets(t, cap, 4, n, 8, 7, h, v);
+    let inners = meets(t, cap, 8, n, 8, 7, i, j);
     digits_of_four(false, one, two, edges)
         + 16 * digits_of_four(h, v, false, inners)
         + 256 * digits_of_four(i, j, false, false)

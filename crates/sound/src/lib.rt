@@ -3,6 +3,7 @@ pub mod amounts;
 pub mod checks;
 pub mod empty;
 pub mod flags;
+pub mod plain;
 pub mod points;
 pub mod tree;
 
@@ -14,7 +15,7 @@ ghost use Rattle.mesh.specs.Place.{rectangle};
 ghost use Rattle.table.specs.Words.{depthOf};
 ghost use Rattle.checking.specs.Rowwise.{ghostOk, pointOk, usedOk, rowOk, rowwise};
 ghost use Rattle.sound.specs.Lent.{Lent};
-use table::words::depth;
+use crate::plain::depth;
 use table::words::says;
 
 // A ghost, or a row from level 0 up.
@@ -22,7 +23,7 @@ fn kind_ok(t: &[i32], v: &[f64], cap: usize, columns: u32, rows: u32, d: u32, n:
     requires { ⌜ Lent (now t) (now v) cap columns rows d × (n ≤ cap) ⌝ }
     ensures { λ r. ⌜ r ≡ cond (ltb (depthOf (now (t .entry)) d n) d) (ghostOk (rectangle columns rows) cap (now (t .entry)) (now (v .entry)) n) (pointOk (rectangle columns rows) cap (now (t .entry)) (now (v .entry)) n) ⌝ }
 {
-    if depth(t, d, n) < d {
+    if depth(t, cap, d, n) < d {
         return points::ghost_ok(t, v, cap, columns, rows, d, n);
     }
     points::point_ok(t, v, cap, columns, rows, d, n)
@@ -33,9 +34,6 @@ pub fn used_ok(t: &[i32], v: &[f64], cap: usize, columns: u32, rows: u32, d: u32
     requires { ⌜ Lent (now t) (now v) cap columns rows d × (n ≤ cap) ⌝ }
     ensures { λ r. ⌜ r ≡ usedOk (rectangle columns rows) cap (now (t .entry)) (now (v .entry)) n ⌝ }
 {
-    if !tree::linked_ok(t, cap, n) {
-        return false;
-    }
     if !tree::place_ok(t, v, cap, columns, rows, d, n) {
         return false;
     }

@@ -1,31 +1,27 @@
 // Ghosts, points and cells.
 ghost use mathlib.Core.Path.{_≡_};
 ghost use mathlib.Core.Bool.{true, false, not, _||_};
-ghost use Prim.Native.Nat.{_+_, _*_, _≤_};
-ghost use lib.ListN.{length};
+ghost use Prim.Native.Nat.{_≤_};
 ghost use Rattle.mesh.specs.Place.{rectangle};
-ghost use Rattle.mesh.specs.Picture.{rowWords};
 ghost use Rattle.checking.specs.Rowwise.{ghostOk, touchedOk, cellOk, sentenceOk, pointOk};
 ghost use Rattle.sound.specs.Lent.{Lent};
 ghost use Rattle.sound.specs.Parts.{kidCells, insideOf};
+ghost use Rattle.sound.specs.Plain.{Plain, Levelled};
 use crate::flags::bare_flags;
 use crate::flags::cell_flags;
-use table::words::depth;
-use table::words::flag;
-use table::words::link;
+use crate::plain::depth;
+use crate::plain::flag;
+use crate::plain::link;
+use crate::plain::word;
+use crate::tree::no_kids;
 use table::words::says;
-use table::words::word;
 
 // A ghost has flags 0 and a kid.
 pub fn ghost_ok(t: &[i32], v: &[f64], cap: usize, columns: u32, rows: u32, d: u32, n: usize) -> bool
     requires { ⌜ Lent (now t) (now v) cap columns rows d × (n ≤ cap) ⌝ }
     ensures { λ r. ⌜ r ≡ ghostOk (rectangle columns rows) cap (now (t .entry)) (now (v .entry)) n ⌝ }
 {
-    let none = (link(t, cap, n, 1) == 0)
-        & (link(t, cap, n, 2) == 0)
-        & (link(t, cap, n, 3) == 0)
-        & (link(t, cap, n, 4) == 0);
-    says(t, n, 12, 0) & !none
+    says(t, n, 12, 0) & !no_kids(t, cap, n)
 }
 
 // A patch is touched by a cell.
@@ -41,51 +37,49 @@ pub fn touched_ok(
     requires { ⌜ Lent (now t) (now v) cap columns rows d × (n ≤ cap) ⌝ }
     ensures { λ r. ⌜ r ≡ touchedOk (rectangle columns rows) cap (now (t .entry)) (now (v .entry)) n ⌝ }
 {
-    if flag(t, 0, n) {
+    if flag(t, cap, 0, n) {
         return true;
     }
     let west = link(t, cap, n, 8);
     let south = link(t, cap, n, 7);
     let corner = link(t, cap, west, 7);
-    flag(t, 0, west) | (flag(t, 0, south) | flag(t, 0, corner))
+    flag(t, cap, 0, west) | (flag(t, cap, 0, south) | flag(t, cap, 0, corner))
 }
 
 // Whether each of the four kids is a cell, or none is.
 fn kid_cells_are(t: &[i32], cap: usize, n: usize, b: bool) -> bool
-    requires { ⌜ (cap * rowWords + rowWords ≤ length (now t)) × (cap ≤ 4095) × (n ≤ cap) ⌝ }
+    requires { ⌜ Plain (now t) cap × (n ≤ cap) ⌝ }
     ensures { λ r. ⌜ r ≡ kidCells (now (t .entry)) cap n b ⌝ }
 {
-    (flag(t, 0, link(t, cap, n, 1)) == b)
-        & (flag(t, 0, link(t, cap, n, 2)) == b)
-        & (flag(t, 0, link(t, cap, n, 3)) == b)
-        & (flag(t, 0, link(t, cap, n, 4)) == b)
+    (flag(t, cap, 0, link(t, cap, n, 1)) == b)
+        & (flag(t, cap, 0, link(t, cap, n, 2)) == b)
+        & (flag(t, cap, 0, link(t, cap, n, 3)) == b)
+        & (flag(t, cap, 0, link(t, cap, n, 4)) == b)
 }
 
 // Whether the kids are four cells or none.
 fn kids_agree(t: &[i32], cap: usize, n: usize) -> bool
-    requires { ⌜ (cap * rowWords + rowWords ≤ length (now t)) × (cap ≤ 4095) × (n ≤ cap) ⌝ }
+    requires { ⌜ Plain (now t) cap × (n ≤ cap) ⌝ }
     ensures { λ r. ⌜ r ≡ (kidCells (now (t .entry)) cap n true || kidCells (now (t .entry)) cap n false) ⌝ }
 {
-    let a = link(t, cap, n, 1);
-    let b = link(t, cap, n, 2);
-    let c = link(t, cap, n, 3);
-    let e = link(t, cap, n, 4);
-    if (a == 0) & (b == 0) & (c == 0) & (e == 0) {
+    if no_kids(t, cap, n) {
         return true;
     }
-    let i = flag(t, 0, a);
-    (i == flag(t, 0, b)) & (i == flag(t, 0, c)) & (i == flag(t, 0, e))
+    let i = flag(t, cap, 0, link(t, cap, n, 1));
+    (i == flag(t, cap, 0, link(t, cap, n, 2)))
+        & (i == flag(t, cap, 0, link(t, cap, n, 3)))
+        & (i == flag(t, cap, 0, link(t, cap, n, 4)))
 }
 
 // Whether a cell lies in the rectangle, or in a cell of the level below.
 fn inside(t: &[i32], cap: usize, columns: u32, rows: u32, d: u32, n: usize) -> bool
-    requires { ⌜ (cap * rowWords + rowWords ≤ length (now t)) × (cap ≤ 4095) × (n ≤ cap) × (d ≤ 32) ⌝ }
+    requires { ⌜ Plain (now t) cap × Levelled (now t) cap d × (n ≤ cap) ⌝ }
     ensures { λ r. ⌜ r ≡ insideOf (now (t .entry)) cap columns rows d n ⌝ }
 {
-    if depth(t, d, n) == d {
-        return (word(t, n, 10) < columns) & (word(t, n, 11) < rows);
+    if depth(t, cap, d, n) == d {
+        return (word(t, cap, n, 10) < columns) & (word(t, cap, n, 11) < rows);
     }
-    flag(t, 0, link(t, cap, n, 0))
+    flag(t, cap, 0, link(t, cap, n, 0))
 }
 
 // A cell has its patches E, N and NE, and its kids are four cells or none.
@@ -116,7 +110,7 @@ pub fn sentence_ok(
     requires { ⌜ Lent (now t) (now v) cap columns rows d × (n ≤ cap) ⌝ }
     ensures { λ r. ⌜ r ≡ sentenceOk (rectangle columns rows) cap (now (t .entry)) (now (v .entry)) n ⌝ }
 {
-    flag(t, 0, n) & !(depth(t, d, n) == d) & kid_cells_are(t, cap, n, false)
+    flag(t, cap, 0, n) & !(depth(t, cap, d, n) == d) & kid_cells_are(t, cap, n, false)
 }
 
 // What is asked of a sentenced row, if the row is one.
@@ -144,8 +138,8 @@ pub fn point_ok(t: &[i32], v: &[f64], cap: usize, columns: u32, rows: u32, d: u3
     requires { ⌜ Lent (now t) (now v) cap columns rows d × (n ≤ cap) ⌝ }
     ensures { λ r. ⌜ r ≡ pointOk (rectangle columns rows) cap (now (t .entry)) (now (v .entry)) n ⌝ }
 {
-    let sentenced = flag(t, 12, n);
-    if flag(t, 0, n) {
+    let sentenced = flag(t, cap, 12, n);
+    if flag(t, cap, 0, n) {
         if !cell_ok(t, v, cap, columns, rows, d, n) {
             return false;
         }

@@ -1,21 +1,26 @@
 // The place of a row, its parent, its kids and its neighbours.
 ghost use mathlib.Core.Path.{_≡_};
+ghost use mathlib.Core.Bool.{cond};
 ghost use Prim.Native.Nat.{_+_, _*_, _≤_, _<_};
-ghost use lib.ListN.{length};
-ghost use Rattle.mesh.specs.Place.{rectangle};
+ghost use lib.ListN.{length, getD};
+ghost use Rattle.mesh.specs.Place.{rectangle, NE};
+ghost use Rattle.mesh.specs.Winds.{winds};
 ghost use Rattle.mesh.specs.Picture.{rowWords};
+ghost use Rattle.table.specs.Words.{linkOf};
+ghost use Rattle.table.specs.Worked.{staysIn};
+ghost use Rattle.table.specs.Sides.{sideBy};
 ghost use Rattle.checking.specs.Rowwise.{rootOk, childOk, placeOk, kidOk, kidsOk, sidesOk};
 ghost use Rattle.sound.specs.Lent.{Lent};
-ghost use Rattle.sound.specs.Parts.{linked, sidesBy};
-use table::words::depth;
-use table::words::link;
+ghost use Rattle.sound.specs.Parts.{linked, noKids, sidesBy};
+ghost use Rattle.sound.specs.Plain.{Plain};
+use crate::plain::depth;
+use crate::plain::link;
+use crate::plain::word;
 use table::words::named;
 use table::words::says;
-use table::words::word;
 use table::worked::kid_word;
-use table::worked::side_by;
 
-// Whether each link of the row n names a row or none: the tests below see to it too, and this one first makes them short.
+// Whether each link of the row n names a row or none.
 pub fn linked_ok(t: &[i32], cap: usize, n: usize) -> bool
     requires { ⌜ (cap * rowWords + rowWords ≤ length (now t)) × (cap ≤ 4095) × (n ≤ cap) ⌝ }
     ensures { λ r. ⌜ r ≡ linked (now (t .entry)) cap n ⌝ }
@@ -36,7 +41,7 @@ pub fn root_ok(t: &[i32], v: &[f64], cap: usize, columns: u32, rows: u32, d: u32
     requires { ⌜ Lent (now t) (now v) cap columns rows d × (n ≤ cap) ⌝ }
     ensures { λ r. ⌜ r ≡ rootOk (rectangle columns rows) cap (now (t .entry)) (now (v .entry)) n ⌝ }
 {
-    says(t, n, 0, 0) & (depth(t, d, n) == 0) & says(t, n, 10, 0) & says(t, n, 11, 0)
+    says(t, n, 0, 0) & (depth(t, cap, d, n) == 0) & says(t, n, 10, 0) & says(t, n, 11, 0)
 }
 
 // Any other row is a kid of its parent.
@@ -48,20 +53,17 @@ pub fn child_ok(t: &[i32], v: &[f64], cap: usize, columns: u32, rows: u32, d: u3
     if p == 0 {
         return false;
     }
-    if !named(t, cap, n, 0) {
-        return false;
-    }
     if says(t, p, 12, 8192) {
         return false;
     }
-    if !(depth(t, d, p) + 1 == depth(t, d, n)) {
+    if !(depth(t, cap, d, p) + 1 == depth(t, cap, d, n)) {
         return false;
     }
-    let i = word(t, n, 10);
+    let i = word(t, cap, n, 10);
     if !says(t, p, 10, i / 2) {
         return false;
     }
-    let j = word(t, n, 11);
+    let j = word(t, cap, n, 11);
     if !says(t, p, 11, j / 2) {
         return false;
     }
@@ -73,9 +75,6 @@ pub fn place_ok(t: &[i32], v: &[f64], cap: usize, columns: u32, rows: u32, d: u3
     requires { ⌜ Lent (now t) (now v) cap columns rows d × (n ≤ cap) ⌝ }
     ensures { λ r. ⌜ r ≡ placeOk (rectangle columns rows) cap (now (t .entry)) (now (v .entry)) n ⌝ }
 {
-    if depth(t, d, n) > d + 12 {
-        return false;
-    }
     if n == 1 {
         return root_ok(t, v, cap, columns, rows, d, n);
     }
@@ -99,21 +98,33 @@ pub fn kid_ok(
 {
     let w = kid_word(l, m);
     let k = link(t, cap, n, w);
-    let known = named(t, cap, n, w);
     if k == 0 {
-        return known;
+        return true;
     }
-    known
-        & (!says(t, k, 12, 8192)
-            & says(t, k, 0, n as u32)
-            & (word(t, k, 10) % 2 == l)
-            & (word(t, k, 11) % 2 == m))
+    !says(t, k, 12, 8192)
+        & says(t, k, 0, n as u32)
+        & (word(t, cap, k, 10) % 2 == l)
+        & (word(t, cap, k, 11) % 2 == m)
+}
+
+// Whether no kid word names a row.
+pub fn no_kids(t: &[i32], cap: usize, n: usize) -> bool
+    requires { ⌜ Plain (now t) cap × (n ≤ cap) ⌝ }
+    ensures { λ r. ⌜ r ≡ noKids (now (t .entry)) cap n ⌝ }
+{
+    (link(t, cap, n, 1) == 0)
+        & (link(t, cap, n, 2) == 0)
+        & (link(t, cap, n, 3) == 0)
+        & (link(t, cap, n, 4) == 0)
 }
 
 pub fn kids_ok(t: &[i32], v: &[f64], cap: usize, columns: u32, rows: u32, d: u32, n: usize) -> bool
     requires { ⌜ Lent (now t) (now v) cap columns rows d × (n ≤ cap) ⌝ }
     ensures { λ r. ⌜ r ≡ kidsOk (rectangle columns rows) cap (now (t .entry)) (now (v .entry)) n ⌝ }
 {
+    if no_kids(t, cap, n) {
+        return true;
+    }
     if !kid_ok(t, v, cap, columns, rows, d, n, 1, 1) {
         return false;
     }
@@ -126,9 +137,36 @@ pub fn kids_ok(t: &[i32], v: &[f64], cap: usize, columns: u32, rows: u32, d: u32
     kid_ok(t, v, cap, columns, rows, d, n, 0, 1)
 }
 
+// Whether a digit that was moved is still one of the same two.
+fn stays_in(a: u32) -> bool
+    ensures { λ r. ⌜ r ≡ staysIn a ⌝ }
+{
+    (1 <= a) & (a <= 2)
+}
+
+// The row that a neighbour is a kid of: the parent p, or the parent's neighbour.
+fn hub(t: &[i32], cap: usize, p: usize, w: usize, stays: bool) -> usize
+    requires { ⌜ Plain (now t) cap × (p ≤ cap) × (w < 9) ⌝ }
+    ensures { λ r. ⌜ (r ≤ cap) × (r ≡ cond stays p (linkOf (now (t .entry)) cap p w)) ⌝ }
+{
+    if stays { p } else { link(t, cap, p, w) }
+}
+
+// The row that is the neighbour in the wind at place w of the table of winds: p is the parent, and the place ends in the digits l and m.
+fn side_by(t: &[i32], cap: usize, p: usize, l: u32, m: u32, w: usize) -> usize
+    requires { ⌜ Plain (now t) cap × (p ≤ cap) × (l < 2) × (m < 2) × (w < 8) ⌝ }
+    ensures { λ r. ⌜ (r ≤ cap) × (r ≡ sideBy (now (t .entry)) cap p l m (getD winds w NE)) ⌝ }
+{
+    let c = mesh::wind(w);
+    let a = l + c.east;
+    let b = m + c.north;
+    let q = hub(t, cap, p, w + 1, stays_in(a) & stays_in(b));
+    link(t, cap, q, kid_word((a + 1) % 2, (b + 1) % 2))
+}
+
 // Whether each neighbour is the kid of the parent p or of the parent's neighbour, for a place that ends in the digits l and m.
 fn sides_by(t: &[i32], cap: usize, n: usize, p: usize, l: u32, m: u32) -> bool
-    requires { ⌜ (cap * rowWords + rowWords ≤ length (now t)) × (cap ≤ 4095) × (n ≤ cap) × (p ≤ cap) × (l < 2) × (m < 2) ⌝ }
+    requires { ⌜ Plain (now t) cap × (n ≤ cap) × (p ≤ cap) × (l < 2) × (m < 2) ⌝ }
     ensures { λ r. ⌜ r ≡ sidesBy (now (t .entry)) cap n p l m ⌝ }
 {
     says(t, n, 5, side_by(t, cap, p, l, m, 4) as u32)
@@ -143,8 +181,8 @@ pub fn sides_ok(t: &[i32], v: &[f64], cap: usize, columns: u32, rows: u32, d: u3
 {
     // Digits that are written out make the choice of the parent's neighbours one of the compiler's.
     let p = link(t, cap, n, 0);
-    let i = word(t, n, 10);
-    let j = word(t, n, 11);
+    let i = word(t, cap, n, 10);
+    let j = word(t, cap, n, 11);
     if i % 2 == 0 {
         if j % 2 == 0 {
             return sides_by(t, cap, n, p, 0, 0);

@@ -1,20 +1,16 @@
 -- `sound::checks::check` meets its contract: each return is a law of `Checking`.
 -- Assumes nothing.
 use borrow.Author.Needs.{needs}
+use borrow.Author.Tests.{not-true, not-false}
 use native.Mathlib.Omega.{arith}
-use Prim.Native.Nat.{ℕ, _≤_, _<_}
-use mathlib.Core.Path.{_≡_, sym, _∙_}
+use mathlib.Core.Path.{sym, _∙_}
 use Rattle.mesh.specs.Place.{rectangle}
 use Rattle.mesh.specs.Call.{lentChecks, checkCall}
 use Rattle.sound.specs.Called.{lentOf}
+use Rattle.sound.proofs.PlainRows.{not-plain, plain-table, levelled-table}
 use Rattle.sound.proofs.Checking.{too-small, too-large, wrong-table, wrong-values, columns-below, columns-above, rows-below, rows-above, rows-pass, rows-fail, shallow}
 use Rattle.sound.proofs.checks.check.Statement.{statement}
 use Rattle.sound.proofs.checks.check.Tie as tie
-use Rattle.sound.proofs.checks.check.Reads as reads
-use Rattle.sound.proofs.checks.check.Lts as lts
-use Rattle.mesh.proofs.ground_depth.Reads as ground-depth-reads
-use Rattle.sound.proofs.checks.words_fit.Reads as words-fit-reads
-use Rattle.sound.proofs.rowwise.Reads as rowwise-reads
 
 returns : tie.Need-returns
 unfolding checkCall lentChecks
@@ -63,19 +59,36 @@ words-fit-requires c κs = omega arith
 ground-depth-requires : tie.Need-ground-depth-requires
 ground-depth-requires c κs = search needs
 
-rowwise-requires : tie.Need-rowwise-requires
-rowwise-requires c κs = (
-  record { words = omega arith; values = omega arith; small = omega arith; depth = c .ground-depth .ensures; shallow = rw (c .ground-depth .ensures) (shallow _) },
-  omega arith,
-)
+plain-requires : tie.Need-plain-requires
+plain-requires c κs = (omega arith, omega arith, rw (c .ground-depth .ensures) (shallow _))
 
 returns-9 : tie.Need-returns-9
 returns-9 c = λ mark.
-    rows-pass _ _ mark _ _ _ (omega arith) (omega arith) (omega arith) (omega arith) (omega arith, omega arith, omega arith, omega arith) (c .before .before .before .words-fit .ensures) (sym (c .if9 .taken) ∙ c .before .rowwise .ensures)
+    rows-fail _ _ mark _ _ _ (omega arith) (omega arith) (omega arith) (omega arith) (omega arith, omega arith, omega arith, omega arith) (c .before .before .before .words-fit .ensures) (not-plain _ _ _ _ (omega arith) (omega arith, omega arith, omega arith, omega arith) {b = c .before .plain .result} (rw (← c .before .before .ground-depth .ensures) (c .before .plain .ensures)) (not-true _ (c .if9 .taken)))
+
+rowwise-requires : tie.Need-rowwise-requires
+rowwise-requires c κs =
+    let e = c .before .before .ground-depth .ensures in
+    let all = sym (c .before .plain .ensures) ∙ not-false _ (c .if9 .left) in (
+      record {
+        words = omega arith;
+        values = omega arith;
+        small = omega arith;
+        depth = e;
+        shallow = rw e (shallow _);
+        plain = plain-table _ _ _ all (omega arith) (omega arith);
+        levelled = levelled-table _ _ _ all (rw e (shallow _));
+      },
+      omega arith,
+    )
 
 returns-10 : tie.Need-returns-10
 returns-10 c = λ mark.
-    rows-fail _ _ mark _ _ _ (omega arith) (omega arith) (omega arith) (omega arith) (omega arith, omega arith, omega arith, omega arith) (c .before .before .before .words-fit .ensures) (sym (c .if9 .left) ∙ c .before .rowwise .ensures)
+    rows-pass _ _ mark _ _ _ (omega arith) (omega arith) (omega arith) (omega arith) (omega arith, omega arith, omega arith, omega arith) (c .before .before .before .before .before .words-fit .ensures) (sym (c .if10 .taken) ∙ c .before .rowwise .ensures)
+
+returns-11 : tie.Need-returns-11
+returns-11 c = λ mark.
+    rows-fail _ _ mark _ _ _ (omega arith) (omega arith) (omega arith) (omega arith) (omega arith, omega arith, omega arith, omega arith) (c .before .before .before .before .before .words-fit .ensures) (sym (c .if10 .left) ∙ c .before .rowwise .ensures)
 
 pub check-spec : {M : Type 1} → statement M
 check-spec =
@@ -94,6 +107,8 @@ check-spec =
     returns-8
     words-fit-requires
     ground-depth-requires
-    rowwise-requires
+    plain-requires
     returns-9
-    returns-10)
+    rowwise-requires
+    returns-10
+    returns-11)

@@ -66,7 +66,7 @@ returns c =
     let p10 = p9 .before in
     let p11 = p10 .before in (
       search needs,
-      bare-sum (p11 .args .t .now) (p11 .args .cap) (p11 .args .d) (p11 .args .n) (p11 .pre .4)
+      bare-sum (p11 .args .t .now) (p11 .args .cap) (p11 .args .d) (p11 .args .n) (p11 .pre .3)
           (p9 .flag .ensures ∙ ap (flagOf (p11 .args .t .now) 0) (p10 .link .ensures .1)) (p7 .flag2 .ensures ∙ ap (flagOf (p11 .args .t .now) 0) (p8 .link2 .ensures .1)) (p6 .edge .ensures) (p5 .edge2 .ensures) (p4 .meets .ensures) (p3 .meets2 .ensures)
           (p2 .digits-of-four .ensures .1) (p1 .digits-of-four2 .ensures .1) (c .digits-of-four3 .ensures .1),
     )

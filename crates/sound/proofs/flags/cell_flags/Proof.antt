@@ -32,11 +32,11 @@ meets-requires c κs = search needs
 meets-requires-2 : tie.Need-meets-requires-2
 meets-requires-2 c κs = search needs
 
-meets-far-requires : tie.Need-meets-far-requires
-meets-far-requires c κs = search needs
+meets-requires-3 : tie.Need-meets-requires-3
+meets-requires-3 c κs = search needs
 
-meets-far-requires-2 : tie.Need-meets-far-requires-2
-meets-far-requires-2 c κs = search needs
+meets-requires-4 : tie.Need-meets-requires-4
+meets-requires-4 c κs = search needs
 
 digits-of-four-requires : tie.Need-digits-of-four-requires
 digits-of-four-requires c κs = search needs
@@ -82,8 +82,8 @@ returns c =
     let p13 = p12 .before in
     let p14 = p13 .before in (
       omega (arith, p3 .digits-of-four .ensures .0, p2 .digits-of-four2 .ensures .0, p1 .digits-of-four3 .ensures .0, c .weigh .ensures .0),
-      cell-sum (p14 .args .t .now) (p14 .args .cap) (p14 .args .d) (p14 .args .n) (p14 .args .sentenced) (p14 .pre .4)
-          (p12 .flag .ensures ∙ ap (flagOf (p14 .args .t .now) 0) (p13 .link .ensures .1)) (p10 .flag2 .ensures ∙ ap (flagOf (p14 .args .t .now) 0) (p11 .link2 .ensures .1)) (p9 .edge .ensures) (p8 .edge2 .ensures) (p7 .meets .ensures) (p6 .meets2 .ensures) (p5 .meets-far .ensures) (p4 .meets-far2 .ensures)
+      cell-sum (p14 .args .t .now) (p14 .args .cap) (p14 .args .d) (p14 .args .n) (p14 .args .sentenced) (p14 .pre .3)
+          (p12 .flag .ensures ∙ ap (flagOf (p14 .args .t .now) 0) (p13 .link .ensures .1)) (p10 .flag2 .ensures ∙ ap (flagOf (p14 .args .t .now) 0) (p11 .link2 .ensures .1)) (p9 .edge .ensures) (p8 .edge2 .ensures) (p7 .meets .ensures) (p6 .meets2 .ensures) (p5 .meets3 .ensures) (p4 .meets4 .ensures)
           (p3 .digits-of-four .ensures .1) (p2 .digits-of-four2 .ensures .1) (p1 .digits-of-four3 .ensures .1) (c .weigh .ensures .1),
     )
 
@@ -99,8 +99,8 @@ cell-flags-spec =
     edge-requires-2
     meets-requires
     meets-requires-2
-    meets-far-requires
-    meets-far-requires-2
+    meets-requires-3
+    meets-requires-4
     digits-of-four-requires
     digits-of-four-requires-2
     mul-result

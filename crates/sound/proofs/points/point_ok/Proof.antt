@@ -43,7 +43,7 @@ cell-flags-requires : tie.Need-cell-flags-requires
 cell-flags-requires c κs =
     let p4 = c .before .before .before .before in
     let p5 = p4 .before in
-    (search needs, search needs, search needs, search needs, sym (p5 .flag2 .ensures) ∙ p4 .if1 .taken)
+    (search needs, search needs, search needs, sym (p5 .flag2 .ensures) ∙ p4 .if1 .taken)
 
 says-requires : tie.Need-says-requires
 says-requires c κs = search needs
@@ -87,7 +87,7 @@ bare-flags-requires : tie.Need-bare-flags-requires
 bare-flags-requires c κs =
     let p3 = c .before .before .before in
     let p4 = p3 .before in
-    (search needs, search needs, search needs, search needs, sym (p4 .flag2 .ensures) ∙ p3 .if1 .left)
+    (search needs, search needs, search needs, sym (p4 .flag2 .ensures) ∙ p3 .if1 .left)
 
 says-requires-2 : tie.Need-says-requires-2
 says-requires-2 c κs = search needs

@@ -1,7 +1,9 @@
 -- `sound::kid_ok` meets its contract, by whether there is a kid.
 -- Assumes nothing.
 use Rattle.sound.proofs.Family.{kid-none, kid-some}
+use Rattle.sound.proofs.PlainRows.{kept-as-is}
 use borrow.Author.Needs.{needs}
+use native.Mathlib.Omega.{arith}
 use Rattle.sound.proofs.tree.kid_ok.Statement.{statement}
 use Rattle.sound.proofs.tree.kid_ok.Tie as tie
 
@@ -11,15 +13,12 @@ kid-word-requires c κs = search needs
 link-requires : tie.Need-link-requires
 link-requires c κs = search needs
 
-named-requires : tie.Need-named-requires
-named-requires c κs = search needs
-
 returns : tie.Need-returns
 returns c =
     let p1 = c .before in
     let p2 = p1 .before in
-    let p3 = p2 .before in
-    kid-none _ _ _ _ _ _ _ (p3 .kid-word .ensures .1) (p2 .link .ensures .1) (p1 .named .ensures) (c .if1 .taken)
+    let s = p2 .before .before in
+    kid-none _ _ _ _ _ _ _ (p2 .kid-word .ensures .1) (p1 .link .ensures .1) (kept-as-is (s .pre .0 .plain) (s .pre .1) _ (omega (arith, p2 .kid-word .ensures .0))) (c .if1 .taken)
 
 says-requires : tie.Need-says-requires
 says-requires c κs = search needs
@@ -44,8 +43,8 @@ returns-2 c =
     let p4 = p3 .before in
     let p5 = p4 .before in
     let p6 = p5 .before in
-    let p7 = p6 .before in
-    kid-some _ _ _ _ _ _ _ (p7 .kid-word .ensures .1) (p6 .link .ensures .1) (p5 .named .ensures) (p4 .if1 .left) (p3 .says .ensures) (p2 .says2 .ensures) (p1 .word .ensures) (c .word2 .ensures)
+    let s = p6 .before .before in
+    kid-some _ _ _ _ _ _ _ (p6 .kid-word .ensures .1) (p5 .link .ensures .1) (kept-as-is (s .pre .0 .plain) (s .pre .1) _ (omega (arith, p6 .kid-word .ensures .0))) (p4 .if1 .left) (p3 .says .ensures) (p2 .says2 .ensures) (p1 .word .ensures) (c .word2 .ensures)
 
 pub kid-ok-spec : {M : Type 1} → statement M
 kid-ok-spec =
@@ -53,7 +52,6 @@ kid-ok-spec =
     (tie.spec
     kid-word-requires
     link-requires
-    named-requires
     returns
     says-requires
     cast-says

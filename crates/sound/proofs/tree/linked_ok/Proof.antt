@@ -1,6 +1,6 @@
 -- `sound::linked_ok` meets its contract: the links in turn.
 -- Assumes nothing.
-use Rattle.sound.proofs.Linked.{links-are}
+use Rattle.sound.proofs.PlainRows.{links-are}
 use borrow.Author.Needs.{needs}
 use Rattle.sound.proofs.tree.linked_ok.Statement.{statement}
 use Rattle.sound.proofs.tree.linked_ok.Tie as tie

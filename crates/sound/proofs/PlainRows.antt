@@ -1,0 +1,180 @@
+-- Every row of a table that passes the test of rows can be read as it stands: its links are the tests' own, its indices are small, and so are
+-- its flags; a row without a patch is all 0 but for them.
+-- Assumes nothing.
+use mathlib.Core.Path.{_≡_, refl, sym, subst, _∙_}
+use mathlib.Core.Bool.{Bool, true, false, _&&_}
+use mathlib.Core.List.{List}
+use Prim.Native.Nat.{ℕ, zero, suc, _+_, _*_, _≤_, _<_}
+use native.Mathlib.Omega.{arith}
+use native.Mathlib.Decide.{ℕ-discrete}
+use lib.Dec.{T, eqb, leb, eqb→eq, leb→le, ltb→lt}
+use lib.ListN.{length}
+use lib.IntN.{ℤ}
+use lib.Ieee.{Float}
+use borrow.Author.Tests.{eq-eqb, le-leb, lt-ltb}
+use Rattle.mesh.specs.Place.{Grid, base, Wind, N, E, S, W}
+use Rattle.mesh.specs.Picture.{rowWords}
+use Rattle.mesh.specs.Winds.{wordOfWind}
+use Rattle.table.specs.Words.{wordOf, linkOf, depthOf}
+use Rattle.table.specs.Worked.{kidWord, sideOf}
+use Rattle.table.proofs.Links.{link-within}
+use Rattle.geometry.proofs.Base.{Rectangle}
+use Rattle.geometry.proofs.Bools.{and-left, and-right, is-yes, yes-is}
+use Rattle.geometry.proofs.Digits.{aside}
+use Rattle.checking.specs.Rowwise.{below, rowwise}
+use Rattle.checking.proofs.Facts.{Used, Empty, Tested, below-at, link-word, rowwise-tested}
+use Rattle.checking.proofs.Climbing.{spot-small}
+use Rattle.checking.proofs.Reading.{flags-small}
+use Rattle.sound.specs.Parts.{linked}
+use Rattle.sound.specs.Plain.{positive, plainRow, Plain, Levelled}
+use Rattle.sound.proofs.Loop.{below-more, below-fails, below-all}
+
+-- ---- one row
+
+pub links-are : (t : List ℤ) (cap n : ℕ) {b0 b1 b2 b3 b4 b5 b6 b7 b8 : Bool} →
+    b0 ≡ eqb (wordOf t n 0) (linkOf t cap n 0) →
+    b1 ≡ eqb (wordOf t n 1) (linkOf t cap n 1) →
+    b2 ≡ eqb (wordOf t n 2) (linkOf t cap n 2) →
+    b3 ≡ eqb (wordOf t n 3) (linkOf t cap n 3) →
+    b4 ≡ eqb (wordOf t n 4) (linkOf t cap n 4) →
+    b5 ≡ eqb (wordOf t n 5) (linkOf t cap n 5) →
+    b6 ≡ eqb (wordOf t n 6) (linkOf t cap n 6) →
+    b7 ≡ eqb (wordOf t n 7) (linkOf t cap n 7) →
+    b8 ≡ eqb (wordOf t n 8) (linkOf t cap n 8) →
+    (b0 && b1 && b2 && b3 && b4 && b5 && b6 && b7 && b8) ≡ linked t cap n
+links-are t cap n e0 e1 e2 e3 e4 e5 e6 e7 e8 = rw (e0, e1, e2, e3, e4, e5, e6, e7, e8)
+
+module _ (t : List ℤ) (cap : ℕ) where
+  abbrev Names : ℕ → ℕ → Type 0
+  Names n w = eqb (wordOf t n w) (linkOf t cap n w) ≡ true
+
+  names : (n w : ℕ) → wordOf t n w ≤ cap → Names n w
+  names n w h = eq-eqb _ _ (sym (link-word t cap n w h))
+
+  all-named : (n : ℕ) → ((w : ℕ) → w < 9 → wordOf t n w ≤ cap) → linked t cap n ≡ true
+  all-named n h =
+      rw (names n 0 (h 0 (omega arith)), names n 1 (h 1 (omega arith)), names n 2 (h 2 (omega arith)), names n 3 (h 3 (omega arith)), names n 4 (h 4 (omega arith)), names n 5 (h 5 (omega arith)), names n 6 (h 6 (omega arith)), names n 7 (h 7 (omega arith)), names n 8 (h 8 (omega arith)))
+
+  module _ (d n : ℕ) where
+    pub plain-row-is : {a i j k : Bool} {e : ℕ} →
+        a ≡ linked t cap n →
+        e ≡ depthOf t d n →
+        i ≡ positive t n 10 →
+        j ≡ positive t n 11 →
+        k ≡ positive t n 12 →
+        (a && leb e (d + 12) && i && j && k) ≡ plainRow t cap d n
+    unfolding plainRow
+    plain-row-is a e i j k = rw (a, e, i, j, k)
+
+    row-plain : linked t cap n ≡ true → depthOf t d n ≤ d + 12 → wordOf t n 10 < 2147483648 → wordOf t n 11 < 2147483648 → wordOf t n 12 < 2147483648 → plainRow t cap d n ≡ true
+    unfolding plainRow
+    row-plain l e i j k = rw (l, le-leb (depthOf t d n) (d + 12) e, lt-ltb (wordOf t n 10) 2147483648 i, lt-ltb (wordOf t n 11) 2147483648 j, lt-ltb (wordOf t n 12) 2147483648 k)
+
+    plain-parts : plainRow t cap d n ≡ true → ((w : ℕ) → w < 9 → wordOf t n w ≤ cap) × (depthOf t d n ≤ d + 12) × (wordOf t n 10 < 2147483648) × (wordOf t n 11 < 2147483648) × (wordOf t n 12 < 2147483648)
+    unfolding plainRow
+    plain-parts h =
+        let a = linked t cap n in
+        let b = leb (depthOf t d n) (d + 12) in
+        let i = positive t n 10 in
+        let j = positive t n 11 in
+        let k = positive t n 12 in
+        let h5 = is-yes (a && b && i && j && k) h in
+        let h4 = and-left (a && b && i && j) k h5 in
+        let h3 = and-left (a && b && i) j h4 in
+        let h2 = and-left (a && b) i h3 in (
+          λ w l. subst (λ (x : ℕ). x ≤ cap) (sym (eqb→eq _ _ (below-at 9 (λ w. eqb (wordOf t n w) (linkOf t cap n w)) (and-left a b h2) w l))) (link-within t cap n w),
+          leb→le _ _ (and-right a b h2),
+          ltb→lt _ _ (and-right (a && b) i h3),
+          ltb→lt _ _ (and-right (a && b && i) j h4),
+          ltb→lt _ _ (and-right (a && b && i && j) k h5),
+        )
+
+  -- ---- all rows
+
+  pub not-all : (d n : ℕ) {r : Bool} → n ≤ cap → r ≡ plainRow t cap d n → r ≡ false → false ≡ below (suc cap) (plainRow t cap d)
+  not-all d n l e h = sym (below-fails (plainRow t cap d) (suc cap) n (omega arith) (sym e ∙ h))
+
+  pub one-more : (d k : ℕ) {r : Bool} → below k (plainRow t cap d) ≡ true → r ≡ plainRow t cap d k → r ≡ true → below (k + 1) (plainRow t cap d) ≡ true
+  one-more d k a e h = below-more (plainRow t cap d) k a (sym e ∙ h)
+
+  pub all-rows : (d k : ℕ) → k ≡ suc cap → below k (plainRow t cap d) ≡ true → true ≡ below (suc cap) (plainRow t cap d)
+  all-rows d k e h = sym (subst (λ (m : ℕ). below m (plainRow t cap d) ≡ true) e h)
+
+  module _ (d : ℕ) (all : below (suc cap) (plainRow t cap d) ≡ true) where
+    row-at : (n : ℕ) → n ≤ cap → plainRow t cap d n ≡ true
+    row-at n l = yes-is _ (below-at (suc cap) (plainRow t cap d) (is-yes _ all) n (omega arith))
+
+    pub plain-table : cap * rowWords + rowWords ≤ length t → cap ≤ 4095 → Plain t cap
+    plain-table l s = record { words = l; small = s; links = λ n w h. plain-parts d n (row-at n h) .0 w; signs = λ n w h. signs n w (plain-parts d n (row-at n h)) }
+      where
+        signs : (n w : ℕ) → ((w : ℕ) → w < 9 → wordOf t n w ≤ cap) × (depthOf t d n ≤ d + 12) × (wordOf t n 10 < 2147483648) × (wordOf t n 11 < 2147483648) × (wordOf t n 12 < 2147483648) → 9 < w → w < 13 → wordOf t n w < 2147483648
+        signs n w (x, y, i, j, k) a b = go (ℕ-discrete w 10) (ℕ-discrete w 11) (ℕ-discrete w 12)
+          where
+            go : Dec (w ≡ 10) → Dec (w ≡ 11) → Dec (w ≡ 12) → wordOf t n w < 2147483648
+            go (yes e) q r = rw e i
+            go (no p) (yes e) r = rw e j
+            go (no p) (no q) (yes e) = rw e k
+            go (no p) (no q) (no r) = absurd (omega (arith, p, q, r))
+
+    pub levelled-table : d ≤ 32 → Levelled t cap d
+    levelled-table h = record { shallow = h; deep = λ n l. plain-parts d n (row-at n l) .1 }
+
+-- a link is the word itself
+pub kept-as-is : {t : List ℤ} {cap n : ℕ} → Plain t cap → n ≤ cap → (w : ℕ) → w < 9 → linkOf t cap n w ≡ wordOf t n w
+kept-as-is {t} {cap} {n} p h w l = link-word t cap n w (p .links n w h l)
+
+-- ---- what passes the test of rows
+
+module _ {g : Grid} {cap : ℕ} {t : List ℤ} {v : List Float} (ok : Tested g cap t v) (r : Rectangle g) where
+  kid-high : (n l m : ℕ) → Used cap t n → l ≤ 1 → m ≤ 1 → wordOf t n (kidWord l m) ≤ cap
+  kid-high n l m u a b = subst (λ (x : ℕ). x ≤ cap) (sym (ok .row n u .kid-word l m a b)) (link-within t cap n (kidWord l m))
+
+  side-high : (n : ℕ) (w : Wind) → Used cap t n → T (aside w) → wordOf t n (wordOfWind w) ≤ cap
+  unfolding sideOf
+  side-high n w u a = subst (λ (x : ℕ). x ≤ cap) (sym (ok .row n u .side w a)) (link-within t cap _ _)
+
+  parent-high : (n : ℕ) → Used cap t n → Dec (n ≡ 1) → wordOf t n 0 ≤ cap
+  parent-high n u (yes e) = omega (arith, ok .row n u .top e .0)
+  parent-high n u (no e) = subst (λ (x : ℕ). x ≤ cap) (sym (ok .row n u .child e .is-word)) (link-within t cap n 0)
+
+  links-high : (n w : ℕ) → Used cap t n → w < 9 → wordOf t n w ≤ cap
+  links-high n zero u l = parent-high n u (ℕ-discrete n 1)
+  links-high n (suc zero) u l = kid-high n 1 1 u (omega arith) (omega arith)
+  links-high n (suc (suc zero)) u l = kid-high n 1 0 u (omega arith) (omega arith)
+  links-high n (suc (suc (suc zero))) u l = kid-high n 0 0 u (omega arith) (omega arith)
+  links-high n (suc (suc (suc (suc zero)))) u l = kid-high n 0 1 u (omega arith) (omega arith)
+  links-high n (suc (suc (suc (suc (suc zero))))) u l = side-high n N u tt
+  links-high n (suc (suc (suc (suc (suc (suc zero)))))) u l = side-high n E u tt
+  links-high n (suc (suc (suc (suc (suc (suc (suc zero))))))) u l = side-high n S u tt
+  links-high n (suc (suc (suc (suc (suc (suc (suc (suc zero)))))))) u l = side-high n W u tt
+  links-high n (suc (suc (suc (suc (suc (suc (suc (suc (suc w))))))))) u l = absurd (omega arith)
+
+  used-plain : (n : ℕ) → Used cap t n → plainRow t cap (base g) n ≡ true
+  used-plain n u =
+      let (i, j) = spot-small ok r n u in
+      row-plain t cap (base g) n (all-named t cap n (λ w. links-high n w u)) (ok .row n u .deep) (omega arith) (omega arith) (omega (arith, flags-small ok n u))
+
+  empty-plain : (n : ℕ) → Empty t v n → wordOf t n 12 ≤ 8192 → plainRow t cap (base g) n ≡ true
+  unfolding depthOf
+  empty-plain n e f =
+      row-plain t cap (base g) n
+      (all-named t cap n (λ w l. omega (arith, e .words w (omega arith))))
+      (rw (e .words 9 (omega arith)) (omega arith))
+      (omega (arith, e .words 10 (omega arith)))
+      (omega (arith, e .words 11 (omega arith)))
+      (omega arith)
+
+  every-plain : (n : ℕ) → n ≤ cap → plainRow t cap (base g) n ≡ true
+  every-plain zero h = empty-plain 0 (ok .zeroth) (omega (arith, ok .zero-flags))
+  every-plain (suc k) h = go (ℕ-discrete (wordOf t (suc k) 12) 8192)
+    where
+      go : Dec (wordOf t (suc k) 12 ≡ 8192) → plainRow t cap (base g) (suc k) ≡ true
+      go (yes e) = empty-plain (suc k) (ok .empty (suc k) (omega arith) h e) (omega arith)
+      go (no e) = used-plain (suc k) (record { low = omega arith; high = h; taken = e })
+
+pub not-plain : (g : Grid) (cap : ℕ) (t : List ℤ) (v : List Float) → 1 ≤ cap → Rectangle g → {b : Bool} → b ≡ below (suc cap) (plainRow t cap (base g)) → b ≡ false → false ≡ rowwise g cap t v
+not-plain g cap t v l r {b} e h = go (rowwise g cap t v) refl
+  where
+    go : (x : Bool) → rowwise g cap t v ≡ x → false ≡ x
+    go true q = sym h ∙ e ∙ below-all (plainRow t cap (base g)) (suc cap) (λ n k. every-plain (rowwise-tested g cap t v l (is-yes _ q)) r n (omega arith))
+    go false q = refl
