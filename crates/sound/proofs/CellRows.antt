@@ -14,6 +14,7 @@ use Rattle.table.specs.Words.{wordOf, linkOf, flagOf, depthOf}
 use Rattle.table.specs.Worked.{flagsFrom}
 use Rattle.checking.specs.Rowwise.{ghostOk, touchedOk, cellOk, sentenceOk, pointOk}
 use Rattle.table.proofs.Tests.{both-pass}
+use Rattle.geometry.proofs.Bools.{is-yes}
 use Rattle.sound.specs.Parts.{kidCells, noKids, insideOf}
 
 -- ---- the four kids
@@ -110,16 +111,36 @@ module _ (g : Grid) (cap : ℕ) (t : List ℤ) (v : List Float) (n : ℕ) where
 
   -- ---- cells
 
-  pub cell-is : {d north east corner : ℕ} {inside kids : Bool} →
-      d ≡ base g →
-      north ≡ linkOf t cap n 5 →
-      east ≡ linkOf t cap n 6 →
-      corner ≡ linkOf t cap east 5 →
-      inside ≡ insideOf t cap (g .columns) (g .rows) d n →
-      kids ≡ (kidCells t cap n true || kidCells t cap n false) →
-      (not (eqb east 0) && not (eqb north 0) && not (eqb corner 0) && inside && kids) ≡ cellOk g cap t v n
-  unfolding cellOk
-  cell-is d u e k i w = rw (w, i, k, e, u, d) (simp (and-true, and-assoc))
+  module _ {d north east corner : ℕ} (ground : d ≡ base g) (up : north ≡ linkOf t cap n 5) (right : east ≡ linkOf t cap n 6) (far : corner ≡ linkOf t cap east 5) where
+    some-none : (x y z u : Bool) → (x || y || z) ≡ true → false ≡ (not x && (not y && (not z && u)))
+    some-none true y z u h = refl
+    some-none false true z u h = refl
+    some-none false false true u h = refl
+    some-none false false false u h = absurd (is-yes false h)
+
+    all-there : (x y z u : Bool) → (x || y || z) ≡ false → u ≡ (not x && (not y && (not z && u)))
+    all-there false false false u h = refl
+    all-there true y z u h = absurd (is-yes false (sym h))
+    all-there false true z u h = absurd (is-yes false (sym h))
+    all-there false false true u h = absurd (is-yes false (sym h))
+
+    corner-is : linkOf t cap (linkOf t cap n 6) 5 ≡ corner
+    corner-is = sym (rw (← right) far)
+
+    pub cell-bare : (eqb east 0 || eqb north 0 || eqb corner 0) ≡ true → false ≡ cellOk g cap t v n
+    unfolding cellOk
+    cell-bare h = rw (corner-is, ← up, ← right) (some-none (eqb east 0) (eqb north 0) (eqb corner 0) _ h)
+
+    module _ (there : (eqb east 0 || eqb north 0 || eqb corner 0) ≡ false) {i : Bool} (inside : i ≡ insideOf t cap (g .columns) (g .rows) d n) where
+      cell-rest : (i && ((kidCells t cap n true || kidCells t cap n false) && true)) ≡ cellOk g cap t v n
+      unfolding cellOk
+      cell-rest = rw (corner-is, ← up, ← right, ← ground, inside) (all-there (eqb east 0) (eqb north 0) (eqb corner 0) _ there)
+
+      pub cell-outside : i ≡ false → false ≡ cellOk g cap t v n
+      cell-outside h = rw (← cell-rest, h)
+
+      pub cell-is : i ≡ true → {kids : Bool} → kids ≡ (kidCells t cap n true || kidCells t cap n false) → kids ≡ cellOk g cap t v n
+      cell-is h k = rw (← cell-rest, h, ← k, and-true)
 
   pub sentence-is : {d e : ℕ} {c bare : Bool} →
       d ≡ base g →

@@ -3,9 +3,11 @@
 use mathlib.Core.Path.{_≡_, refl, sym}
 use mathlib.Core.Bool.{Bool, true, false, not, _&&_, _||_, cond, Bool·beq}
 use mathlib.Core.List.{List}
-use Prim.Native.Nat.{ℕ, _+_, _*_, _%_}
+use Prim.Native.Nat.{ℕ, _+_, _*_, _%_, _≤_}
 use native.Mathlib.Omega.{arith}
+use lib.Bits.{bitOr}
 use lib.Dec.{eqb}
+use borrow.Author.Tests.{eqb-true, eqb-false}
 use lib.IntN.{ℤ}
 use Rattle.mesh.specs.Tools.{digits}
 use Rattle.table.specs.Digits.{four}
@@ -22,7 +24,46 @@ beq-false : (x : Bool) → not (Bool·beq false x) ≡ x
 beq-false true = refl
 beq-false false = refl
 
+-- ---- flags as numbers
+
+pub last-digit : (x : ℕ) → x % 2 ≡ cond (eqb (x % 2) 1) 1 0
+last-digit x = go (eqb (x % 2) 1) refl
+  where
+    go : (b : Bool) → eqb (x % 2) 1 ≡ b → x % 2 ≡ cond b 1 0
+    go true e = eqb-true (x % 2) 1 e
+    go false e = omega (arith, eqb-false (x % 2) 1 e)
+
+or-digit : (x y : Bool) → (bitOr (cond x 1 0) (cond y 1 0) ≤ 1) × (bitOr (cond x 1 0) (cond y 1 0) ≡ cond (x || y) 1 0)
+or-digit true true = (omega arith, refl)
+or-digit true false = (omega arith, refl)
+or-digit false true = (omega arith, refl)
+or-digit false false = (omega arith, refl)
+
+pub either-is : (t : List ℤ) (cap k n a b : ℕ) {x y i j : ℕ} →
+    x ≡ linkOf t cap n a →
+    i ≡ cond (flagOf t k x) 1 0 →
+    y ≡ linkOf t cap n b →
+    j ≡ cond (flagOf t (k + 1) y) 1 0 →
+    (bitOr i j ≤ 1) × (bitOr i j ≡ cond (flagOf t k (linkOf t cap n a) || flagOf t (k + 1) (linkOf t cap n b)) 1 0)
+either-is t cap k n a b x i y j = rw (i, j, x, y) (or-digit (flagOf t k (linkOf t cap n a)) (flagOf t (k + 1) (linkOf t cap n b)))
+
+-- ---- the sums
+
 module _ (t : List ℤ) (cap d n : ℕ) where
+  -- a cell whose own walls have two cells
+  pub inner-sum : (sentenced : Bool) {a b c e u : ℕ} →
+      flagOf t 0 n ≡ true →
+      flagOf t 0 (linkOf t cap n 7) ≡ true →
+      flagOf t 0 (linkOf t cap n 8) ≡ true →
+      a ≡ cond (flagOf t 4 (linkOf t cap n 8) || flagOf t 5 (linkOf t cap n 7)) 1 0 →
+      b ≡ cond (flagOf t 4 (linkOf t cap n 5) || flagOf t 5 (linkOf t cap n 6)) 1 0 →
+      c ≡ cond (flagOf t 8 (linkOf t cap n 8) || flagOf t 9 (linkOf t cap n 7)) 1 0 →
+      e ≡ cond (flagOf t 8 (linkOf t cap n 5) || flagOf t 9 (linkOf t cap n 6)) 1 0 →
+      u ≡ 4096 * cond sentenced 1 0 →
+      7 + 8 * a + 64 * b + 128 * c + 1024 * e + u ≡ digits (flagsFrom t cap d n sentenced)
+  unfolding flagsFrom edgeH edgeV innerH innerV
+  inner-sum sentenced o s w a b c e u = rw (o, s, w, a, b, c, e, u) (omega arith)
+
   -- the wall of the word w, by the bit k of the parent
   abbrev edgeFrom : ℕ → ℕ → Bool
   edgeFrom w k = eqb (depthOf t d n) d || (eqb (wordOf t n w % 2) 0 && flagOf t k (linkOf t cap n 0))

@@ -29,15 +29,17 @@ carried-is t cap v n p s u x y z = rw (z, s, u, x, y, p) (simp (and-true, and-as
 module _ (g : Grid) (cap : ℕ) (t : List ℤ) (v : List Float) (n : ℕ) where
   -- ---- values
 
-  pub blank-is : {p : ℕ} {x : Float} {z c s : Bool} →
-      p ≡ linkOf t cap n 0 →
-      x ≡ getD v n plusZero →
-      z ≡ sameFloat x plusZero →
-      c ≡ flagOf t 0 n →
-      s ≡ eqb (wordOf t p 13) 0 →
-      (z && (not c || s)) ≡ blankOk g cap t v n
-  unfolding blankOk
-  blank-is p x z c s = rw (z, c, s, x, p)
+  module _ {x : Float} {z : Bool} (here : x ≡ getD v n plusZero) (zero : z ≡ sameFloat x plusZero) where
+    same : z ≡ sameFloat (getD v n plusZero) plusZero
+    same = rw (← here) zero
+
+    pub blank-not : z ≡ false → false ≡ blankOk g cap t v n
+    unfolding blankOk
+    blank-not h = rw (← same, h)
+
+    pub blank-is : z ≡ true → {p : ℕ} {c s : Bool} → p ≡ linkOf t cap n 0 → c ≡ flagOf t 0 n → s ≡ eqb (wordOf t p 13) 0 → (not c || s) ≡ blankOk g cap t v n
+    unfolding blankOk
+    blank-is h p c s = rw (← same, h, c, s, p)
 
   pub held-is : {x : Float} {s c f k : Bool} →
       s ≡ eqb (wordOf t n 13) 1 →

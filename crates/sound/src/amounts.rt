@@ -20,8 +20,11 @@ pub fn blank_ok(t: &[i32], v: &[f64], cap: usize, columns: u32, rows: u32, d: u3
     requires { ⌜ Lent (now t) (now v) cap columns rows d × (n ≤ cap) ⌝ }
     ensures { λ r. ⌜ r ≡ blankOk (rectangle columns rows) cap (now (t .entry)) (now (v .entry)) n ⌝ }
 {
+    if !is_plus_zero(value(v, n)) {
+        return false;
+    }
     let p = link(t, cap, n, 0);
-    is_plus_zero(value(v, n)) & (!flag(t, cap, 0, n) | says(t, p, 13, 0))
+    !flag(t, cap, 0, n) | says(t, p, 13, 0)
 }
 
 // A carried value is the one of the parent, which is not blank.

@@ -90,11 +90,13 @@ pub fn cell_ok(t: &[i32], v: &[f64], cap: usize, columns: u32, rows: u32, d: u32
     let north = link(t, cap, n, 5);
     let east = link(t, cap, n, 6);
     let corner = link(t, cap, east, 5);
-    (east != 0)
-        & (north != 0)
-        & (corner != 0)
-        & inside(t, cap, columns, rows, d, n)
-        & kids_agree(t, cap, n)
+    if (east == 0) | (north == 0) | (corner == 0) {
+        return false;
+    }
+    if !inside(t, cap, columns, rows, d, n) {
+        return false;
+    }
+    kids_agree(t, cap, n)
 }
 
 // A sentenced row is a leaf above level 0.

@@ -7,7 +7,6 @@ ghost use Rattle.mesh.specs.Place.{rectangle, NE};
 ghost use Rattle.mesh.specs.Winds.{winds};
 ghost use Rattle.mesh.specs.Picture.{rowWords};
 ghost use Rattle.table.specs.Words.{linkOf};
-ghost use Rattle.table.specs.Worked.{staysIn};
 ghost use Rattle.table.specs.Sides.{sideBy};
 ghost use Rattle.checking.specs.Rowwise.{rootOk, childOk, placeOk, kidOk, kidsOk, sidesOk};
 ghost use Rattle.sound.specs.Lent.{Lent};
@@ -19,6 +18,7 @@ use crate::plain::word;
 use table::words::named;
 use table::words::says;
 use table::worked::kid_word;
+use table::worked::stays_in;
 
 // Whether each link of the row n names a row or none.
 pub fn linked_ok(t: &[i32], cap: usize, n: usize) -> bool
@@ -135,13 +135,6 @@ pub fn kids_ok(t: &[i32], v: &[f64], cap: usize, columns: u32, rows: u32, d: u32
         return false;
     }
     kid_ok(t, v, cap, columns, rows, d, n, 0, 1)
-}
-
-// Whether a digit that was moved is still one of the same two.
-fn stays_in(a: u32) -> bool
-    ensures { λ r. ⌜ r ≡ staysIn a ⌝ }
-{
-    (1 <= a) & (a <= 2)
 }
 
 // The row that a neighbour is a kid of: the parent p, or the parent's neighbour.

@@ -145,3 +145,21 @@ same-bits x y f g h = go (eqb (toBits binary64 x) (toBits binary64 y)) refl
 pub plus-zero : ofBits binary64 0 ≡ plusZero
 unfolding ofBits ofFields odd
 plus-zero = refl
+
+zero-pattern : toBits binary64 plusZero ≡ 0
+unfolding toBits
+zero-pattern = refl
+
+-- and a float is +0 exactly where its bits are 0
+pub zero-bits : (x : Float) → T (fits binary64 x) → eqb (toBits binary64 x) 0 ≡ sameFloat x plusZero
+zero-bits x f = go (eqb (toBits binary64 x) 0) refl
+  where
+    back : (b : Bool) → sameFloat x plusZero ≡ b → eqb (toBits binary64 x) 0 ≡ false → b ≡ false
+    back true e n = absurd (eqb-false _ _ n (ap (toBits binary64) (same-true x plusZero e) ∙ zero-pattern))
+    back false e n = refl
+
+    go : (b : Bool) → eqb (toBits binary64 x) 0 ≡ b → b ≡ sameFloat x plusZero
+    go true e =
+        let q : plusZero ≡ x = sym plus-zero ∙ sym (ap (ofBits binary64) (eqb-true _ _ e)) ∙ ofBits-toBits binary64 x f in
+        ap (λ (y : Float). sameFloat y plusZero) q
+    go false e = sym (back (sameFloat x plusZero) refl e)

@@ -42,5 +42,8 @@ pub fn same_bits(x: f64, y: f64) -> bool
 pub fn is_plus_zero(x: f64) -> bool
     ensures { λ r. ⌜ r ≡ sameFloat x plusZero ⌝ }
 {
-    same_bits(x, 0.0)
+    if x == x {
+        return f64::to_bits(x) == 0;
+    }
+    false
 }

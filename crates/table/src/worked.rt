@@ -27,7 +27,7 @@ pub fn kid_word(l: u32, m: u32) -> usize
 }
 
 // Whether a digit that was moved is still one of the same two.
-fn stays_in(a: u32) -> bool
+pub fn stays_in(a: u32) -> bool
     ensures { λ r. ⌜ r ≡ staysIn a ⌝ }
 {
     (1 <= a) & (a <= 2)

@@ -1,17 +1,20 @@
--- `table::is_plus_zero` meets its contract.
+-- `table::is_plus_zero` meets its contract: by the bits of a float that equals itself.
 -- Assumes nothing.
-use mathlib.Core.Path.{ap, _∙_}
-use Rattle.mesh.specs.Test.{sameFloat}
-use Rattle.table.proofs.Bits.{plus-zero}
-use borrow.Author.Needs.{needs}
+use mathlib.Core.Path.{sym, subst}
+use lib.Dec.{T}
+use Rattle.mesh.specs.State.{plusZero}
+use Rattle.table.proofs.Bits.{same-no-nan, differs-other, not-same-left, zero-bits}
 use Rattle.table.proofs.values.is_plus_zero.Statement.{statement}
 use Rattle.table.proofs.values.is_plus_zero.Tie as tie
 
-same-bits-requires : tie.Need-same-bits-requires
-same-bits-requires c κs = search needs
+float-to-bits-result : tie.Need-float-to-bits-result
+float-to-bits-result c = same-no-nan _ (c .if1 .taken)
 
 returns : tie.Need-returns
-returns c = c .same-bits .ensures ∙ ap (sameFloat (c .before .args .x)) plus-zero
+returns c = zero-bits (c .before .args .x) (subst T (sym (c .before .good .0 .1)) tt)
+
+returns-2 : tie.Need-returns-2
+returns-2 c = not-same-left (c .before .args .x) plusZero (sym (differs-other (c .before .args .x) (c .if1 .left)))
 
 pub is-plus-zero-spec : {M : Type 1} → statement M
-is-plus-zero-spec = tie.close (tie.spec same-bits-requires returns)
+is-plus-zero-spec = tie.close (tie.spec float-to-bits-result returns returns-2)
