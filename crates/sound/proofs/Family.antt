@@ -56,20 +56,20 @@ module _ (g : Grid) (cap : ℕ) (t : List ℤ) (v : List Float) (n : ℕ) where
       pub child-free : f ≡ true → false ≡ childOk g cap t v n
       child-free h = rw (child-by, ne-eqb p 0 some, named, ← frees, h)
 
-      module _ (used : f ≡ false) {e k : ℕ} (above : e ≡ depthOf t d p) (own : k ≡ depthOf t d n) where
-        pub child-deep : eqb (e + 1) k ≡ false → false ≡ childOk g cap t v n
-        child-deep h = rw (child-by, ne-eqb p 0 some, named, ← frees, used, ← above, ← own, h)
+      module _ (used : f ≡ false) {a : Bool} (above : a ≡ eqb (depthOf t d p + 1) (depthOf t d n)) where
+        pub child-deep : a ≡ false → false ≡ childOk g cap t v n
+        child-deep h = rw (child-by, ne-eqb p 0 some, named, ← frees, used, ← above, h)
 
-        module _ (next : eqb (e + 1) k ≡ true) {i : ℕ} {x : Bool} (col : i ≡ wordOf t n 10) (half : x ≡ eqb (wordOf t p 10) (i / 2)) where
+        module _ (next : a ≡ true) {i : ℕ} {x : Bool} (col : i ≡ wordOf t n 10) (half : x ≡ eqb (wordOf t p 10) (i / 2)) where
           pub child-aside : x ≡ false → false ≡ childOk g cap t v n
-          child-aside h = rw (child-by, ne-eqb p 0 some, named, ← frees, used, ← above, ← own, next, ← col, ← half, h)
+          child-aside h = rw (child-by, ne-eqb p 0 some, named, ← frees, used, ← above, next, ← col, ← half, h)
 
           module _ (right : x ≡ true) {j : ℕ} {y : Bool} (row : j ≡ wordOf t n 11) (part : y ≡ eqb (wordOf t p 11) (j / 2)) where
             pub child-off : y ≡ false → false ≡ childOk g cap t v n
-            child-off h = rw (child-by, ne-eqb p 0 some, named, ← frees, used, ← above, ← own, next, ← col, ← half, right, ← row, ← part, h)
+            child-off h = rw (child-by, ne-eqb p 0 some, named, ← frees, used, ← above, next, ← col, ← half, right, ← row, ← part, h)
 
-            pub child-is : y ≡ true → {w : ℕ} {r : Bool} → w ≡ kidWord (i % 2) (j % 2) → r ≡ eqb (wordOf t p w) n → r ≡ childOk g cap t v n
-            child-is h c q = rw (child-by, ne-eqb p 0 some, named, ← frees, used, ← above, ← own, next, ← col, ← half, right, ← row, ← part, h, ← c, and-true) q
+            pub child-at : y ≡ true → (l m : ℕ) {r : Bool} → i % 2 ≡ l → j % 2 ≡ m → r ≡ eqb (wordOf t p (kidWord l m)) n → r ≡ childOk g cap t v n
+            child-at h l m b c q = rw (child-by, ne-eqb p 0 some, named, ← frees, used, ← above, next, ← col, ← half, right, ← row, ← part, h, b, c, and-true) q
 
   module _ {d : ℕ} (ground : d ≡ base g) (deep : depthOf t d n ≤ d + 12) where
     pub place-root : {r : Bool} → n ≡ 1 → r ≡ rootOk g cap t v n → r ≡ placeOk g cap t v n

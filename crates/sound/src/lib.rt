@@ -15,7 +15,7 @@ ghost use Rattle.mesh.specs.Place.{rectangle};
 ghost use Rattle.table.specs.Words.{depthOf};
 ghost use Rattle.checking.specs.Rowwise.{ghostOk, pointOk, usedOk, rowOk, rowwise};
 ghost use Rattle.sound.specs.Lent.{Lent};
-use crate::plain::depth;
+use crate::plain::is_positive;
 use table::words::says;
 
 // A ghost, or a row from level 0 up.
@@ -23,7 +23,7 @@ fn kind_ok(t: &[i32], v: &[f64], cap: usize, columns: u32, rows: u32, d: u32, n:
     requires { ⌜ Lent (now t) (now v) cap columns rows d × (n ≤ cap) ⌝ }
     ensures { λ r. ⌜ r ≡ cond (ltb (depthOf (now (t .entry)) d n) d) (ghostOk (rectangle columns rows) cap (now (t .entry)) (now (v .entry)) n) (pointOk (rectangle columns rows) cap (now (t .entry)) (now (v .entry)) n) ⌝ }
 {
-    if depth(t, cap, d, n) < d {
+    if !is_positive(t, n, 9) {
         return points::ghost_ok(t, v, cap, columns, rows, d, n);
     }
     points::point_ok(t, v, cap, columns, rows, d, n)

@@ -2,16 +2,17 @@
 ghost use mathlib.Core.Path.{_≡_};
 ghost use mathlib.Core.Bool.{cond};
 ghost use Prim.Native.Nat.{_+_, _*_, _≤_, _<_};
+ghost use lib.Dec.{eqb};
 ghost use lib.ListN.{length, getD};
 ghost use Rattle.mesh.specs.Place.{rectangle, NE};
 ghost use Rattle.mesh.specs.Winds.{winds};
 ghost use Rattle.mesh.specs.Picture.{rowWords};
-ghost use Rattle.table.specs.Words.{linkOf};
+ghost use Rattle.table.specs.Words.{linkOf, depthOf};
 ghost use Rattle.table.specs.Sides.{sideBy};
 ghost use Rattle.checking.specs.Rowwise.{rootOk, childOk, placeOk, kidOk, kidsOk, sidesOk};
 ghost use Rattle.sound.specs.Lent.{Lent};
 ghost use Rattle.sound.specs.Parts.{linked, noKids, sidesBy};
-ghost use Rattle.sound.specs.Plain.{Plain};
+ghost use Rattle.sound.specs.Plain.{Plain, Levelled};
 use crate::plain::depth;
 use crate::plain::link;
 use crate::plain::word;
@@ -44,6 +45,14 @@ pub fn root_ok(t: &[i32], v: &[f64], cap: usize, columns: u32, rows: u32, d: u32
     says(t, n, 0, 0) & (depth(t, cap, d, n) == 0) & says(t, n, 10, 0) & says(t, n, 11, 0)
 }
 
+// Whether the row p is one level above the row n. With the two levels counted from one fixed depth the compiler needs no d here.
+fn is_above(t: &[i32], cap: usize, d: u32, p: usize, n: usize) -> bool
+    requires { ⌜ Plain (now t) cap × Levelled (now t) cap d × (p ≤ cap) × (n ≤ cap) ⌝ }
+    ensures { λ r. ⌜ r ≡ eqb (depthOf (now (t .entry)) d p + 1) (depthOf (now (t .entry)) d n) ⌝ }
+{
+    depth(t, cap, 32, p) + 1 == depth(t, cap, 32, n)
+}
+
 // Any other row is a kid of its parent.
 pub fn child_ok(t: &[i32], v: &[f64], cap: usize, columns: u32, rows: u32, d: u32, n: usize) -> bool
     requires { ⌜ Lent (now t) (now v) cap columns rows d × (n ≤ cap) ⌝ }
@@ -56,7 +65,7 @@ pub fn child_ok(t: &[i32], v: &[f64], cap: usize, columns: u32, rows: u32, d: u3
     if says(t, p, 12, 8192) {
         return false;
     }
-    if !(depth(t, cap, d, p) + 1 == depth(t, cap, d, n)) {
+    if !is_above(t, cap, d, p, n) {
         return false;
     }
     let i = word(t, cap, n, 10);
@@ -67,8 +76,17 @@ pub fn child_ok(t: &[i32], v: &[f64], cap: usize, columns: u32, rows: u32, d: u3
     if !says(t, p, 11, j / 2) {
         return false;
     }
-    let w = kid_word(i % 2, j % 2);
-    says(t, p, w, n as u32)
+    // Digits that are written out make the word of the kid one of the compiler's.
+    if i % 2 == 0 {
+        if j % 2 == 0 {
+            return says(t, p, 3, n as u32);
+        }
+        return says(t, p, 4, n as u32);
+    }
+    if j % 2 == 0 {
+        return says(t, p, 2, n as u32);
+    }
+    says(t, p, 1, n as u32)
 }
 
 pub fn place_ok(t: &[i32], v: &[f64], cap: usize, columns: u32, rows: u32, d: u32, n: usize) -> bool

@@ -1,7 +1,7 @@
 -- `sound::child_ok` meets its contract: each further test adds what the one before it has shown.
 -- Assumes nothing.
 use borrow.Author.Tests.{not-true, not-false}
-use Rattle.sound.proofs.Family.{child-none, child-free, child-deep, child-aside, child-off, child-is}
+use Rattle.sound.proofs.Family.{child-none, child-free, child-deep, child-aside, child-off, child-at}
 use Rattle.sound.proofs.PlainRows.{kept-as-is}
 use borrow.Author.Needs.{needs}
 use native.Mathlib.Omega.{arith}
@@ -28,14 +28,8 @@ returns-2 c =
     let s = p3 .before .before in
     child-free _ _ _ _ _ (s .pre .0 .depth) (p3 .link .ensures .1) (kept-as-is (s .pre .0 .plain) (s .pre .1) 0 (omega arith)) (p2 .if1 .left) (p1 .says .ensures) (c .if2 .taken)
 
-depth-requires : tie.Need-depth-requires
-depth-requires c κs = search needs
-
-add-if3 : tie.Need-add-if3
-add-if3 c = search needs
-
-depth-requires-2 : tie.Need-depth-requires-2
-depth-requires-2 c κs = search needs
+is-above-requires : tie.Need-is-above-requires
+is-above-requires c κs = search needs
 
 returns-3 : tie.Need-returns-3
 returns-3 c =
@@ -44,9 +38,8 @@ returns-3 c =
     let p3 = p2 .before in
     let p4 = p3 .before in
     let p5 = p4 .before in
-    let p6 = p5 .before in
-    let s = p6 .before .before in
-    child-deep _ _ _ _ _ (s .pre .0 .depth) (p6 .link .ensures .1) (kept-as-is (s .pre .0 .plain) (s .pre .1) 0 (omega arith)) (p5 .if1 .left) (p4 .says .ensures) (p3 .if2 .left) (p2 .depth .ensures .1) (p1 .depth2 .ensures .1) (not-true _ (c .if3 .taken))
+    let s = p5 .before .before in
+    child-deep _ _ _ _ _ (s .pre .0 .depth) (p5 .link .ensures .1) (kept-as-is (s .pre .0 .plain) (s .pre .1) 0 (omega arith)) (p4 .if1 .left) (p3 .says .ensures) (p2 .if2 .left) (p1 .is-above .ensures) (not-true _ (c .if3 .taken))
 
 word-requires : tie.Need-word-requires
 word-requires c κs = search needs
@@ -64,9 +57,8 @@ returns-4 c =
     let p6 = p5 .before in
     let p7 = p6 .before in
     let p8 = p7 .before in
-    let p9 = p8 .before in
-    let s = p9 .before .before in
-    child-aside _ _ _ _ _ (s .pre .0 .depth) (p9 .link .ensures .1) (kept-as-is (s .pre .0 .plain) (s .pre .1) 0 (omega arith)) (p8 .if1 .left) (p7 .says .ensures) (p6 .if2 .left) (p5 .depth .ensures .1) (p4 .depth2 .ensures .1) (not-false _ (p3 .if3 .left)) (p2 .word .ensures) (p1 .says2 .ensures) (not-true _ (c .if4 .taken))
+    let s = p8 .before .before in
+    child-aside _ _ _ _ _ (s .pre .0 .depth) (p8 .link .ensures .1) (kept-as-is (s .pre .0 .plain) (s .pre .1) 0 (omega arith)) (p7 .if1 .left) (p6 .says .ensures) (p5 .if2 .left) (p4 .is-above .ensures) (not-false _ (p3 .if3 .left)) (p2 .word .ensures) (p1 .says2 .ensures) (not-true _ (c .if4 .taken))
 
 word-requires-2 : tie.Need-word-requires-2
 word-requires-2 c κs = search needs
@@ -87,21 +79,14 @@ returns-5 c =
     let p9 = p8 .before in
     let p10 = p9 .before in
     let p11 = p10 .before in
-    let p12 = p11 .before in
-    let s = p12 .before .before in
-    child-off _ _ _ _ _ (s .pre .0 .depth) (p12 .link .ensures .1) (kept-as-is (s .pre .0 .plain) (s .pre .1) 0 (omega arith)) (p11 .if1 .left) (p10 .says .ensures) (p9 .if2 .left) (p8 .depth .ensures .1) (p7 .depth2 .ensures .1) (not-false _ (p6 .if3 .left)) (p5 .word .ensures) (p4 .says2 .ensures) (not-false _ (p3 .if4 .left)) (p2 .word2 .ensures) (p1 .says3 .ensures) (not-true _ (c .if5 .taken))
-
-kid-word-requires : tie.Need-kid-word-requires
-kid-word-requires c κs = search needs
+    let s = p11 .before .before in
+    child-off _ _ _ _ _ (s .pre .0 .depth) (p11 .link .ensures .1) (kept-as-is (s .pre .0 .plain) (s .pre .1) 0 (omega arith)) (p10 .if1 .left) (p9 .says .ensures) (p8 .if2 .left) (p7 .is-above .ensures) (not-false _ (p6 .if3 .left)) (p5 .word .ensures) (p4 .says2 .ensures) (not-false _ (p3 .if4 .left)) (p2 .word2 .ensures) (p1 .says3 .ensures) (not-true _ (c .if5 .taken))
 
 cast-says : tie.Need-cast-says
 cast-says c = search needs
 
 says-requires-4 : tie.Need-says-requires-4
-says-requires-4 c κs =
-    let p13 = c .before .before .before .before .before .before .before .before .before .before .before .before .before in
-    let s = p13 .before .before in
-    (omega (arith, p13 .link .ensures .0, c .kid-word .ensures .0, s .pre .0 .words), omega (arith, s .pre .0 .small, s .pre .1))
+says-requires-4 c κs = search needs
 
 returns-6 : tie.Need-returns-6
 returns-6 c =
@@ -120,7 +105,82 @@ returns-6 c =
     let p13 = p12 .before in
     let p14 = p13 .before in
     let s = p14 .before .before in
-    child-is _ _ _ _ _ (s .pre .0 .depth) (p14 .link .ensures .1) (kept-as-is (s .pre .0 .plain) (s .pre .1) 0 (omega arith)) (p13 .if1 .left) (p12 .says .ensures) (p11 .if2 .left) (p10 .depth .ensures .1) (p9 .depth2 .ensures .1) (not-false _ (p8 .if3 .left)) (p7 .word .ensures) (p6 .says2 .ensures) (not-false _ (p5 .if4 .left)) (p4 .word2 .ensures) (p3 .says3 .ensures) (not-false _ (p2 .if5 .left)) (p1 .kid-word .ensures .1) (c .says4 .ensures)
+    child-at _ _ _ _ _ (s .pre .0 .depth) (p14 .link .ensures .1) (kept-as-is (s .pre .0 .plain) (s .pre .1) 0 (omega arith)) (p13 .if1 .left) (p12 .says .ensures) (p11 .if2 .left) (p10 .is-above .ensures) (not-false _ (p9 .if3 .left)) (p8 .word .ensures) (p7 .says2 .ensures) (not-false _ (p6 .if4 .left)) (p5 .word2 .ensures) (p4 .says3 .ensures) (not-false _ (p3 .if5 .left)) 0 0 (p2 .if6 .taken) (p1 .if7 .taken) (c .says4 .ensures)
+
+cast-says-2 : tie.Need-cast-says-2
+cast-says-2 c = search needs
+
+says-requires-5 : tie.Need-says-requires-5
+says-requires-5 c κs = search needs
+
+returns-7 : tie.Need-returns-7
+returns-7 c =
+    let p1 = c .before in
+    let p2 = p1 .before in
+    let p3 = p2 .before in
+    let p4 = p3 .before in
+    let p5 = p4 .before in
+    let p6 = p5 .before in
+    let p7 = p6 .before in
+    let p8 = p7 .before in
+    let p9 = p8 .before in
+    let p10 = p9 .before in
+    let p11 = p10 .before in
+    let p12 = p11 .before in
+    let p13 = p12 .before in
+    let p14 = p13 .before in
+    let s = p14 .before .before in
+    child-at _ _ _ _ _ (s .pre .0 .depth) (p14 .link .ensures .1) (kept-as-is (s .pre .0 .plain) (s .pre .1) 0 (omega arith)) (p13 .if1 .left) (p12 .says .ensures) (p11 .if2 .left) (p10 .is-above .ensures) (not-false _ (p9 .if3 .left)) (p8 .word .ensures) (p7 .says2 .ensures) (not-false _ (p6 .if4 .left)) (p5 .word2 .ensures) (p4 .says3 .ensures) (not-false _ (p3 .if5 .left)) 0 1 (p2 .if6 .taken) (omega (arith, p1 .if7 .left)) (c .says5 .ensures)
+
+cast-says-3 : tie.Need-cast-says-3
+cast-says-3 c = search needs
+
+says-requires-6 : tie.Need-says-requires-6
+says-requires-6 c κs = search needs
+
+returns-8 : tie.Need-returns-8
+returns-8 c =
+    let p1 = c .before in
+    let p2 = p1 .before in
+    let p3 = p2 .before in
+    let p4 = p3 .before in
+    let p5 = p4 .before in
+    let p6 = p5 .before in
+    let p7 = p6 .before in
+    let p8 = p7 .before in
+    let p9 = p8 .before in
+    let p10 = p9 .before in
+    let p11 = p10 .before in
+    let p12 = p11 .before in
+    let p13 = p12 .before in
+    let p14 = p13 .before in
+    let s = p14 .before .before in
+    child-at _ _ _ _ _ (s .pre .0 .depth) (p14 .link .ensures .1) (kept-as-is (s .pre .0 .plain) (s .pre .1) 0 (omega arith)) (p13 .if1 .left) (p12 .says .ensures) (p11 .if2 .left) (p10 .is-above .ensures) (not-false _ (p9 .if3 .left)) (p8 .word .ensures) (p7 .says2 .ensures) (not-false _ (p6 .if4 .left)) (p5 .word2 .ensures) (p4 .says3 .ensures) (not-false _ (p3 .if5 .left)) 1 0 (omega (arith, p2 .if6 .left)) (p1 .if8 .taken) (c .says6 .ensures)
+
+cast-says-4 : tie.Need-cast-says-4
+cast-says-4 c = search needs
+
+says-requires-7 : tie.Need-says-requires-7
+says-requires-7 c κs = search needs
+
+returns-9 : tie.Need-returns-9
+returns-9 c =
+    let p1 = c .before in
+    let p2 = p1 .before in
+    let p3 = p2 .before in
+    let p4 = p3 .before in
+    let p5 = p4 .before in
+    let p6 = p5 .before in
+    let p7 = p6 .before in
+    let p8 = p7 .before in
+    let p9 = p8 .before in
+    let p10 = p9 .before in
+    let p11 = p10 .before in
+    let p12 = p11 .before in
+    let p13 = p12 .before in
+    let p14 = p13 .before in
+    let s = p14 .before .before in
+    child-at _ _ _ _ _ (s .pre .0 .depth) (p14 .link .ensures .1) (kept-as-is (s .pre .0 .plain) (s .pre .1) 0 (omega arith)) (p13 .if1 .left) (p12 .says .ensures) (p11 .if2 .left) (p10 .is-above .ensures) (not-false _ (p9 .if3 .left)) (p8 .word .ensures) (p7 .says2 .ensures) (not-false _ (p6 .if4 .left)) (p5 .word2 .ensures) (p4 .says3 .ensures) (not-false _ (p3 .if5 .left)) 1 1 (omega (arith, p2 .if6 .left)) (omega (arith, p1 .if8 .left)) (c .says7 .ensures)
 
 pub child-ok-spec : {M : Type 1} → statement M
 child-ok-spec =
@@ -130,9 +190,7 @@ child-ok-spec =
     returns
     says-requires
     returns-2
-    depth-requires
-    add-if3
-    depth-requires-2
+    is-above-requires
     returns-3
     word-requires
     says-requires-2
@@ -140,7 +198,15 @@ child-ok-spec =
     word-requires-2
     says-requires-3
     returns-5
-    kid-word-requires
     cast-says
     says-requires-4
-    returns-6)
+    returns-6
+    cast-says-2
+    says-requires-5
+    returns-7
+    cast-says-3
+    says-requires-6
+    returns-8
+    cast-says-4
+    says-requires-7
+    returns-9)
