@@ -41,15 +41,20 @@ module _ (g : Grid) (cap : ℕ) (t : List ℤ) (v : List Float) (n : ℕ) where
     unfolding blankOk
     blank-is h p c s = rw (← same, h, c, s, p)
 
-  pub held-is : {x : Float} {s c f k : Bool} →
-      s ≡ eqb (wordOf t n 13) 1 →
-      c ≡ flagOf t 0 n →
-      x ≡ getD v n plusZero →
-      f ≡ finite x →
-      k ≡ carried t cap v n →
-      (c && f && (s || k)) ≡ heldOk g cap t v n
-  unfolding heldOk
-  held-is s c x f k = rw (s, c, f, k, x) (simp (and-true, and-assoc))
+  module _ {x : Float} {c f : Bool} (own : c ≡ flagOf t 0 n) (here : x ≡ getD v n plusZero) (known : f ≡ finite x) where
+    held-by : heldOk g cap t v n ≡ ((c && f) && (eqb (wordOf t n 13) 1 || carried t cap v n))
+    unfolding heldOk
+    held-by = rw (known, here, own) (simp (and-true, and-assoc))
+
+    pub held-not : (c && f) ≡ false → false ≡ heldOk g cap t v n
+    held-not h = rw (held-by, h)
+
+    module _ (both : (c && f) ≡ true) {s : Bool} (status : s ≡ eqb (wordOf t n 13) 1) where
+      pub held-measured : s ≡ true → true ≡ heldOk g cap t v n
+      held-measured h = rw (held-by, both, ← status, h)
+
+      pub held-carried : s ≡ false → {k : Bool} → k ≡ carried t cap v n → k ≡ heldOk g cap t v n
+      held-carried h k = rw (held-by, both, ← status, h) k
 
   module _ {s : Bool} (status : s ≡ eqb (wordOf t n 13) 0) where
     pub value-blank : {r : Bool} → s ≡ true → r ≡ blankOk g cap t v n → r ≡ valueOk g cap t v n

@@ -41,8 +41,13 @@ pub fn held_ok(t: &[i32], v: &[f64], cap: usize, columns: u32, rows: u32, d: u32
     requires { ⌜ Lent (now t) (now v) cap columns rows d × (n ≤ cap) ⌝ }
     ensures { λ r. ⌜ r ≡ heldOk (rectangle columns rows) cap (now (t .entry)) (now (v .entry)) n ⌝ }
 {
-    let measured = says(t, n, 13, 1);
-    flag(t, cap, 0, n) & is_finite(value(v, n)) & (measured | carried_ok(t, v, cap, n))
+    if !(flag(t, cap, 0, n) & is_finite(value(v, n))) {
+        return false;
+    }
+    if says(t, n, 13, 1) {
+        return true;
+    }
+    carried_ok(t, v, cap, n)
 }
 
 pub fn value_ok(t: &[i32], v: &[f64], cap: usize, columns: u32, rows: u32, d: u32, n: usize) -> bool
