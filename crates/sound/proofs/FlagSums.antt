@@ -1,11 +1,11 @@
 -- The flags of a cell and of a point that is none, from what was read: the sum of `table` with the first flag known.
 -- Assumes nothing.
-use mathlib.Core.Path.{_≡_, refl, sym}
+use mathlib.Core.Path.{_≡_, refl, sym, ap, _∙_}
 use mathlib.Core.Bool.{Bool, true, false, not, _&&_, _||_, cond, Bool·beq}
 use mathlib.Core.List.{List}
-use Prim.Native.Nat.{ℕ, _+_, _*_, _%_, _≤_}
+use Prim.Native.Nat.{ℕ, _+_, _*_, _%_, _<_}
 use native.Mathlib.Omega.{arith}
-use lib.Bits.{bitOr}
+use lib.Bits.{bitOr, or-lt}
 use lib.Dec.{eqb}
 use borrow.Author.Tests.{eqb-true, eqb-false}
 use lib.IntN.{ℤ}
@@ -14,6 +14,7 @@ use Rattle.table.specs.Digits.{four}
 use Rattle.table.specs.Words.{wordOf, linkOf, flagOf, depthOf}
 use Rattle.table.specs.Worked.{edgeH, edgeV, innerH, innerV, flagsFrom}
 use Rattle.table.proofs.Flags.{flags-sum}
+use Rattle.sound.specs.Parts.{pair, edgeAt}
 
 -- a wall beside a cell has one cell where the other side is none, and beside none where it is one
 beq-true : (x : Bool) → Bool·beq true x ≡ x
@@ -33,36 +34,103 @@ last-digit x = go (eqb (x % 2) 1) refl
     go true e = eqb-true (x % 2) 1 e
     go false e = omega (arith, eqb-false (x % 2) 1 e)
 
-or-digit : (x y : Bool) → (bitOr (cond x 1 0) (cond y 1 0) ≤ 1) × (bitOr (cond x 1 0) (cond y 1 0) ≡ cond (x || y) 1 0)
-or-digit true true = (omega arith, refl)
-or-digit true false = (omega arith, refl)
-or-digit false true = (omega arith, refl)
-or-digit false false = (omega arith, refl)
+pub wall-is : (x y : ℕ) → (x % 2 + 16 * (y % 2) < 32) × (x % 2 + 16 * (y % 2) ≡ pair (eqb (x % 2) 1) (eqb (y % 2) 1))
+wall-is x y = (omega arith, omega (arith, last-digit x, last-digit y))
 
-pub either-is : (t : List ℤ) (cap k n a b : ℕ) {x y i j : ℕ} →
+or-pair : (x y z u : Bool) → bitOr (pair x y) (pair z u) ≡ pair (x || z) (y || u)
+or-pair true true true true = refl
+or-pair true true true false = refl
+or-pair true true false true = refl
+or-pair true true false false = refl
+or-pair true false true true = refl
+or-pair true false true false = refl
+or-pair true false false true = refl
+or-pair true false false false = refl
+or-pair false true true true = refl
+or-pair false true true false = refl
+or-pair false true false true = refl
+or-pair false true false false = refl
+or-pair false false true true = refl
+or-pair false false true false = refl
+or-pair false false false true = refl
+or-pair false false false false = refl
+
+pub join-small : (a b : ℕ) → a < 32 → b < 32 → bitOr a b < 32
+join-small a b h k = or-lt 5 a b h k
+
+pub corner-is : (t : List ℤ) (cap n a b : ℕ) {x y i j r : ℕ} →
     x ≡ linkOf t cap n a →
-    i ≡ cond (flagOf t k x) 1 0 →
+    i ≡ pair (flagOf t 4 x) (flagOf t 8 x) →
     y ≡ linkOf t cap n b →
-    j ≡ cond (flagOf t (k + 1) y) 1 0 →
-    (bitOr i j ≤ 1) × (bitOr i j ≡ cond (flagOf t k (linkOf t cap n a) || flagOf t (k + 1) (linkOf t cap n b)) 1 0)
-either-is t cap k n a b x i y j = rw (i, j, x, y) (or-digit (flagOf t k (linkOf t cap n a)) (flagOf t (k + 1) (linkOf t cap n b)))
+    j ≡ pair (flagOf t 5 y) (flagOf t 9 y) →
+    r ≡ bitOr i j →
+    r ≡ pair (flagOf t 4 (linkOf t cap n a) || flagOf t 5 (linkOf t cap n b)) (flagOf t 8 (linkOf t cap n a) || flagOf t 9 (linkOf t cap n b))
+corner-is t cap n a b x i y j r = r ∙ rw (i, j, x, y) (or-pair (flagOf t 4 (linkOf t cap n a)) (flagOf t 8 (linkOf t cap n a)) (flagOf t 5 (linkOf t cap n b)) (flagOf t 9 (linkOf t cap n b)))
+
+-- a wall of the row itself, in each arm of the tests
+module _ (t : List ℤ) (cap d n : ℕ) (one : Bool) (w k : ℕ) where
+  abbrev OwnIs : ℕ → Type 0
+  OwnIs r = (r < 32) × (r ≡ pair (edgeAt t cap d n one w k) (one && not (edgeAt t cap d n one w k)))
+
+  pub own-none : one ≡ false → OwnIs 0
+  own-none o = (omega arith, rw o)
+
+  module _ {b : Bool} (edge : b ≡ edgeAt t cap d n one w k) where
+    pub own-edge : b ≡ true → OwnIs 1
+    own-edge h = (omega arith, rw (← edge, h) (go one))
+      where
+        go : (x : Bool) → 1 ≡ pair true (x && false)
+        go true = refl
+        go false = refl
+
+    pub own-inner : one ≡ true → b ≡ false → OwnIs 16
+    own-inner o h = (omega arith, rw (← edge, h, o))
+
+-- all the walls that meet at a corner: the row's own, and those of two neighbours
+swap : (h v a b : Bool) → ((h || v) || (a || b)) ≡ (h || (a || (v || b)))
+swap true v a b = refl
+swap false true true b = refl
+swap false true false b = refl
+swap false false a b = refl
+
+meet : (h v i j a b c e : Bool) {hh vv x near r : ℕ} →
+    hh ≡ pair h i →
+    vv ≡ pair v j →
+    x ≡ bitOr hh vv →
+    near ≡ pair (a || b) (c || e) →
+    r ≡ bitOr x near →
+    r ≡ pair (h || (a || (v || b))) (i || (c || (j || e)))
+meet h v i j a b c e p q x n r = r ∙ rw (x, p, q, n, or-pair h i v j, or-pair (h || v) (i || j) (a || b) (c || e), swap h v a b, swap i j c e)
+
+-- the walls of both kinds at once are the flags four at a time
+pairs-four : (p q r h v i j e f d n : Bool) →
+    cond p 1 0 + 2 * cond q 1 0 + 4 * cond r 1 0 + 8 * pair e n + 16 * pair h i + 32 * pair v j + 64 * pair d f
+    ≡ four p q r e + 16 * four h v d n + 256 * four i j f false
+unfolding four
+pairs-four p q r h v i j e f d n = omega arith
+
+pairs-step : (p q r h v i j e f d n : Bool) (u : ℕ) →
+    cond p 1 0 + 2 * cond q 1 0 + 4 * cond r 1 0 + 8 * pair e n + 16 * pair h i + 32 * pair v j + 64 * pair d f + u
+    ≡ four p q r e + 16 * four h v d n + 256 * four i j f false + u
+pairs-step p q r h v i j e f d n u = ap (λ (x : ℕ). x + u) (pairs-four p q r h v i j e f d n)
+
+pairs-bare : (q r h v i j e n : Bool) → 2 * cond q 1 0 + 4 * cond r 1 0 + 8 * pair e n + 16 * pair h i + 32 * pair v j ≡ four false q r e + 16 * four h v false n + 256 * four i j false false
+pairs-bare q r h v i j e n = let z = pairs-four false q r h v i j e false false n in omega (arith, z)
 
 -- ---- the sums
 
 module _ (t : List ℤ) (cap d n : ℕ) where
   -- a cell whose own walls have two cells
-  pub inner-sum : (sentenced : Bool) {a b c e u : ℕ} →
+  pub inner-sum : (sentenced : Bool) {a b u : ℕ} →
       flagOf t 0 n ≡ true →
       flagOf t 0 (linkOf t cap n 7) ≡ true →
       flagOf t 0 (linkOf t cap n 8) ≡ true →
-      a ≡ cond (flagOf t 4 (linkOf t cap n 8) || flagOf t 5 (linkOf t cap n 7)) 1 0 →
-      b ≡ cond (flagOf t 4 (linkOf t cap n 5) || flagOf t 5 (linkOf t cap n 6)) 1 0 →
-      c ≡ cond (flagOf t 8 (linkOf t cap n 8) || flagOf t 9 (linkOf t cap n 7)) 1 0 →
-      e ≡ cond (flagOf t 8 (linkOf t cap n 5) || flagOf t 9 (linkOf t cap n 6)) 1 0 →
+      a ≡ pair (flagOf t 4 (linkOf t cap n 8) || flagOf t 5 (linkOf t cap n 7)) (flagOf t 8 (linkOf t cap n 8) || flagOf t 9 (linkOf t cap n 7)) →
+      b ≡ pair (flagOf t 4 (linkOf t cap n 5) || flagOf t 5 (linkOf t cap n 6)) (flagOf t 8 (linkOf t cap n 5) || flagOf t 9 (linkOf t cap n 6)) →
       u ≡ 4096 * cond sentenced 1 0 →
-      7 + 8 * a + 64 * b + 128 * c + 1024 * e + u ≡ digits (flagsFrom t cap d n sentenced)
+      7 + 8 * a + 64 * b + u ≡ digits (flagsFrom t cap d n sentenced)
   unfolding flagsFrom edgeH edgeV innerH innerV
-  inner-sum sentenced o s w a b c e u = rw (o, s, w, a, b, c, e, u) (omega arith)
+  inner-sum sentenced o s w a b u = rw (o, s, w, a, b, u) (omega arith)
 
   -- the wall of the word w, by the bit k of the parent
   abbrev edgeFrom : ℕ → ℕ → Bool
@@ -140,3 +208,59 @@ module _ (t : List ℤ) (cap d n : ℕ) where
       let z : p + 16 * q + 256 * r + 0 ≡ digits (flagsFrom t cap d n false) =
       sum-is {c = false} {one = south} {two = west} o s w (sym (beq-false south)) (sym (beq-false west)) a b false c e refl refl i j k refl in
       omega arith
+
+  -- the sums that the code makes
+  abbrev nearWalls : ℕ
+  nearWalls = pair (flagOf t 4 (linkOf t cap n 8) || flagOf t 5 (linkOf t cap n 7)) (flagOf t 8 (linkOf t cap n 8) || flagOf t 9 (linkOf t cap n 7))
+
+  abbrev farWalls : ℕ
+  farWalls = pair (flagOf t 4 (linkOf t cap n 5) || flagOf t 5 (linkOf t cap n 6)) (flagOf t 8 (linkOf t cap n 5) || flagOf t 9 (linkOf t cap n 6))
+
+  abbrev ownWall : Bool → ℕ → ℕ → ℕ
+  ownWall one w k = pair (edgeAt t cap d n one w k) (one && not (edgeAt t cap d n one w k))
+
+  pub outer-sum : {south west : Bool} (sentenced : Bool) {h v x a b near far u : ℕ} →
+      flagOf t 0 n ≡ true →
+      south ≡ flagOf t 0 (linkOf t cap n 7) →
+      west ≡ flagOf t 0 (linkOf t cap n 8) →
+      h ≡ ownWall (not south) 11 4 →
+      v ≡ ownWall (not west) 10 5 →
+      x ≡ bitOr h v →
+      a ≡ nearWalls →
+      near ≡ bitOr x a →
+      b ≡ farWalls →
+      far ≡ bitOr x b →
+      u ≡ 4096 * cond sentenced 1 0 →
+      7 + 8 * near + 16 * h + 32 * v + 64 * far + u ≡ digits (flagsFrom t cap d n sentenced)
+  outer-sum {south} {west} sentenced {h} {v} {near = near} {far = far} {u = u} o s w hh vv x a y b z q =
+      let i = (not south) && not (edgeAt t cap d n (not south) 11 4) in
+      let j = (not west) && not (edgeAt t cap d n (not west) 10 5) in
+      let e = meet (edgeAt t cap d n (not south) 11 4) (edgeAt t cap d n (not west) 10 5) i j (flagOf t 4 (linkOf t cap n 8)) (flagOf t 5 (linkOf t cap n 7)) (flagOf t 8 (linkOf t cap n 8)) (flagOf t 9 (linkOf t cap n 7)) hh vv x a y in
+      let f = meet (edgeAt t cap d n (not south) 11 4) (edgeAt t cap d n (not west) 10 5) i j (flagOf t 4 (linkOf t cap n 5)) (flagOf t 5 (linkOf t cap n 6)) (flagOf t 8 (linkOf t cap n 5)) (flagOf t 9 (linkOf t cap n 6)) hh vv x b z in
+      let sum = cell-sum sentenced o s w refl refl refl refl refl refl refl refl refl q in
+      rw (e, f, hh, vv) (pairs-step true true true (edgeAt t cap d n (not south) 11 4) (edgeAt t cap d n (not west) 10 5) i j
+      ((edgeAt t cap d n (not south) 11 4) || ((flagOf t 4 (linkOf t cap n 8)) || ((edgeAt t cap d n (not west) 10 5) || (flagOf t 5 (linkOf t cap n 7)))))
+      (i || ((flagOf t 8 (linkOf t cap n 5)) || (j || (flagOf t 9 (linkOf t cap n 6)))))
+      ((edgeAt t cap d n (not south) 11 4) || ((flagOf t 4 (linkOf t cap n 5)) || ((edgeAt t cap d n (not west) 10 5) || (flagOf t 5 (linkOf t cap n 6)))))
+      (i || ((flagOf t 8 (linkOf t cap n 8)) || (j || (flagOf t 9 (linkOf t cap n 7))))) u) ∙ sum
+
+  pub bare-walls : {south west : Bool} {h v x a near p q : ℕ} →
+      flagOf t 0 n ≡ false →
+      south ≡ flagOf t 0 (linkOf t cap n 7) →
+      west ≡ flagOf t 0 (linkOf t cap n 8) →
+      h ≡ ownWall south 11 4 →
+      v ≡ ownWall west 10 5 →
+      x ≡ bitOr h v →
+      a ≡ nearWalls →
+      near ≡ bitOr x a →
+      p ≡ 2 * cond south 1 0 →
+      q ≡ 4 * cond west 1 0 →
+      p + q + 8 * near + 16 * h + 32 * v ≡ digits (flagsFrom t cap d n false)
+  bare-walls {south} {west} o s w hh vv x a y p q =
+      let i = south && not (edgeAt t cap d n south 11 4) in
+      let j = west && not (edgeAt t cap d n west 10 5) in
+      let e = meet (edgeAt t cap d n south 11 4) (edgeAt t cap d n west 10 5) i j (flagOf t 4 (linkOf t cap n 8)) (flagOf t 5 (linkOf t cap n 7)) (flagOf t 8 (linkOf t cap n 8)) (flagOf t 9 (linkOf t cap n 7)) hh vv x a y in
+      let sum = bare-sum o s w refl refl refl refl refl refl refl in
+      rw (e, hh, vv, p, q) (pairs-bare south west (edgeAt t cap d n south 11 4) (edgeAt t cap d n west 10 5) i j
+      ((edgeAt t cap d n south 11 4) || ((flagOf t 4 (linkOf t cap n 8)) || ((edgeAt t cap d n west 10 5) || (flagOf t 5 (linkOf t cap n 7)))))
+      (i || ((flagOf t 8 (linkOf t cap n 8)) || (j || (flagOf t 9 (linkOf t cap n 7)))))) ∙ sum

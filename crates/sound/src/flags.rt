@@ -1,23 +1,23 @@
-// The flags of a cell, and of a point that is none: `flags_from` with its first flag known.
+// The flags of a cell, and of a point that is none. Boundary and green walls are counted together, as 1 and as 16: their flags stand four bits apart.
 ghost use mathlib.Core.Path.{_≡_};
-ghost use mathlib.Core.Bool.{true, false, _&&_, _||_, cond};
-ghost use Prim.Native.Nat.{_+_, _%_, _≤_, _<_};
-ghost use lib.Dec.{eqb};
+ghost use mathlib.Core.Bool.{true, false, not, _&&_, _||_};
+ghost use Prim.Native.Nat.{_+_, _≤_, _<_};
+ghost use lib.Bits.{bitOr};
 ghost use Rattle.mesh.specs.Tools.{digits};
-ghost use Rattle.table.specs.Words.{wordOf, linkOf, flagOf, depthOf};
+ghost use Rattle.table.specs.Words.{linkOf, flagOf};
 ghost use Rattle.table.specs.Worked.{flagsFrom};
+ghost use Rattle.sound.specs.Parts.{pair, edgeAt};
 ghost use Rattle.sound.specs.Plain.{Plain, Levelled};
 use crate::plain::depth;
 use crate::plain::flag;
 use crate::plain::link;
 use crate::plain::word;
-use table::worked::digits_of_four;
 use table::worked::weigh;
 
 // Whether a wall is boundary, if it has one cell: on level 0, and above where the wall of the parent is, by its bit k, and the word w is even.
 fn edge(t: &[i32], cap: usize, d: u32, n: usize, one: bool, w: usize, k: u32) -> bool
     requires { ⌜ Plain (now t) cap × Levelled (now t) cap d × (n ≤ cap) × (9 < w) × (w < 13) × (k < 32) ⌝ }
-    ensures { λ r. ⌜ r ≡ (one && (eqb (depthOf (now (t .entry)) d n) d || (eqb (wordOf (now (t .entry)) n w % 2) 0 && flagOf (now (t .entry)) k (linkOf (now (t .entry)) cap n 0)))) ⌝ }
+    ensures { λ r. ⌜ r ≡ edgeAt (now (t .entry)) cap d n one w k ⌝ }
 {
     if !one {
         return false;
@@ -28,30 +28,46 @@ fn edge(t: &[i32], cap: usize, d: u32, n: usize, one: bool, w: usize, k: u32) ->
     (word(t, cap, n, w) % 2 == 0) & flag(t, cap, k, link(t, cap, n, 0))
 }
 
-// Whether one of the walls that meet at a corner is of the kind of bit k: h and v are the row's own, a and b the words of the neighbours that have the others.
-fn meets(t: &[i32], cap: usize, k: u32, n: usize, a: usize, b: usize, h: bool, v: bool) -> bool
-    requires { ⌜ Plain (now t) cap × (n ≤ cap) × (k < 31) × (a < 9) × (b < 9) ⌝ }
-    ensures { λ r. ⌜ r ≡ (h || (flagOf (now (t .entry)) k (linkOf (now (t .entry)) cap n a) || (v || flagOf (now (t .entry)) (k + 1) (linkOf (now (t .entry)) cap n b)))) ⌝ }
+// A wall of the row that has one cell, if it has one: 1 where it is boundary, 16 where it is green.
+fn own(t: &[i32], cap: usize, d: u32, n: usize, one: bool, w: usize, k: u32) -> u32
+    requires { ⌜ Plain (now t) cap × Levelled (now t) cap d × (n ≤ cap) × (9 < w) × (w < 13) × (k < 32) ⌝ }
+    ensures { λ r. ⌜ (r < 32) × (r ≡ pair (edgeAt (now (t .entry)) cap d n one w k) (one && not (edgeAt (now (t .entry)) cap d n one w k))) ⌝ }
 {
-    let x = link(t, cap, n, a);
-    let y = link(t, cap, n, b);
-    h | (flag(t, cap, k, x) | (v | flag(t, cap, k + 1, y)))
+    if !one {
+        return 0;
+    }
+    if edge(t, cap, d, n, one, w, k) {
+        return 1;
+    }
+    16
 }
 
-// The flag of bit k as the number 0 or 1.
-fn bit(t: &[i32], cap: usize, k: u32, n: usize) -> u32
-    requires { ⌜ Plain (now t) cap × (n ≤ cap) × (k < 32) ⌝ }
-    ensures { λ r. ⌜ r ≡ cond (flagOf (now (t .entry)) k n) 1 0 ⌝ }
+// The wall of bit k of the row n, boundary or green.
+fn wall(t: &[i32], cap: usize, k: u32, n: usize) -> u32
+    requires { ⌜ Plain (now t) cap × (n ≤ cap) × (k < 28) ⌝ }
+    ensures { λ r. ⌜ (r < 32) × (r ≡ pair (flagOf (now (t .entry)) k n) (flagOf (now (t .entry)) (k + 4) n)) ⌝ }
 {
-    (word(t, cap, n, 12) >> k) % 2
+    let w = word(t, cap, n, 12);
+    (w >> k) % 2 + 16 * ((w >> (k + 4)) % 2)
 }
 
-// Whether one of the walls of the neighbours at the words a and b is of the kind of bit k, as a number.
-fn either(t: &[i32], cap: usize, k: u32, n: usize, a: usize, b: usize) -> u32
-    requires { ⌜ Plain (now t) cap × (n ≤ cap) × (k < 31) × (a < 9) × (b < 9) ⌝ }
-    ensures { λ r. ⌜ (r ≤ 1) × (r ≡ cond (flagOf (now (t .entry)) k (linkOf (now (t .entry)) cap n a) || flagOf (now (t .entry)) (k + 1) (linkOf (now (t .entry)) cap n b)) 1 0) ⌝ }
+// Two walls that meet.
+fn join(a: u32, b: u32) -> u32
+    requires { ⌜ (a < 32) × (b < 32) ⌝ }
+    ensures { λ r. ⌜ (r < 32) × (r ≡ bitOr a b) ⌝ }
 {
-    bit(t, cap, k, link(t, cap, n, a)) | bit(t, cap, k + 1, link(t, cap, n, b))
+    a | b
+}
+
+// The walls that the neighbours at the words a and b have at a corner: an H-wall and a V-wall.
+fn corner(t: &[i32], cap: usize, n: usize, a: usize, b: usize) -> u32
+    requires { ⌜ Plain (now t) cap × (n ≤ cap) × (a < 9) × (b < 9) ⌝ }
+    ensures { λ r. ⌜ (r < 32) × (r ≡ pair (flagOf (now (t .entry)) 4 (linkOf (now (t .entry)) cap n a) || flagOf (now (t .entry)) 5 (linkOf (now (t .entry)) cap n b)) (flagOf (now (t .entry)) 8 (linkOf (now (t .entry)) cap n a) || flagOf (now (t .entry)) 9 (linkOf (now (t .entry)) cap n b))) ⌝ }
+{
+    join(
+        wall(t, cap, 4, link(t, cap, n, a)),
+        wall(t, cap, 5, link(t, cap, n, b)),
+    )
 }
 
 // The flags of a cell whose own walls have two cells: only the walls of its neighbours play a part.
@@ -59,11 +75,9 @@ fn inner_flags(t: &[i32], cap: usize, d: u32, n: usize, sentenced: bool) -> u32
     requires { ⌜ Plain (now t) cap × (n ≤ cap) × (flagOf (now t) 0 n ≡ true) × (flagOf (now t) 0 (linkOf (now t) cap n 7) ≡ true) × (flagOf (now t) 0 (linkOf (now t) cap n 8) ≡ true) ⌝ }
     ensures { λ r. ⌜ (r < 16384) × (r ≡ digits (flagsFrom (now (t .entry)) cap d n sentenced)) ⌝ }
 {
-    let edges = either(t, cap, 4, n, 8, 7);
-    let edged = either(t, cap, 4, n, 5, 6);
-    let inners = either(t, cap, 8, n, 8, 7);
-    let fenced = either(t, cap, 8, n, 5, 6);
-    7 + 8 * edges + 64 * edged + 128 * inners + 1024 * fenced + weigh(sentenced, 4096)
+    let near = corner(t, cap, n, 8, 7);
+    let far = corner(t, cap, n, 5, 6);
+    7 + 8 * near + 64 * far + weigh(sentenced, 4096)
 }
 
 // The flags of a cell with a wall of one cell.
@@ -71,20 +85,14 @@ fn outer_flags(t: &[i32], cap: usize, d: u32, n: usize, sentenced: bool) -> u32
     requires { ⌜ Plain (now t) cap × Levelled (now t) cap d × (n ≤ cap) × (flagOf (now t) 0 n ≡ true) ⌝ }
     ensures { λ r. ⌜ (r < 16384) × (r ≡ digits (flagsFrom (now (t .entry)) cap d n sentenced)) ⌝ }
 {
-    let one = !flag(t, cap, 0, link(t, cap, n, 7));
-    let two = !flag(t, cap, 0, link(t, cap, n, 8));
-    let h = edge(t, cap, d, n, one, 11, 4);
-    let v = edge(t, cap, d, n, two, 10, 5);
-    let i = one & !h;
-    let j = two & !v;
-    let edges = meets(t, cap, 4, n, 8, 7, h, v);
-    let inners = meets(t, cap, 8, n, 8, 7, i, j);
-    let edged = meets(t, cap, 4, n, 5, 6, h, v);
-    let fenced = meets(t, cap, 8, n, 5, 6, i, j);
-    digits_of_four(true, true, true, edges)
-        + 16 * digits_of_four(h, v, edged, inners)
-        + 256 * digits_of_four(i, j, fenced, false)
-        + weigh(sentenced, 4096)
+    let south = flag(t, cap, 0, link(t, cap, n, 7));
+    let west = flag(t, cap, 0, link(t, cap, n, 8));
+    let h = own(t, cap, d, n, !south, 11, 4);
+    let v = own(t, cap, d, n, !west, 10, 5);
+    let x = join(h, v);
+    let near = join(x, corner(t, cap, n, 8, 7));
+    let far = join(x, corner(t, cap, n, 5, 6));
+    7 + 8 * near + 16 * h + 32 * v + 64 * far + weigh(sentenced, 4096)
 }
 
 // The flags of a cell.
@@ -105,15 +113,11 @@ pub fn bare_flags(t: &[i32], cap: usize, d: u32, n: usize) -> u32
     requires { ⌜ Plain (now t) cap × Levelled (now t) cap d × (n ≤ cap) × (flagOf (now t) 0 n ≡ false) ⌝ }
     ensures { λ r. ⌜ (r < 16384) × (r ≡ digits (flagsFrom (now (t .entry)) cap d n false)) ⌝ }
 {
-    let one = flag(t, cap, 0, link(t, cap, n, 7));
-    let two = flag(t, cap, 0, link(t, cap, n, 8));
-    let h = edge(t, cap, d, n, one, 11, 4);
-    let v = edge(t, cap, d, n, two, 10, 5);
-    let i = one & !h;
-    let j = two & !v;
-    let edges = meets(t, cap, 4, n, 8, 7, h, v);
-    let inners = meets(t, cap, 8, n, 8, 7, i, j);
-    digits_of_four(false, one, two, edges)
-        + 16 * digits_of_four(h, v, false, inners)
-        + 256 * digits_of_four(i, j, false, false)
+    let south = flag(t, cap, 0, link(t, cap, n, 7));
+    let west = flag(t, cap, 0, link(t, cap, n, 8));
+    let h = own(t, cap, d, n, south, 11, 4);
+    let v = own(t, cap, d, n, west, 10, 5);
+    let x = join(h, v);
+    let near = join(x, corner(t, cap, n, 8, 7));
+    weigh(south, 2) + weigh(west, 4) + 8 * near + 16 * h + 32 * v
 }

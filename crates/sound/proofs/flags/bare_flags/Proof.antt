@@ -1,8 +1,9 @@
--- `sound::bare_flags` meets its contract: the flags, four at a time.
+-- `sound::bare_flags` meets its contract: the walls of both kinds at once.
 -- Assumes nothing.
 use mathlib.Core.Path.{ap, _∙_}
 use Rattle.table.specs.Words.{flagOf}
-use Rattle.sound.proofs.FlagSums.{bare-sum}
+use Rattle.sound.proofs.FlagSums.{bare-walls}
+use native.Mathlib.Omega.{arith}
 use borrow.Author.Needs.{needs}
 use Rattle.sound.proofs.flags.bare_flags.Statement.{statement}
 use Rattle.sound.proofs.flags.bare_flags.Tie as tie
@@ -19,38 +20,47 @@ link-requires-2 c κs = search needs
 flag-requires-2 : tie.Need-flag-requires-2
 flag-requires-2 c κs = search needs
 
-edge-requires : tie.Need-edge-requires
-edge-requires c κs = search needs
+own-requires : tie.Need-own-requires
+own-requires c κs = search needs
 
-edge-requires-2 : tie.Need-edge-requires-2
-edge-requires-2 c κs = search needs
+own-requires-2 : tie.Need-own-requires-2
+own-requires-2 c κs = search needs
 
-meets-requires : tie.Need-meets-requires
-meets-requires c κs = search needs
+join-requires : tie.Need-join-requires
+join-requires c κs = search needs
 
-meets-requires-2 : tie.Need-meets-requires-2
-meets-requires-2 c κs = search needs
+corner-requires : tie.Need-corner-requires
+corner-requires c κs = search needs
 
-digits-of-four-requires : tie.Need-digits-of-four-requires
-digits-of-four-requires c κs = search needs
+join-requires-2 : tie.Need-join-requires-2
+join-requires-2 c κs = search needs
 
-digits-of-four-requires-2 : tie.Need-digits-of-four-requires-2
-digits-of-four-requires-2 c κs = search needs
+weigh-requires : tie.Need-weigh-requires
+weigh-requires c κs = search needs
 
-mul-result : tie.Need-mul-result
-mul-result c = search needs
+weigh-requires-2 : tie.Need-weigh-requires-2
+weigh-requires-2 c κs = search needs
 
 add-result : tie.Need-add-result
 add-result c = search needs
 
-digits-of-four-requires-3 : tie.Need-digits-of-four-requires-3
-digits-of-four-requires-3 c κs = search needs
+mul-result : tie.Need-mul-result
+mul-result c = search needs
+
+add-result-2 : tie.Need-add-result-2
+add-result-2 c = search needs
 
 mul-result-2 : tie.Need-mul-result-2
 mul-result-2 c = search needs
 
-add-result-2 : tie.Need-add-result-2
-add-result-2 c = search needs
+add-result-3 : tie.Need-add-result-3
+add-result-3 c = search needs
+
+mul-result-3 : tie.Need-mul-result-3
+mul-result-3 c = search needs
+
+add-result-4 : tie.Need-add-result-4
+add-result-4 c = search needs
 
 returns : tie.Need-returns
 returns c =
@@ -64,11 +74,10 @@ returns c =
     let p8 = p7 .before in
     let p9 = p8 .before in
     let p10 = p9 .before in
-    let p11 = p10 .before in (
-      search needs,
-      bare-sum (p11 .args .t .now) (p11 .args .cap) (p11 .args .d) (p11 .args .n) (p11 .pre .3)
-          (p9 .flag .ensures ∙ ap (flagOf (p11 .args .t .now) 0) (p10 .link .ensures .1)) (p7 .flag2 .ensures ∙ ap (flagOf (p11 .args .t .now) 0) (p8 .link2 .ensures .1)) (p6 .edge .ensures) (p5 .edge2 .ensures) (p4 .meets .ensures) (p3 .meets2 .ensures)
-          (p2 .digits-of-four .ensures .1) (p1 .digits-of-four2 .ensures .1) (c .digits-of-four3 .ensures .1),
+    let s = p10 .before in (
+      omega (arith, p6 .own .ensures .0, p5 .own2 .ensures .0, p2 .join2 .ensures .0, p1 .weigh .ensures .0, c .weigh2 .ensures .0),
+      bare-walls (s .args .t .now) (s .args .cap) (s .args .d) (s .args .n) (s .pre .3)
+          (p9 .flag .ensures ∙ ap (flagOf (s .args .t .now) 0) (p10 .link .ensures .1)) (p7 .flag2 .ensures ∙ ap (flagOf (s .args .t .now) 0) (p8 .link2 .ensures .1)) (p6 .own .ensures .1) (p5 .own2 .ensures .1) (p4 .join .ensures .1) (p3 .corner .ensures .1) (p2 .join2 .ensures .1) (p1 .weigh .ensures .1) (c .weigh2 .ensures .1),
     )
 
 pub bare-flags-spec : {M : Type 1} → statement M
@@ -79,15 +88,18 @@ bare-flags-spec =
     flag-requires
     link-requires-2
     flag-requires-2
-    edge-requires
-    edge-requires-2
-    meets-requires
-    meets-requires-2
-    digits-of-four-requires
-    digits-of-four-requires-2
-    mul-result
+    own-requires
+    own-requires-2
+    join-requires
+    corner-requires
+    join-requires-2
+    weigh-requires
+    weigh-requires-2
     add-result
-    digits-of-four-requires-3
-    mul-result-2
+    mul-result
     add-result-2
+    mul-result-2
+    add-result-3
+    mul-result-3
+    add-result-4
     returns)

@@ -6,17 +6,11 @@ use borrow.Author.Needs.{needs}
 use Rattle.sound.proofs.flags.inner_flags.Statement.{statement}
 use Rattle.sound.proofs.flags.inner_flags.Tie as tie
 
-either-requires : tie.Need-either-requires
-either-requires c κs = search needs
+corner-requires : tie.Need-corner-requires
+corner-requires c κs = search needs
 
-either-requires-2 : tie.Need-either-requires-2
-either-requires-2 c κs = search needs
-
-either-requires-3 : tie.Need-either-requires-3
-either-requires-3 c κs = search needs
-
-either-requires-4 : tie.Need-either-requires-4
-either-requires-4 c κs = search needs
+corner-requires-2 : tie.Need-corner-requires-2
+corner-requires-2 c κs = search needs
 
 mul-result : tie.Need-mul-result
 mul-result c = search needs
@@ -30,51 +24,31 @@ mul-result-2 c = search needs
 add-result-2 : tie.Need-add-result-2
 add-result-2 c = search needs
 
-mul-result-3 : tie.Need-mul-result-3
-mul-result-3 c = search needs
-
-add-result-3 : tie.Need-add-result-3
-add-result-3 c = search needs
-
-mul-result-4 : tie.Need-mul-result-4
-mul-result-4 c = search needs
-
-add-result-4 : tie.Need-add-result-4
-add-result-4 c = search needs
-
 weigh-requires : tie.Need-weigh-requires
 weigh-requires c κs = search needs
 
-add-result-5 : tie.Need-add-result-5
-add-result-5 c = search needs
+add-result-3 : tie.Need-add-result-3
+add-result-3 c = search needs
 
 returns : tie.Need-returns
 returns c =
     let p1 = c .before in
     let p2 = p1 .before in
-    let p3 = p2 .before in
-    let p4 = p3 .before in
-    let s = p4 .before in (
-      omega (arith, p4 .either .ensures .0, p3 .either2 .ensures .0, p2 .either3 .ensures .0, p1 .either4 .ensures .0, c .weigh .ensures .0),
-      inner-sum (s .args .t .now) (s .args .cap) (s .args .d) (s .args .n) (s .args .sentenced) (s .pre .2) (s .pre .3) (s .pre .4) (p4 .either .ensures .1) (p3 .either2 .ensures .1) (p2 .either3 .ensures .1) (p1 .either4 .ensures .1) (c .weigh .ensures .1),
+    let s = p2 .before in (
+      omega (arith, p2 .corner .ensures .0, p1 .corner2 .ensures .0, c .weigh .ensures .0),
+      inner-sum (s .args .t .now) (s .args .cap) (s .args .d) (s .args .n) (s .args .sentenced) (s .pre .2) (s .pre .3) (s .pre .4) (p2 .corner .ensures .1) (p1 .corner2 .ensures .1) (c .weigh .ensures .1),
     )
 
 pub inner-flags-spec : {M : Type 1} → statement M
 inner-flags-spec =
     tie.close
     (tie.spec
-    either-requires
-    either-requires-2
-    either-requires-3
-    either-requires-4
+    corner-requires
+    corner-requires-2
     mul-result
     add-result
     mul-result-2
     add-result-2
-    mul-result-3
-    add-result-3
-    mul-result-4
-    add-result-4
     weigh-requires
-    add-result-5
+    add-result-3
     returns)

@@ -1,10 +1,10 @@
--- `sound::outer_flags` meets its contract: the flags, four at a time.
+-- `sound::outer_flags` meets its contract: the walls of both kinds at once.
 -- Assumes nothing.
 use mathlib.Core.Path.{ap, _∙_}
 use Rattle.table.specs.Words.{flagOf}
-use Rattle.sound.proofs.FlagSums.{cell-sum}
-use borrow.Author.Needs.{needs}
+use Rattle.sound.proofs.FlagSums.{outer-sum}
 use native.Mathlib.Omega.{arith}
+use borrow.Author.Needs.{needs}
 use Rattle.sound.proofs.flags.outer_flags.Statement.{statement}
 use Rattle.sound.proofs.flags.outer_flags.Tie as tie
 
@@ -20,29 +20,26 @@ link-requires-2 c κs = search needs
 flag-requires-2 : tie.Need-flag-requires-2
 flag-requires-2 c κs = search needs
 
-edge-requires : tie.Need-edge-requires
-edge-requires c κs = search needs
+own-requires : tie.Need-own-requires
+own-requires c κs = search needs
 
-edge-requires-2 : tie.Need-edge-requires-2
-edge-requires-2 c κs = search needs
+own-requires-2 : tie.Need-own-requires-2
+own-requires-2 c κs = search needs
 
-meets-requires : tie.Need-meets-requires
-meets-requires c κs = search needs
+join-requires : tie.Need-join-requires
+join-requires c κs = search needs
 
-meets-requires-2 : tie.Need-meets-requires-2
-meets-requires-2 c κs = search needs
+corner-requires : tie.Need-corner-requires
+corner-requires c κs = search needs
 
-meets-requires-3 : tie.Need-meets-requires-3
-meets-requires-3 c κs = search needs
+join-requires-2 : tie.Need-join-requires-2
+join-requires-2 c κs = search needs
 
-meets-requires-4 : tie.Need-meets-requires-4
-meets-requires-4 c κs = search needs
+corner-requires-2 : tie.Need-corner-requires-2
+corner-requires-2 c κs = search needs
 
-digits-of-four-requires : tie.Need-digits-of-four-requires
-digits-of-four-requires c κs = search needs
-
-digits-of-four-requires-2 : tie.Need-digits-of-four-requires-2
-digits-of-four-requires-2 c κs = search needs
+join-requires-3 : tie.Need-join-requires-3
+join-requires-3 c κs = search needs
 
 mul-result : tie.Need-mul-result
 mul-result c = search needs
@@ -50,20 +47,29 @@ mul-result c = search needs
 add-result : tie.Need-add-result
 add-result c = search needs
 
-digits-of-four-requires-3 : tie.Need-digits-of-four-requires-3
-digits-of-four-requires-3 c κs = search needs
-
 mul-result-2 : tie.Need-mul-result-2
 mul-result-2 c = search needs
 
 add-result-2 : tie.Need-add-result-2
 add-result-2 c = search needs
 
-weigh-requires : tie.Need-weigh-requires
-weigh-requires c κs = search needs
+mul-result-3 : tie.Need-mul-result-3
+mul-result-3 c = search needs
 
 add-result-3 : tie.Need-add-result-3
 add-result-3 c = search needs
+
+mul-result-4 : tie.Need-mul-result-4
+mul-result-4 c = search needs
+
+add-result-4 : tie.Need-add-result-4
+add-result-4 c = search needs
+
+weigh-requires : tie.Need-weigh-requires
+weigh-requires c κs = search needs
+
+add-result-5 : tie.Need-add-result-5
+add-result-5 c = search needs
 
 returns : tie.Need-returns
 returns c =
@@ -78,13 +84,10 @@ returns c =
     let p9 = p8 .before in
     let p10 = p9 .before in
     let p11 = p10 .before in
-    let p12 = p11 .before in
-    let p13 = p12 .before in
-    let p14 = p13 .before in (
-      omega (arith, p3 .digits-of-four .ensures .0, p2 .digits-of-four2 .ensures .0, p1 .digits-of-four3 .ensures .0, c .weigh .ensures .0),
-      cell-sum (p14 .args .t .now) (p14 .args .cap) (p14 .args .d) (p14 .args .n) (p14 .args .sentenced) (p14 .pre .3)
-          (p12 .flag .ensures ∙ ap (flagOf (p14 .args .t .now) 0) (p13 .link .ensures .1)) (p10 .flag2 .ensures ∙ ap (flagOf (p14 .args .t .now) 0) (p11 .link2 .ensures .1)) (p9 .edge .ensures) (p8 .edge2 .ensures) (p7 .meets .ensures) (p6 .meets2 .ensures) (p5 .meets3 .ensures) (p4 .meets4 .ensures)
-          (p3 .digits-of-four .ensures .1) (p2 .digits-of-four2 .ensures .1) (p1 .digits-of-four3 .ensures .1) (c .weigh .ensures .1),
+    let s = p11 .before in (
+      omega (arith, p7 .own .ensures .0, p6 .own2 .ensures .0, p3 .join2 .ensures .0, p1 .join3 .ensures .0, c .weigh .ensures .0),
+      outer-sum (s .args .t .now) (s .args .cap) (s .args .d) (s .args .n) (s .args .sentenced) (s .pre .3)
+          (p10 .flag .ensures ∙ ap (flagOf (s .args .t .now) 0) (p11 .link .ensures .1)) (p8 .flag2 .ensures ∙ ap (flagOf (s .args .t .now) 0) (p9 .link2 .ensures .1)) (p7 .own .ensures .1) (p6 .own2 .ensures .1) (p5 .join .ensures .1) (p4 .corner .ensures .1) (p3 .join2 .ensures .1) (p2 .corner2 .ensures .1) (p1 .join3 .ensures .1) (c .weigh .ensures .1),
     )
 
 pub outer-flags-spec : {M : Type 1} → statement M
@@ -95,19 +98,21 @@ outer-flags-spec =
     flag-requires
     link-requires-2
     flag-requires-2
-    edge-requires
-    edge-requires-2
-    meets-requires
-    meets-requires-2
-    meets-requires-3
-    meets-requires-4
-    digits-of-four-requires
-    digits-of-four-requires-2
+    own-requires
+    own-requires-2
+    join-requires
+    corner-requires
+    join-requires-2
+    corner-requires-2
+    join-requires-3
     mul-result
     add-result
-    digits-of-four-requires-3
     mul-result-2
     add-result-2
-    weigh-requires
+    mul-result-3
     add-result-3
+    mul-result-4
+    add-result-4
+    weigh-requires
+    add-result-5
     returns)

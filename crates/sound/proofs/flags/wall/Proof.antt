@@ -1,0 +1,34 @@
+-- `sound::wall` meets its contract: two digits.
+-- Assumes nothing.
+use Rattle.table.specs.Words.{flagOf}
+use Rattle.sound.proofs.FlagSums.{wall-is}
+use borrow.Author.Needs.{needs}
+use Rattle.sound.proofs.flags.wall.Statement.{statement}
+use Rattle.sound.proofs.flags.wall.Tie as tie
+
+word-requires : tie.Need-word-requires
+word-requires c κs = search needs
+
+shr-result : tie.Need-shr-result
+shr-result c = search needs
+
+add-result : tie.Need-add-result
+add-result c = search needs
+
+shr-result-2 : tie.Need-shr-result-2
+shr-result-2 c = search needs
+
+mul-result : tie.Need-mul-result
+mul-result c = search needs
+
+add-result-2 : tie.Need-add-result-2
+add-result-2 c = search needs
+
+returns : tie.Need-returns
+unfolding flagOf
+returns c = rw (c .word .ensures) (wall-is _ _)
+
+pub wall-spec : {M : Type 1} → statement M
+wall-spec =
+    tie.close
+    (tie.spec word-requires shr-result add-result shr-result-2 mul-result add-result-2 returns)
