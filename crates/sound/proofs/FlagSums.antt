@@ -1,4 +1,5 @@
--- The flags of a cell and of a point that is none, from what was read: the sum of `table` with the first flag known.
+-- The flags of a cell and of a point that is none, from what was read: the sum of `table` with the first flag known, and boundary and green
+-- walls counted together.
 -- Assumes nothing.
 use mathlib.Core.Path.{_≡_, refl, sym, ap, _∙_}
 use mathlib.Core.Bool.{Bool, true, false, not, _&&_, _||_, cond, Bool·beq}
@@ -11,7 +12,7 @@ use borrow.Author.Tests.{eqb-true, eqb-false}
 use lib.IntN.{ℤ}
 use Rattle.mesh.specs.Tools.{digits}
 use Rattle.table.specs.Digits.{four}
-use Rattle.table.specs.Words.{wordOf, linkOf, flagOf, depthOf}
+use Rattle.table.specs.Words.{linkOf, flagOf}
 use Rattle.table.specs.Worked.{edgeH, edgeV, innerH, innerV, flagsFrom}
 use Rattle.table.proofs.Flags.{flags-sum}
 use Rattle.sound.specs.Parts.{pair, edgeAt}
@@ -27,7 +28,7 @@ beq-false false = refl
 
 -- ---- flags as numbers
 
-pub last-digit : (x : ℕ) → x % 2 ≡ cond (eqb (x % 2) 1) 1 0
+last-digit : (x : ℕ) → x % 2 ≡ cond (eqb (x % 2) 1) 1 0
 last-digit x = go (eqb (x % 2) 1) refl
   where
     go : (b : Bool) → eqb (x % 2) 1 ≡ b → x % 2 ≡ cond b 1 0
@@ -132,18 +133,14 @@ module _ (t : List ℤ) (cap d n : ℕ) where
   unfolding flagsFrom edgeH edgeV innerH innerV
   inner-sum sentenced o s w a b u = rw (o, s, w, a, b, u) (omega arith)
 
-  -- the wall of the word w, by the bit k of the parent
-  abbrev edgeFrom : ℕ → ℕ → Bool
-  edgeFrom w k = eqb (depthOf t d n) d || (eqb (wordOf t n w % 2) 0 && flagOf t k (linkOf t cap n 0))
-
   module _ {c south west one two h v : Bool}
       (own : flagOf t 0 n ≡ c)
       (below : south ≡ flagOf t 0 (linkOf t cap n 7))
       (aside : west ≡ flagOf t 0 (linkOf t cap n 8))
       (first : one ≡ not (Bool·beq c south))
       (second : two ≡ not (Bool·beq c west))
-      (edgeh : h ≡ (one && edgeFrom 11 4))
-      (edgev : v ≡ (two && edgeFrom 10 5))
+      (edgeh : h ≡ edgeAt t cap d n one 11 4)
+      (edgev : v ≡ edgeAt t cap d n two 10 5)
     where
       h-is : h ≡ edgeH t cap d n
       unfolding edgeH
@@ -161,7 +158,7 @@ module _ (t : List ℤ) (cap d n : ℕ) where
       unfolding innerV
       j-is = rw (own, ← aside, ← second, v-is)
 
-      pub sum-is : (sentenced : Bool) {edges inners edged fenced : Bool} {p q r u : ℕ} →
+      sum-is : (sentenced : Bool) {edges inners edged fenced : Bool} {p q r u : ℕ} →
           edges ≡ (h || (flagOf t 4 (linkOf t cap n 8) || (v || flagOf t 5 (linkOf t cap n 7)))) →
           inners ≡ ((one && not h) || (flagOf t 8 (linkOf t cap n 8) || ((two && not v) || flagOf t 9 (linkOf t cap n 7)))) →
           edged ≡ (h || (flagOf t 4 (linkOf t cap n 5) || (v || flagOf t 5 (linkOf t cap n 6)))) →
@@ -174,12 +171,12 @@ module _ (t : List ℤ) (cap d n : ℕ) where
       sum-is sentenced a b e f p q r u =
           flags-sum t cap d n sentenced h-is v-is i-is j-is (rw (own, below)) (rw (own, aside)) a b (sym own) e f p q r u
 
-  pub cell-sum : {south west h v : Bool} (sentenced : Bool) {edges inners edged fenced : Bool} {p q r u : ℕ} →
+  cell-sum : {south west h v : Bool} (sentenced : Bool) {edges inners edged fenced : Bool} {p q r u : ℕ} →
       flagOf t 0 n ≡ true →
       south ≡ flagOf t 0 (linkOf t cap n 7) →
       west ≡ flagOf t 0 (linkOf t cap n 8) →
-      h ≡ (not south && edgeFrom 11 4) →
-      v ≡ (not west && edgeFrom 10 5) →
+      h ≡ edgeAt t cap d n (not south) 11 4 →
+      v ≡ edgeAt t cap d n (not west) 10 5 →
       edges ≡ (h || (flagOf t 4 (linkOf t cap n 8) || (v || flagOf t 5 (linkOf t cap n 7)))) →
       inners ≡ ((not south && not h) || (flagOf t 8 (linkOf t cap n 8) || ((not west && not v) || flagOf t 9 (linkOf t cap n 7)))) →
       edged ≡ (h || (flagOf t 4 (linkOf t cap n 5) || (v || flagOf t 5 (linkOf t cap n 6)))) →
@@ -192,12 +189,12 @@ module _ (t : List ℤ) (cap d n : ℕ) where
   cell-sum {south} {west} sentenced o s w h v a b e f p q r u =
       sum-is {c = true} {one = not south} {two = not west} o s w (rw (beq-true south)) (rw (beq-true west)) h v sentenced a b e f p q r u
 
-  pub bare-sum : {south west h v : Bool} {edges inners : Bool} {p q r : ℕ} →
+  bare-sum : {south west h v : Bool} {edges inners : Bool} {p q r : ℕ} →
       flagOf t 0 n ≡ false →
       south ≡ flagOf t 0 (linkOf t cap n 7) →
       west ≡ flagOf t 0 (linkOf t cap n 8) →
-      h ≡ (south && edgeFrom 11 4) →
-      v ≡ (west && edgeFrom 10 5) →
+      h ≡ edgeAt t cap d n south 11 4 →
+      v ≡ edgeAt t cap d n west 10 5 →
       edges ≡ (h || (flagOf t 4 (linkOf t cap n 8) || (v || flagOf t 5 (linkOf t cap n 7)))) →
       inners ≡ ((south && not h) || (flagOf t 8 (linkOf t cap n 8) || ((west && not v) || flagOf t 9 (linkOf t cap n 7)))) →
       p ≡ four false south west edges →
