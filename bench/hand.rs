@@ -1,0 +1,887 @@
+//! The six calls written by hand in safe Rust, for the comparison of speed: from the scope paper alone, with no proof. A table that a caller lends
+//! is tested row by row by its links; a request touches the rows near its cell alone; along a tape the lowest number that may be free is remembered.
+
+#[repr(C)]
+#[derive(Clone, Copy, Debug, PartialEq, Eq)]
+pub struct Header {
+    pub columns: u32,
+    pub rows: u32,
+    pub mark: u16,
+}
+
+pub type Row = [i32; 14];
+pub const ROW: usize = 14;
+const PARENT: usize = 0;
+pub const NE: usize = 1;
+pub const SE: usize = 2;
+pub const SW: usize = 3;
+pub const NW: usize = 4;
+const N: usize = 5;
+const E: usize = 6;
+const S: usize = 7;
+const W: usize = 8;
+pub const LEVEL: usize = 9;
+const I: usize = 10;
+const J: usize = 11;
+pub const FLAGS: usize = 12;
+const STATUS: usize = 13;
+
+pub const COMPLETE: i32 = 1 << 0;
+const BDY_POINT: i32 = 1 << 3;
+const BDY_H: i32 = 1 << 4;
+const BDY_V: i32 = 1 << 5;
+const BDY_CELL: i32 = 1 << 6;
+const GRN_POINT: i32 = 1 << 7;
+const GRN_H: i32 = 1 << 8;
+const GRN_V: i32 = 1 << 9;
+const GRN_CELL: i32 = 1 << 10;
+pub const SENTENCED: i32 = 1 << 12;
+const DEAD: i32 = 1 << 13;
+const ONE_CELL_H: i32 = BDY_H | GRN_H;
+const ONE_CELL_V: i32 = BDY_V | GRN_V;
+
+const FREE: Row = [0, 0, 0, 0, 0, 0, 0, 0, 0, 0, 0, 0, DEAD, 0];
+const LAST_LEVEL: i32 = 12;
+const MOST: usize = 4095;
+const EXPONENT: u64 = 0x7ff << 52;
+
+pub fn row(t: &[i32], n: usize) -> &Row {
+    t[n * ROW..n * ROW + ROW].try_into().unwrap()
+}
+
+fn row_mut(t: &mut [i32], n: usize) -> &mut Row {
+    (&mut t[n * ROW..n * ROW + ROW]).try_into().unwrap()
+}
+
+/// The row that a word of an untested table names.
+fn linked(t: &[i32], word: i32) -> Option<&Row> {
+    let at = word as u32 as usize * ROW;
+    t.get(at..at + ROW)?.try_into().ok()
+}
+
+/// The levels below level 0.
+fn ground_depth(columns: u32, rows: u32) -> u32 {
+    32 - columns.max(rows).leading_zeros()
+}
+
+// ---- flags
+
+/// The bits of the two walls of a patch: `c`, `w` and `s` say whether it, its west and its south neighbour are cells, `above` are the parent's flags.
+fn walls(place: (i32, i32, i32), c: i32, w: i32, s: i32, above: i32) -> i32 {
+    let (level, i, j) = place;
+    let one_h = c ^ s;
+    let one_v = c ^ w;
+    let (edge_h, edge_v) = if level == 0 { (1, 1) } else { (!j & above >> 4, !i & above >> 5) };
+    let bdy_h = one_h & edge_h;
+    let bdy_v = one_v & edge_v;
+    (c | s) << 1 | (c | w) << 2 | bdy_h << 4 | bdy_v << 5 | (one_h ^ bdy_h) << 8 | (one_v ^ bdy_v) << 9
+}
+
+/// The bits of the point, from the walls that end there.
+fn point(own: i32, west: i32, south: i32) -> i32 {
+    let ends = own & (ONE_CELL_H | ONE_CELL_V) | west & ONE_CELL_H | south & ONE_CELL_V;
+    let bdy = if ends & (BDY_H | BDY_V) != 0 { BDY_POINT } else { 0 };
+    let grn = if ends & (GRN_H | GRN_V) != 0 { GRN_POINT } else { 0 };
+    bdy | grn
+}
+
+/// The bits of the cell, from its four walls.
+fn cell(own: i32, north: i32, east: i32) -> i32 {
+    let sides = own & (ONE_CELL_H | ONE_CELL_V) | north & ONE_CELL_H | east & ONE_CELL_V;
+    let bdy = if sides & (BDY_H | BDY_V) != 0 { BDY_CELL } else { 0 };
+    let grn = if sides & (GRN_H | GRN_V) != 0 { GRN_CELL } else { 0 };
+    bdy | grn
+}
+
+// ---- the checker
+
+/// What a tape wants to know of a sound table.
+struct Facts {
+    free: usize,
+    low: usize,
+    ground_cells: usize,
+}
+
+fn refuse_lengths(t: &[i32], v: &[f64], capacity: u32) -> bool {
+    let most = capacity as usize;
+    !(5..=MOST).contains(&most) || t.len() != ROW * (most + 1) || v.len() != most + 1
+}
+
+fn refuse_size(columns: u32, rows: u32) -> bool {
+    !(1..=32).contains(&columns) || !(1..=32).contains(&rows)
+}
+
+fn admit(h: &Header, t: &[i32], v: &[f64], capacity: u32) -> Result<Facts, u32> {
+    if refuse_lengths(t, v, capacity) {
+        return Err(1);
+    }
+    if refuse_size(h.columns, h.rows) {
+        return Err(2);
+    }
+    sound(h, t, v).ok_or(3)
+}
+
+fn sound(h: &Header, t: &[i32], v: &[f64]) -> Option<Facts> {
+    let root_level = -(ground_depth(h.columns, h.rows) as i32);
+    let mut facts = Facts { free: 0, low: v.len(), ground_cells: 0 };
+    if *row(t, 0) != [0; ROW] || v[0].to_bits() != 0 || !is_root(row(t, 1), root_level) {
+        return None;
+    }
+    for n in 1..v.len() {
+        let r = row(t, n);
+        if r[FLAGS] == DEAD {
+            if *r != FREE || v[n].to_bits() != 0 {
+                return None;
+            }
+            facts.free += 1;
+            facts.low = facts.low.min(n);
+            continue;
+        }
+        if n != 1 {
+            in_tree(t, n, r, root_level)?;
+        }
+        kids_agree(t, n, r)?;
+        if r[LEVEL] < 0 {
+            let empty = r[NE] | r[SE] | r[SW] | r[NW] == 0;
+            if empty || r[FLAGS] != 0 || r[STATUS] != 0 || v[n].to_bits() != 0 {
+                return None;
+            }
+        } else {
+            patch_agrees(h, t, v, n, r)?;
+            facts.ground_cells += (r[LEVEL] == 0 && r[FLAGS] & COMPLETE != 0) as usize;
+        }
+    }
+    Some(facts)
+}
+
+fn is_root(r: &Row, level: i32) -> bool {
+    r[FLAGS] != DEAD && r[PARENT] == 0 && r[N..=W] == [0; 4] && r[LEVEL] == level && r[I] == 0 && r[J] == 0
+}
+
+/// The parent is one level up at the halved place and names the row, and the neighbours are its kids or its neighbours' kids. By induction on the
+/// level no two rows have one place.
+fn in_tree(t: &[i32], n: usize, r: &Row, root_level: i32) -> Option<()> {
+    let (level, i, j) = (r[LEVEL], r[I], r[J]);
+    if level <= root_level || level > LAST_LEVEL {
+        return None;
+    }
+    let p = linked(t, r[PARENT])?;
+    if p[LEVEL] != level - 1 || p[I] != i >> 1 || p[J] != j >> 1 {
+        return None;
+    }
+    let (own, around) = match (i & 1, j & 1) {
+        (0, 0) => (p[SW], [p[NW], p[SE], linked(t, p[S])?[NW], linked(t, p[W])?[SE]]),
+        (0, _) => (p[NW], [linked(t, p[N])?[SW], p[NE], p[SW], linked(t, p[W])?[NE]]),
+        (_, 0) => (p[SE], [p[NE], linked(t, p[E])?[SW], linked(t, p[S])?[NE], p[SW]]),
+        _ => (p[NE], [linked(t, p[N])?[SE], linked(t, p[E])?[NW], p[SE], p[NW]]),
+    };
+    (own == n as i32 && r[N..=W] == around).then_some(())
+}
+
+/// A kid word that is not 0 names a row with this parent at that corner; that row's own test says the rest.
+fn kids_agree(t: &[i32], n: usize, r: &Row) -> Option<()> {
+    for (wind, east, north) in [(NE, 1, 1), (SE, 1, 0), (SW, 0, 0), (NW, 0, 1)] {
+        if r[wind] != 0 {
+            let kid = linked(t, r[wind])?;
+            if kid[PARENT] != n as i32 || kid[I] & 1 != east || kid[J] & 1 != north {
+                return None;
+            }
+        }
+    }
+    Some(())
+}
+
+/// A patch of level 0 up is touched by a cell, has the flags that the cells around it make, and a value if it is a cell.
+fn patch_agrees(h: &Header, t: &[i32], v: &[f64], n: usize, r: &Row) -> Option<()> {
+    let (place, flags) = ((r[LEVEL], r[I], r[J]), r[FLAGS]);
+    let p = linked(t, r[PARENT])?;
+    let west = linked(t, r[W])?;
+    let south = linked(t, r[S])?;
+    let c = flags & COMPLETE;
+    let w = west[FLAGS] & COMPLETE;
+    let s = south[FLAGS] & COMPLETE;
+    if c | w | s == 0 && linked(t, west[S])?[FLAGS] & COMPLETE == 0 {
+        return None;
+    }
+    let own = walls(place, c, w, s, p[FLAGS]);
+    let mut wanted = c | own | point(own, west[FLAGS], south[FLAGS]);
+    if c == 0 {
+        let blank = r[STATUS] == 0 && v[n].to_bits() == 0;
+        return (blank && flags == wanted).then_some(());
+    }
+    let north = linked(t, r[N])?;
+    let east = linked(t, r[E])?;
+    if r[N] == 0 || r[E] == 0 || east[N] == 0 || !cell_in_place(h, r, p) {
+        return None;
+    }
+    wanted |= cell(own, north[FLAGS], east[FLAGS]);
+    if r[NE] != 0 {
+        for wind in [NE, SE, SW, NW] {
+            if linked(t, r[wind])?[FLAGS] & COMPLETE == 0 {
+                return None;
+            }
+        }
+    } else if place.0 > 0 {
+        wanted |= flags & SENTENCED;
+    }
+    (flags == wanted && value_agrees(v, n, r, p)).then_some(())
+}
+
+fn cell_in_place(h: &Header, r: &Row, p: &Row) -> bool {
+    if r[LEVEL] == 0 {
+        r[I] < h.columns as i32 && r[J] < h.rows as i32
+    } else {
+        p[FLAGS] & COMPLETE != 0
+    }
+}
+
+fn value_agrees(v: &[f64], n: usize, r: &Row, p: &Row) -> bool {
+    let bits = v[n].to_bits();
+    match r[STATUS] {
+        0 => bits == 0 && p[STATUS] == 0,
+        1 => bits & EXPONENT != EXPONENT,
+        2 => p[STATUS] != 0 && v.get(r[PARENT] as usize).map(|x| x.to_bits()) == Some(bits),
+        _ => false,
+    }
+}
+
+pub fn check(h: &Header, t: &[i32], v: &[f64], capacity: u32) -> u32 {
+    admit(h, t, v, capacity).err().unwrap_or(0)
+}
+
+// ---- build
+
+/// The refusal, and the number in use.
+pub fn build(h: &mut Header, t: &mut [i32], v: &mut [f64], capacity: u32, columns: u32, rows: u32) -> (u32, u32) {
+    if refuse_lengths(t, v, capacity) {
+        return (1, 0);
+    }
+    if refuse_size(columns, rows) {
+        return (2, 0);
+    }
+    let d = ground_depth(columns, rows);
+    let used: u32 = (0..=d).map(|e| ((columns >> e) + 1) * ((rows >> e) + 1)).sum();
+    if used > capacity {
+        return (11, 0);
+    }
+    *h = Header { columns, rows, mark: 0 };
+    v.fill(0.0);
+    *row_mut(t, 0) = [0; ROW];
+    for n in used as usize + 1..v.len() {
+        *row_mut(t, n) = FREE;
+    }
+    *row_mut(t, 1) = [0, 0, 0, 0, 0, 0, 0, 0, 0, -(d as i32), 0, 0, 0, 0];
+    number_levels(t, d, columns as i32, rows as i32);
+    (0, used)
+}
+
+/// Level by level, by parents in their own order: a patch comes after its west and its south neighbour, so that it can be linked to them at once.
+fn number_levels(t: &mut [i32], d: u32, columns: i32, rows: i32) {
+    let mut next = 2;
+    let mut parents = 1..2;
+    for e in (0..d).rev() {
+        let (last_i, last_j) = (columns >> e, rows >> e);
+        let first = next;
+        for p in parents {
+            let above = *row(t, p);
+            let (i, j) = (2 * above[I], 2 * above[J]);
+            for (wind, i, j) in [(SW, i, j), (NW, i, j + 1), (SE, i + 1, j), (NE, i + 1, j + 1)] {
+                if i > last_i || j > last_j {
+                    t[p * ROW + wind] = 0;
+                    continue;
+                }
+                t[p * ROW + wind] = next as i32;
+                let flags = if e == 0 { ground_flags(i, j, columns, rows) } else { 0 };
+                *row_mut(t, next) = [p as i32, 0, 0, 0, 0, 0, 0, 0, 0, -(e as i32), i, j, flags, 0];
+                let (west, south) = match wind {
+                    SW => (t[above[W] as usize * ROW + SE], t[above[S] as usize * ROW + NW]),
+                    NW => (t[above[W] as usize * ROW + NE], t[p * ROW + SW]),
+                    SE => (t[p * ROW + SW], t[above[S] as usize * ROW + NE]),
+                    _ => (t[p * ROW + NW], t[p * ROW + SE]),
+                };
+                if west != 0 {
+                    t[next * ROW + W] = west;
+                    t[west as usize * ROW + E] = next as i32;
+                }
+                if south != 0 {
+                    t[next * ROW + S] = south;
+                    t[south as usize * ROW + N] = next as i32;
+                }
+                next += 1;
+            }
+        }
+        parents = first..next;
+    }
+}
+
+/// The flags of a patch of a full rectangle.
+fn ground_flags(i: i32, j: i32, columns: i32, rows: i32) -> i32 {
+    let place = (0, i, j);
+    let is_cell = |i: i32, j: i32| (i >= 0 && j >= 0 && i < columns && j < rows) as i32;
+    let c = is_cell(i, j);
+    let own = walls(place, c, is_cell(i - 1, j), is_cell(i, j - 1), 0);
+    let point = if i == 0 || j == 0 || i == columns || j == rows { BDY_POINT } else { 0 };
+    let edge = c != 0 && (i == 0 || j == 0 || i == columns - 1 || j == rows - 1);
+    c | own | point | if edge { BDY_CELL } else { 0 }
+}
+
+// ---- requests
+
+/// A sound table under a tape. No number below `low` is free.
+pub struct Desk<'a> {
+    pub t: &'a mut [i32],
+    v: &'a mut [f64],
+    pub free: usize,
+    low: usize,
+    ground_cells: usize,
+}
+
+/// The requests done, the refusal, and the offset.
+pub fn tape(h: &mut Header, t: &mut [i32], v: &mut [f64], capacity: u32, tape: &[u8]) -> (usize, u32, usize) {
+    let mut desk = match Desk::new(h, t, v, capacity) {
+        Ok(desk) => desk,
+        Err(refusal) => return (0, refusal, 0),
+    };
+    let (mut done, mut at) = (0, 0);
+    while at < tape.len() {
+        let length = match tape[at] {
+            1..=4 => 3,
+            5 => 11,
+            _ => return (done, 5, at),
+        };
+        let request = match tape.get(at..at + length) {
+            Some(request) => request,
+            None => return (done, 4, at),
+        };
+        let refusal = desk.step(request);
+        if refusal != 0 {
+            return (done, refusal, at);
+        }
+        h.mark = h.mark.wrapping_add(1);
+        done += 1;
+        at += length;
+    }
+    (done, 0, at)
+}
+
+impl<'a> Desk<'a> {
+    pub fn new(h: &Header, t: &'a mut [i32], v: &'a mut [f64], capacity: u32) -> Result<Self, u32> {
+        let facts = admit(h, t, v, capacity)?;
+        Ok(Desk { t, v, free: facts.free, low: facts.low, ground_cells: facts.ground_cells })
+    }
+
+    /// One whole request: its refusal, or 0.
+    pub fn step(&mut self, request: &[u8]) -> u32 {
+        let n = u16::from_be_bytes([request[1], request[2]]) as usize;
+        if n == 0 || n >= self.v.len() || self.t[n * ROW + FLAGS] == DEAD {
+            return 6;
+        }
+        let r = row(self.t, n);
+        if r[FLAGS] & COMPLETE == 0 {
+            return 7;
+        }
+        let (leaf, level) = (r[NE] == 0, r[LEVEL]);
+        match request[0] {
+            1 if !leaf => 8,
+            1 if level == LAST_LEVEL => 9,
+            1 if r[FLAGS] & SENTENCED != 0 => 10,
+            1 => self.refine(n),
+            2 if !leaf => 8,
+            2 if level == 0 => 12,
+            2 => {
+                self.t[n * ROW + FLAGS] |= SENTENCED;
+                0
+            }
+            3 if leaf => 13,
+            3 => self.remove(n),
+            4 if level != 0 => 12,
+            4 if !leaf => 8,
+            4 if self.ground_cells == 1 => 15,
+            4 => self.kill(n),
+            _ if !leaf => 8,
+            _ => {
+                let bits = u64::from_be_bytes(request[3..11].try_into().unwrap());
+                if bits & EXPONENT == EXPONENT {
+                    return 16;
+                }
+                self.v[n] = f64::from_bits(bits);
+                self.t[n * ROW + STATUS] = 1;
+                0
+            }
+        }
+    }
+
+    fn word(&self, n: usize, wind: usize) -> usize {
+        self.t[n * ROW + wind] as usize
+    }
+
+    fn flags(&self, n: usize) -> i32 {
+        self.t[n * ROW + FLAGS]
+    }
+
+    /// The nine patches under a cell, each as a kid word of a row, in the order in which a refinement makes them.
+    fn block(&self, n: usize) -> [(usize, usize); 9] {
+        let (north, east) = (self.word(n, N), self.word(n, E));
+        let corner = self.word(east, N);
+        [(n, SW), (n, SE), (n, NW), (n, NE), (north, SW), (north, SE), (east, NW), (east, SW), (corner, SW)]
+    }
+
+    fn refine(&mut self, n: usize) -> u32 {
+        let block = self.block(n);
+        let missing = block.iter().filter(|&&(p, wind)| self.word(p, wind) == 0).count();
+        if missing > self.free {
+            return 11;
+        }
+        self.free -= missing;
+        let mut made = [0; 9];
+        let mut under = [0; 9];
+        for (at, &(p, wind)) in block.iter().enumerate() {
+            under[at] = self.word(p, wind);
+            if under[at] == 0 {
+                under[at] = self.make(p, wind);
+                made[at] = under[at];
+            }
+        }
+        for q in made {
+            if q != 0 {
+                self.link(q);
+            }
+        }
+        let (status, value) = (self.t[n * ROW + STATUS], self.v[n]);
+        for &q in &under[..4] {
+            self.t[q * ROW + FLAGS] |= COMPLETE;
+            if status != 0 {
+                self.t[q * ROW + STATUS] = 2;
+                self.v[q] = value;
+            }
+        }
+        let beside = self.beside(&under);
+        self.refresh(&under, &beside);
+        0
+    }
+
+    /// A new patch as a kid of `p`, not yet linked to its neighbours.
+    fn make(&mut self, p: usize, wind: usize) -> usize {
+        let mut q = self.low;
+        while self.flags(q) != DEAD {
+            q += 1;
+        }
+        self.low = q + 1;
+        let above = row_mut(self.t, p);
+        above[wind] = q as i32;
+        let i = 2 * above[I] + (wind == NE || wind == SE) as i32;
+        let j = 2 * above[J] + (wind == NE || wind == NW) as i32;
+        let level = above[LEVEL] + 1;
+        *row_mut(self.t, q) = [p as i32, 0, 0, 0, 0, 0, 0, 0, 0, level, i, j, 0, 0];
+        q
+    }
+
+    /// Links a row with its neighbours: kids of its parent and of its parent's neighbours.
+    fn link(&mut self, q: usize) {
+        let (i, j) = (self.t[q * ROW + I], self.t[q * ROW + J]);
+        let p = *row(self.t, self.word(q, PARENT));
+        let of = |wind: usize, kid: usize| self.t[p[wind] as usize * ROW + kid];
+        let around = match (i & 1, j & 1) {
+            (0, 0) => [p[NW], p[SE], of(S, NW), of(W, SE)],
+            (0, _) => [of(N, SW), p[NE], p[SW], of(W, NE)],
+            (_, 0) => [p[NE], of(E, SW), of(S, NE), p[SW]],
+            _ => [of(N, SE), of(E, NW), p[SE], p[NW]],
+        };
+        row_mut(self.t, q)[N..=W].copy_from_slice(&around);
+        for (other, back) in around.into_iter().zip([S, W, N, E]) {
+            if other != 0 {
+                self.t[other as usize * ROW + back] = q as i32;
+            }
+        }
+    }
+
+    /// The cells west and south of the block, whose east and north walls are the block's.
+    fn beside(&self, under: &[usize; 9]) -> [usize; 4] {
+        [self.word(under[0], W), self.word(under[2], W), self.word(under[0], S), self.word(under[1], S)]
+    }
+
+    /// The flags of a block anew, the walls first: points and cells are worked out from them.
+    fn refresh(&mut self, under: &[usize; 9], beside: &[usize; 4]) {
+        for &q in under {
+            self.refresh_walls(q);
+        }
+        for &q in under {
+            self.refresh_marks(q);
+        }
+        for &q in beside {
+            self.refresh_marks(q);
+        }
+    }
+
+    fn refresh_walls(&mut self, q: usize) {
+        if q == 0 {
+            return;
+        }
+        let r = row(self.t, q);
+        let kept = r[FLAGS] & (COMPLETE | SENTENCED);
+        let w = self.flags(r[W] as usize) & COMPLETE;
+        let s = self.flags(r[S] as usize) & COMPLETE;
+        let above = self.flags(r[PARENT] as usize);
+        let own = walls((r[LEVEL], r[I], r[J]), kept & COMPLETE, w, s, above);
+        self.t[q * ROW + FLAGS] = kept | own;
+    }
+
+    fn refresh_marks(&mut self, q: usize) {
+        if q == 0 {
+            return;
+        }
+        let r = row(self.t, q);
+        let own = r[FLAGS] & !(BDY_POINT | GRN_POINT | BDY_CELL | GRN_CELL);
+        let mut flags = own | point(own, self.flags(r[W] as usize), self.flags(r[S] as usize));
+        if own & COMPLETE != 0 {
+            flags |= cell(own, self.flags(r[N] as usize), self.flags(r[E] as usize));
+        }
+        self.t[q * ROW + FLAGS] = flags;
+    }
+
+    fn remove(&mut self, n: usize) -> u32 {
+        let block = self.block(n);
+        let mut under = [0; 9];
+        for (at, &(p, wind)) in block.iter().enumerate() {
+            under[at] = self.word(p, wind);
+        }
+        if under[..4].iter().any(|&q| self.flags(q) & SENTENCED == 0) {
+            return 14;
+        }
+        for &q in &under[..4] {
+            self.take_cell(q);
+        }
+        let beside = self.beside(&under);
+        for q in &mut under {
+            if !self.touched(*q) {
+                self.release(*q);
+                *q = 0;
+            }
+        }
+        self.refresh(&under, &beside);
+        0
+    }
+
+    fn take_cell(&mut self, q: usize) {
+        self.t[q * ROW + FLAGS] = 0;
+        self.t[q * ROW + STATUS] = 0;
+        self.v[q] = 0.0;
+    }
+
+    /// Whether one of the four cells that meet in the patch's point is there. A cell south-west has a patch west of this one.
+    fn touched(&self, q: usize) -> bool {
+        let (west, south) = (self.word(q, W), self.word(q, S));
+        let corner = self.word(west, S);
+        (self.flags(q) | self.flags(west) | self.flags(south) | self.flags(corner)) & COMPLETE != 0
+    }
+
+    fn release(&mut self, q: usize) {
+        let r = *row(self.t, q);
+        for (wind, back) in [(N, S), (E, W), (S, N), (W, E)] {
+            if r[wind] != 0 {
+                self.t[r[wind] as usize * ROW + back] = 0;
+            }
+        }
+        let kid = [[SW, NW], [SE, NE]][(r[I] & 1) as usize][(r[J] & 1) as usize];
+        self.t[r[PARENT] as usize * ROW + kid] = 0;
+        *row_mut(self.t, q) = FREE;
+        self.v[q] = 0.0;
+        self.free += 1;
+        self.low = self.low.min(q);
+    }
+
+    /// The walls around a killed cell change on every level: on the line of each edge, the rows from level 0 down.
+    fn kill(&mut self, n: usize) -> u32 {
+        let (north, east) = (self.word(n, N), self.word(n, E));
+        let corner = self.word(east, N);
+        let mut under = [n, north, east, corner];
+        let beside = [self.word(n, W), self.word(n, S)];
+        self.take_cell(n);
+        self.ground_cells -= 1;
+        for q in &mut under {
+            if !self.touched(*q) {
+                let p = self.word(*q, PARENT);
+                self.release(*q);
+                self.release_ghosts(p);
+                *q = 0;
+            }
+        }
+        self.along_edges(&under, Desk::refresh_walls);
+        self.along_edges(&under, |desk, q| {
+            desk.refresh_marks(q);
+            let (west, south) = (desk.word(q, W), desk.word(q, S));
+            desk.refresh_marks(west);
+            desk.refresh_marks(south);
+        });
+        for q in beside {
+            self.refresh_marks(q);
+        }
+        0
+    }
+
+    fn release_ghosts(&mut self, mut p: usize) {
+        while row(self.t, p)[NE..=NW] == [0; 4] {
+            let above = self.word(p, PARENT);
+            self.release(p);
+            p = above;
+        }
+    }
+
+    fn along_edges(&mut self, under: &[usize; 4], act: impl Fn(&mut Self, usize) + Copy) {
+        let [own, north, east, corner] = *under;
+        self.along(own, SE, act);
+        self.along(own, NW, act);
+        self.along(north, SE, act);
+        self.along(east, NW, act);
+        self.along(corner, SW, act);
+    }
+
+    /// A patch and those on the line that starts there, towards the kid `wind`.
+    fn along(&mut self, q: usize, wind: usize, act: impl Fn(&mut Self, usize) + Copy) {
+        if q == 0 {
+            return;
+        }
+        act(self, q);
+        let (first, second) = (self.word(q, SW), self.word(q, wind));
+        self.along(first, wind, act);
+        if wind != SW {
+            self.along(second, wind, act);
+        }
+    }
+}
+
+// ---- walks
+
+/// What a scan writes: numbers into a list that has room for all.
+struct Walk<'a> {
+    t: &'a [i32],
+    order: [usize; 4],
+    kind: u32,
+    from: i32,
+    to: i32,
+    found: [u16; MOST],
+    count: usize,
+}
+
+impl Walk<'_> {
+    fn go(&mut self, n: usize) {
+        let r = row(self.t, n);
+        if r[LEVEL] >= self.from && self.counts(r) {
+            self.found[self.count] = n as u16;
+            self.count += 1;
+        }
+        if r[LEVEL] < self.to {
+            for wind in self.order {
+                let kid = r[wind];
+                if kid != 0 {
+                    self.go(kid as usize);
+                }
+            }
+        }
+    }
+
+    fn counts(&self, r: &Row) -> bool {
+        match self.kind {
+            1 => true,
+            2 => r[FLAGS] & 1 != 0,
+            3 => r[FLAGS] & 1 != 0 && r[NE] == 0,
+            4 => r[FLAGS] & 2 != 0,
+            5 => r[FLAGS] & 4 != 0,
+            _ => r[LEVEL] >= 0,
+        }
+    }
+}
+
+pub struct Scan<'a> {
+    pub start: u32,
+    pub order: &'a [u8],
+    pub kind: u32,
+    pub from: i32,
+    pub to: i32,
+}
+
+/// The refusal, and how many numbers were written.
+pub fn scan(h: &Header, t: &[i32], v: &[f64], capacity: u32, what: &Scan, out: &mut [u16]) -> (u32, usize) {
+    if let Err(refusal) = admit(h, t, v, capacity) {
+        return (refusal, 0);
+    }
+    let start = what.start as usize;
+    if start == 0 || start >= v.len() || row(t, start)[FLAGS] == DEAD {
+        return (6, 0);
+    }
+    let order = match winds(what.order) {
+        Some(order) => order,
+        None => return (17, 0),
+    };
+    if !(1..=6).contains(&what.kind) || what.from < row(t, start)[LEVEL] || what.to < what.from {
+        return (17, 0);
+    }
+    let mut walk = Walk { t, order, kind: what.kind, from: what.from, to: what.to, found: [0; MOST], count: 0 };
+    walk.go(start);
+    if walk.count > out.len() {
+        return (18, 0);
+    }
+    out[..walk.count].copy_from_slice(&walk.found[..walk.count]);
+    (0, walk.count)
+}
+
+fn winds(order: &[u8]) -> Option<[usize; 4]> {
+    let order: [u8; 4] = order.try_into().ok()?;
+    let each = (1..=4).all(|wind| order.contains(&wind));
+    each.then_some(order.map(|wind| wind as usize))
+}
+
+/// What a lookup finds: the refusal, the leaf's number, its status and its value.
+#[derive(Debug, PartialEq, Eq)]
+pub struct Found {
+    pub refusal: u32,
+    pub number: u32,
+    pub status: u32,
+    pub bits: u64,
+}
+
+pub fn lookup(h: &Header, t: &[i32], v: &[f64], capacity: u32, speed: u32, load: u32) -> Found {
+    let nothing = |refusal| Found { refusal, number: 0, status: 0, bits: 0 };
+    if let Err(refusal) = admit(h, t, v, capacity) {
+        return nothing(refusal);
+    }
+    let d = ground_depth(h.columns, h.rows);
+    if (speed | load) >> LAST_LEVEL >> d != 0 {
+        return nothing(19);
+    }
+    let toward = |n: usize, bit: u32| {
+        let kid = [[SW, NW], [SE, NE]][(speed >> bit & 1) as usize][(load >> bit & 1) as usize];
+        t[n * ROW + kid] as usize
+    };
+    let mut bit = LAST_LEVEL as u32 + d;
+    let mut n = 1;
+    while bit > LAST_LEVEL as u32 {
+        bit -= 1;
+        n = toward(n, bit);
+    }
+    if row(t, n)[FLAGS] & COMPLETE == 0 {
+        return nothing(19);
+    }
+    while row(t, n)[NE] != 0 {
+        bit -= 1;
+        n = toward(n, bit);
+    }
+    Found { refusal: 0, number: n as u32, status: row(t, n)[STATUS] as u32, bits: v[n].to_bits() }
+}
+
+// ---- the page
+
+const LONGEST_LINE: usize = 48;
+
+/// Bytes written to the end of a list, with their sum; what does not fit is counted and left out.
+struct Pen<'a> {
+    out: &'a mut [u8],
+    at: usize,
+    sum: u32,
+}
+
+impl Pen<'_> {
+    fn put(&mut self, text: &[u8]) {
+        if let Some(place) = self.out.get_mut(self.at..self.at + text.len()) {
+            place.copy_from_slice(text);
+        }
+        self.at += text.len();
+        self.sum = text.iter().fold(self.sum, |sum, &byte| sum.wrapping_add(byte as u32));
+    }
+}
+
+/// A line under way.
+struct Line {
+    text: [u8; LONGEST_LINE],
+    length: usize,
+}
+
+impl Line {
+    fn new() -> Line {
+        Line { text: [0; LONGEST_LINE], length: 0 }
+    }
+
+    fn byte(&mut self, byte: u8) {
+        self.text[self.length] = byte;
+        self.length += 1;
+    }
+
+    fn word(&mut self, word: &[u8]) {
+        self.text[self.length..self.length + word.len()].copy_from_slice(word);
+        self.length += word.len();
+    }
+
+    fn number(&mut self, number: u32) {
+        let mut digits = 1;
+        let mut bound = 10u64;
+        while number as u64 >= bound {
+            digits += 1;
+            bound *= 10;
+        }
+        let mut rest = number;
+        for place in self.text[self.length..self.length + digits].iter_mut().rev() {
+            *place = b'0' + (rest % 10) as u8;
+            rest /= 10;
+        }
+        self.length += digits;
+    }
+
+    fn hex(&mut self, bits: u64) {
+        for (at, place) in self.text[self.length..self.length + 16].iter_mut().enumerate() {
+            *place = b"0123456789abcdef"[(bits >> (60 - 4 * at) & 15) as usize];
+        }
+        self.length += 16;
+    }
+
+    fn done(&self) -> &[u8] {
+        &self.text[..self.length]
+    }
+}
+
+/// The refusal, and the bytes written.
+pub fn page(h: &Header, t: &[i32], v: &[f64], capacity: u32, out: &mut [u8]) -> (u32, usize) {
+    if let Err(refusal) = admit(h, t, v, capacity) {
+        return (refusal, 0);
+    }
+    let order = [SW, NW, SE, NE];
+    let root_level = row(t, 1)[LEVEL];
+    let mut walk = Walk { t, order, kind: 3, from: root_level, to: LAST_LEVEL, found: [0; MOST], count: 0 };
+    walk.go(1);
+    let leaves = &walk.found[..walk.count];
+    if out.len() < (leaves.len() + 2) * LONGEST_LINE && lines(h, t, v, leaves, &mut []) > out.len() {
+        return (18, 0);
+    }
+    (0, lines(h, t, v, leaves, out))
+}
+
+fn lines(h: &Header, t: &[i32], v: &[f64], leaves: &[u16], out: &mut [u8]) -> usize {
+    let mut pen = Pen { out, at: 0, sum: 0 };
+    let mut first = Line::new();
+    first.word(b"map ");
+    for (number, end) in [(h.columns, b' '), (h.rows, b' '), (h.mark as u32, b'\n')] {
+        first.number(number);
+        first.byte(end);
+    }
+    pen.put(first.done());
+    for &leaf in leaves {
+        let r = row(t, leaf as usize);
+        let mut line = Line::new();
+        for number in [leaf as u32, r[LEVEL] as u32, r[I] as u32, r[J] as u32] {
+            line.number(number);
+            line.byte(b' ');
+        }
+        line.byte(b"nmc"[r[STATUS] as usize]);
+        line.byte(b' ');
+        line.hex(v[leaf as usize].to_bits());
+        line.byte(b'\n');
+        pen.put(line.done());
+    }
+    let mut last = Line::new();
+    last.word(b"cells ");
+    last.number(leaves.len() as u32);
+    last.word(b" sum ");
+    last.number(pen.sum);
+    last.byte(b'\n');
+    pen.put(last.done());
+    pen.at
+}

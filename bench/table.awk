@@ -1,0 +1,67 @@
+# From the counts of bench/run (name, units, checks, cost of one run: none, proved, hand, proved-check, hand-check) the tables of docs/SPEED.md.
+
+{
+    units[$1] = $2
+    whole[$1, "proved"] = $5 - $4
+    whole[$1, "hand"] = $6 - $4
+    less[$1, "proved"] = $5 - $4 - $3 * ($7 - $4)
+    less[$1, "hand"] = $6 - $4 - $3 * ($8 - $4)
+}
+
+function grouped(x,   text, out) {
+    text = sprintf("%.0f", x)
+    out = ""
+    while (length(text) > 3) {
+        out = "," substr(text, length(text) - 2) out
+        text = substr(text, 1, length(text) - 3)
+    }
+    return text out
+}
+
+# how: whole (calls with their checks) or less (without the check)
+function cost(name, side, how, per) {
+    return (how == "whole" ? whole[name, side] : less[name, side]) / (per ? per : units[name])
+}
+
+function bounded(said, name, how, most, by_hand,   p, h) {
+    p = cost(name, "proved", how)
+    h = cost(name, "hand", how)
+    printf "| %s | %s | %s | %s | %s | %s |\n", said, grouped(most), by_hand, grouped(p), grouped(h), p <= most ? "within" : sprintf("%.1f times the bound", p / most)
+}
+
+function grows(said, name, how, per) {
+    printf "| %s | %s | %s |\n", said, grouped(cost(name, "proved", how, per)), grouped(cost(name, "hand", how, per))
+}
+
+END {
+    print "| workload | at most | a careful version's | proved | hand | |"
+    print "|---|---|---|---|---|---|"
+    bounded("check, a row of a full table, one level", "check-one-level", "whole", 280, "258")
+    bounded("the same, one cell refined to level 12", "check-deep", "whole", 280, "258")
+    bounded("the same, mixed levels and values", "check-mixed", "whole", 280, "258")
+    bounded("a request of the mixed tape, capacity 1,000 near full", "mixed-1000", "whole", 1000, "1,220; 750")
+    bounded("a request of the long tape, capacity 4,095 near full", "long-4095", "whole", 1400, "2,900; 1,130")
+    bounded("refine, four sentences, remove; at most 12 numbers free, the last ones", "cycle-full", "less", 6000, "29,000; 4,600")
+    bounded("the same, the free numbers scattered over the table", "cycle-scattered", "less", 6000, "29,000; 4,600")
+    bounded("the same, in a sparse table", "cycle-sparse", "less", 6000, "4,600")
+    bounded("one refinement without the check, nine new patches in a table just built", "refine-fresh", "less", 2500, "2,200")
+    bounded("the same, at most 12 numbers free, the last ones", "refine-full", "less", 2500, "2,200")
+    bounded("build 32 by 32 at capacity 4,095", "build-32", "whole", 500000, "415,000")
+    bounded("one lookup without its check", "lookup", "less", 300, "254")
+    bounded("page of 1,714 leaves without the check", "page", "less", 1000000, "900,000")
+    bounded("scan of 1,714 leaves without the check", "scan", "less", 180000, "154,000")
+    print ""
+    print "How cost grows:"
+    print ""
+    print "| cost | proved | hand |"
+    print "|---|---|---|"
+    grows("check, a row, full table of 1,000 rows", "check-1000", "whole")
+    grows("check, a row, full table of 4,095 rows", "check-mixed", "whole")
+    grows("a request without the check, tape of 5,000", "mixed-1000-short", "less")
+    grows("a request without the check, tape of 20,000", "mixed-1000", "less")
+    grows("a tape of one request, the whole call, at capacity 1,000", "single-1000", "whole")
+    grows("page without the check, a leaf, of 427 leaves", "page-quarter", "less", 427)
+    grows("page without the check, a leaf, of 1,714 leaves", "page", "less", 1714)
+    grows("scan without the check, a leaf, of 427 leaves", "scan-quarter", "less", 427)
+    grows("scan without the check, a leaf, of 1,714 leaves", "scan", "less", 1714)
+}

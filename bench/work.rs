@@ -1,0 +1,434 @@
+//! The workloads: lists to start from and calls to make on them. Tapes are made by a seeded generator that looks at the hand-written version's state,
+//! so that every request is accepted and the table stays near full.
+
+use crate::hand::{self, row, Desk, Header, COMPLETE, FLAGS, LEVEL, NE, NW, ROW, SE, SENTENCED, SW};
+
+#[derive(Clone)]
+pub struct Lists {
+    pub header: Header,
+    pub table: Vec<i32>,
+    pub values: Vec<f64>,
+}
+
+impl Lists {
+    pub fn capacity(&self) -> u32 {
+        self.values.len() as u32 - 1
+    }
+
+    pub fn copy_from(&mut self, other: &Lists) {
+        self.header = other.header;
+        self.table.copy_from_slice(&other.table);
+        self.values.copy_from_slice(&other.values);
+    }
+
+    pub fn same(&self, other: &Lists) -> bool {
+        let bits = |lists: &Lists| lists.values.iter().map(|x| x.to_bits()).collect::<Vec<_>>();
+        self.header == other.header && self.table == other.table && bits(self) == bits(other)
+    }
+
+    /// What is in the table, in words.
+    pub fn told(&self) -> String {
+        let rows: Vec<_> = self.table.chunks(ROW).skip(1).filter(|r| r[FLAGS] & 8192 == 0).collect();
+        let leaves = rows.iter().filter(|r| r[FLAGS] & COMPLETE != 0 && r[NE] == 0).count();
+        let deepest = rows.iter().map(|r| r[LEVEL]).max().unwrap_or(0);
+        format!("starts with {} of {} in use, {} leaves, levels to {}", rows.len(), self.capacity(), leaves, deepest)
+    }
+}
+
+pub enum Work {
+    Check,
+    Build(u32, u32),
+    Tapes(Vec<Vec<u8>>),
+    Lookups(Vec<(u32, u32)>),
+    Scan,
+    Page,
+}
+
+pub struct Job {
+    pub start: Lists,
+    pub work: Work,
+    per: Per,
+}
+
+/// What a figure is given for.
+#[derive(Clone, Copy)]
+enum Per {
+    Row,
+    Requests(usize),
+    Call,
+}
+
+impl Job {
+    /// The units that the workload's count is divided by.
+    pub fn units(&self) -> usize {
+        match (&self.work, self.per) {
+            (_, Per::Row) => self.start.values.len() - 1,
+            (_, Per::Requests(units)) => units,
+            (Work::Lookups(points), _) => points.len(),
+            (Work::Tapes(tapes), _) => tapes.len(),
+            _ => 1,
+        }
+    }
+
+    /// How often the calls check the table that the workload starts from; 0: its figure is one of whole calls.
+    pub fn checks(&self) -> usize {
+        match &self.work {
+            Work::Check | Work::Build(..) => 0,
+            Work::Lookups(points) => points.len(),
+            Work::Tapes(tapes) if tapes.len() > 1 => 0,
+            _ => 1,
+        }
+    }
+
+    /// A count needs no more lookups than these: each checks the whole table.
+    pub fn shorten(&mut self) {
+        if let Work::Lookups(points) = &mut self.work {
+            points.truncate(100);
+        }
+    }
+
+    /// Whether every call was accepted, so that it did the work that is measured.
+    pub fn accepted(&self, answers: &[u64]) -> bool {
+        match &self.work {
+            Work::Tapes(_) => answers.chunks(3).all(|answer| answer[1] == 0),
+            Work::Lookups(_) => answers.chunks(4).all(|answer| answer[0] == 0),
+            _ => answers[0] == 0,
+        }
+    }
+}
+
+pub const WORKLOADS: &[(&str, fn() -> Job)] = &[
+    ("check-one-level", || check(one_level())),
+    ("check-deep", || check(deep())),
+    ("check-mixed", || check(filled(8, 4095, 8))),
+    ("check-1000", || check(filled(8, 1000, 8))),
+    ("mixed-1000", || mixed(8, 1000, 20_000)),
+    ("mixed-1000-short", || mixed(8, 1000, 5_000)),
+    ("long-4095", || mixed(16, 4095, 200_000)),
+    ("single-1000", single),
+    ("cycle-sparse", || cycles(built(8, 8, 4095))),
+    ("cycle-full", || cycles(nearly_full())),
+    ("cycle-scattered", || cycles(scattered())),
+    ("refine-fresh", || refinement(built(8, 8, 4095))),
+    ("refine-full", || refinement(nearly_full())),
+    ("build-32", build),
+    ("lookup", lookups),
+    ("page", || Job { start: leaves(486), work: Work::Page, per: Per::Call }),
+    ("page-quarter", || Job { start: leaves(57), work: Work::Page, per: Per::Call }),
+    ("scan", || Job { start: leaves(486), work: Work::Scan, per: Per::Call }),
+    ("scan-quarter", || Job { start: leaves(57), work: Work::Scan, per: Per::Call }),
+];
+
+/// xorshift64*.
+struct Chance(u64);
+
+impl Chance {
+    fn below(&mut self, bound: usize) -> usize {
+        self.0 ^= self.0 >> 12;
+        self.0 ^= self.0 << 25;
+        self.0 ^= self.0 >> 27;
+        ((self.0.wrapping_mul(0x2545_f491_4f6c_dd1d) >> 33) % bound as u64) as usize
+    }
+}
+
+// ---- tapes over the state of the hand-written version
+
+/// A tape under way, and the state that it leads to.
+struct Maker<'a> {
+    desk: Desk<'a>,
+    tape: Vec<u8>,
+    requests: usize,
+    chance: Chance,
+}
+
+impl<'a> Maker<'a> {
+    fn new(lists: &'a mut Lists, seed: u64) -> Maker<'a> {
+        let capacity = lists.capacity();
+        let desk = Desk::new(&lists.header, &mut lists.table, &mut lists.values, capacity).expect("a sound table");
+        Maker { desk, tape: vec![], requests: 0, chance: Chance(seed) }
+    }
+
+    /// Puts a request on the tape if it is accepted.
+    fn ask(&mut self, kind: u8, number: usize, value: Option<f64>) -> bool {
+        let mut request = vec![kind];
+        request.extend((number as u16).to_be_bytes());
+        if let Some(value) = value {
+            request.extend(value.to_be_bytes());
+        }
+        let accepted = self.desk.step(&request) == 0;
+        if accepted {
+            self.tape.extend(request);
+            self.requests += 1;
+        }
+        accepted
+    }
+
+    fn rows(&self) -> usize {
+        self.desk.t.len() / ROW
+    }
+
+    fn kids(&self, n: usize) -> [usize; 4] {
+        let r = row(self.desk.t, n);
+        [SW, SE, NW, NE].map(|wind| r[wind] as usize)
+    }
+
+    fn is_leaf(&self, n: usize) -> bool {
+        let r = row(self.desk.t, n);
+        r[FLAGS] & COMPLETE != 0 && r[NE] == 0
+    }
+
+    /// A cell whose kids are four leaves.
+    fn is_family(&self, n: usize) -> bool {
+        let r = row(self.desk.t, n);
+        r[FLAGS] & COMPLETE != 0 && r[NE] != 0 && self.kids(n).into_iter().all(|kid| self.is_leaf(kid))
+    }
+
+    fn some(&mut self, wanted: impl Fn(&Self, usize) -> bool) -> Option<usize> {
+        for _ in 0..100_000 {
+            let n = 1 + self.chance.below(self.rows() - 1);
+            if wanted(self, n) {
+                return Some(n);
+            }
+        }
+        None
+    }
+
+    fn some_leaf(&mut self) -> usize {
+        self.some(|maker, n| maker.is_leaf(n) && row(maker.desk.t, n)[FLAGS] & SENTENCED == 0).expect("a leaf")
+    }
+
+    fn value(&mut self) {
+        let leaf = self.some_leaf();
+        let value = self.chance.below(1_000_000) as f64 / 1024.0;
+        self.ask(5, leaf, Some(value));
+    }
+
+    /// Takes a family of four away: those that are not yet sentenced are, then the parent's kids go.
+    fn shrink(&mut self) {
+        if let Some(n) = self.some(|maker, n| maker.is_family(n)) {
+            for kid in self.kids(n) {
+                if row(self.desk.t, kid)[FLAGS] & SENTENCED == 0 {
+                    self.ask(2, kid, None);
+                }
+            }
+            self.ask(3, n, None);
+        }
+    }
+
+    /// A mix of requests: refine while there is room, else remove; every sixth sets a value; now and then one is sentenced or killed.
+    fn mix(&mut self, requests: usize) {
+        while self.requests < requests {
+            match self.chance.below(600) {
+                0..=99 => self.value(),
+                100..=109 => {
+                    let leaf = self.some_leaf();
+                    self.ask(2, leaf, None);
+                }
+                110 => {
+                    let ground = self.some(|maker, n| maker.is_leaf(n) && row(maker.desk.t, n)[LEVEL] == 0);
+                    ground.map(|n| self.ask(4, n, None));
+                }
+                _ if self.desk.free >= 9 => {
+                    let leaf = self.some_leaf();
+                    self.ask(1, leaf, None);
+                }
+                _ => self.shrink(),
+            }
+        }
+    }
+
+    /// Refines leaves until fewer numbers than `left` are free, or none of many leaves has room.
+    fn fill(&mut self, left: usize, value_every: usize) {
+        let mut failures = 0;
+        while self.desk.free > left && failures < 20_000 {
+            let leaf = self.some_leaf();
+            if !self.ask(1, leaf, None) {
+                failures += 1;
+            }
+            if value_every != 0 && self.chance.below(value_every) == 0 {
+                self.value();
+            }
+        }
+    }
+}
+
+// ---- tables to start from
+
+fn built(columns: u32, rows: u32, capacity: usize) -> Lists {
+    let header = Header { columns: 0, rows: 0, mark: 0 };
+    let mut lists = Lists { header, table: vec![0; ROW * (capacity + 1)], values: vec![0.0; capacity + 1] };
+    let (refusal, _) = hand::build(&mut lists.header, &mut lists.table, &mut lists.values, capacity as u32, columns, rows);
+    assert_eq!(refusal, 0);
+    lists
+}
+
+/// A square refined at random leaves until it is full, with values here and there, and some leaves sentenced.
+fn filled(size: u32, capacity: usize, value_every: usize) -> Lists {
+    let mut lists = built(size, size, capacity);
+    let mut maker = Maker::new(&mut lists, 5);
+    maker.fill(0, value_every);
+    for _ in 0..capacity / 50 {
+        let leaf = maker.some_leaf();
+        maker.ask(2, leaf, None);
+    }
+    lists
+}
+
+/// Level-0 cells refined one after the other: every patch but the ghosts is on level 0 or 1.
+fn one_level() -> Lists {
+    let mut lists = built(28, 28, 4095);
+    let mut maker = Maker::new(&mut lists, 6);
+    for n in 1..maker.rows() {
+        if row(maker.desk.t, n)[LEVEL] == 0 {
+            maker.ask(1, n, None);
+        }
+    }
+    lists
+}
+
+/// One cell refined at its deepest leaves, down to level 12, then wherever there is room.
+fn deep() -> Lists {
+    let mut lists = built(1, 1, 4095);
+    let mut maker = Maker::new(&mut lists, 7);
+    maker.ask(5, 2, Some(42.5));
+    for level in 0..12 {
+        let n = maker.some(|maker, n| maker.is_leaf(n) && row(maker.desk.t, n)[LEVEL] == level).expect("a leaf");
+        maker.ask(1, n, None);
+    }
+    let mut failures = 0;
+    while maker.desk.free > 0 && failures < 20_000 {
+        let n = maker.some(|maker, n| maker.is_leaf(n) && row(maker.desk.t, n)[LEVEL] >= 6);
+        if !n.map_or(false, |n| maker.ask(1, n, None)) {
+            failures += 1;
+        }
+    }
+    lists
+}
+
+/// A table of 4,095 in which 9 to 12 numbers are free, the last ones: it was only ever refined.
+fn nearly_full() -> Lists {
+    let mut lists = built(16, 16, 4095);
+    let mut maker = Maker::new(&mut lists, 8);
+    maker.fill(20, 8);
+    while maker.desk.free > 12 {
+        let leaf = maker.some_leaf();
+        if maker.ask(1, leaf, None) && maker.desk.free < 9 {
+            // a removal leaves the rows as they were before the refinement
+            for kid in maker.kids(leaf) {
+                maker.ask(2, kid, None);
+            }
+            maker.ask(3, leaf, None);
+        }
+    }
+    lists
+}
+
+/// The same number of free rows, scattered over the table by a long tape.
+fn scattered() -> Lists {
+    let mut lists = nearly_full();
+    let mut maker = Maker::new(&mut lists, 9);
+    maker.mix(20_000);
+    while !(9..=12).contains(&maker.desk.free) {
+        if maker.desk.free < 9 {
+            maker.shrink();
+        } else {
+            let leaf = maker.some_leaf();
+            maker.ask(1, leaf, None);
+        }
+    }
+    lists
+}
+
+/// Sixteen by sixteen cells with some refinements, level 0 first, so that there are 256 + 3 times as many leaves; some have values.
+fn leaves(refinements: usize) -> Lists {
+    let mut lists = built(16, 16, 4095);
+    let mut maker = Maker::new(&mut lists, 10);
+    for _ in 0..100 {
+        maker.value();
+    }
+    let mut done = 0;
+    while done < refinements {
+        let level = if done < 256 { 0 } else { 1 };
+        let n = maker.some(|maker, n| maker.is_leaf(n) && row(maker.desk.t, n)[LEVEL] == level).expect("a leaf");
+        done += maker.ask(1, n, None) as usize;
+    }
+    for _ in 0..refinements {
+        maker.value();
+    }
+    lists
+}
+
+// ---- workloads
+
+fn check(start: Lists) -> Job {
+    Job { start, work: Work::Check, per: Per::Row }
+}
+
+/// A tape of a mix of requests, on a table that is near full at its start.
+fn mixed(size: u32, capacity: usize, requests: usize) -> Job {
+    let mut start = built(size, size, capacity);
+    Maker::new(&mut start, 1).fill(9, 8);
+    let mut end = start.clone();
+    let mut maker = Maker::new(&mut end, 2);
+    maker.mix(requests);
+    let units = maker.requests;
+    Job { start, work: Work::Tapes(vec![maker.tape]), per: Per::Requests(units) }
+}
+
+/// The first requests of the mixed tape, one a call.
+fn single() -> Job {
+    let Job { start, work, .. } = mixed(8, 1000, 60);
+    let mut tapes = vec![];
+    if let Work::Tapes(whole) = work {
+        let mut rest = &whole[0][..];
+        while !rest.is_empty() {
+            let (request, more) = rest.split_at(if rest[0] == 5 { 11 } else { 3 });
+            tapes.push(request.to_vec());
+            rest = more;
+        }
+    }
+    Job { start, work: Work::Tapes(tapes), per: Per::Call }
+}
+
+/// Refine, sentence the four, remove: 200 times, at leaves for which there is room.
+fn cycles(start: Lists) -> Job {
+    let mut end = start.clone();
+    let mut maker = Maker::new(&mut end, 3);
+    let mut units = 0;
+    while units < 200 {
+        let leaf = maker.some_leaf();
+        if maker.ask(1, leaf, None) {
+            for kid in maker.kids(leaf) {
+                maker.ask(2, kid, None);
+            }
+            assert!(maker.ask(3, leaf, None));
+            units += 1;
+        }
+    }
+    Job { start, work: Work::Tapes(vec![maker.tape]), per: Per::Requests(units) }
+}
+
+/// One refinement that takes all nine numbers, as one call.
+fn refinement(start: Lists) -> Job {
+    let mut seed = 4;
+    loop {
+        let mut end = start.clone();
+        let mut maker = Maker::new(&mut end, seed);
+        let (leaf, before) = (maker.some_leaf(), maker.desk.free);
+        if maker.ask(1, leaf, None) && before - maker.desk.free == 9 {
+            return Job { start, work: Work::Tapes(vec![maker.tape]), per: Per::Requests(1) };
+        }
+        seed += 1;
+    }
+}
+
+fn build() -> Job {
+    Job { start: built(8, 8, 4095), work: Work::Build(32, 32), per: Per::Call }
+}
+
+fn lookups() -> Job {
+    let start = leaves(486);
+    let mut chance = Chance(11);
+    let points = (0..10_000).map(|_| (chance.below(16 * 4096) as u32, chance.below(16 * 4096) as u32)).collect();
+    Job { start, work: Work::Lookups(points), per: Per::Call }
+}
