@@ -28,17 +28,11 @@ const STATUS: usize = 13;
 
 pub const COMPLETE: i32 = 1 << 0;
 const BDY_POINT: i32 = 1 << 3;
-const BDY_H: i32 = 1 << 4;
-const BDY_V: i32 = 1 << 5;
 const BDY_CELL: i32 = 1 << 6;
 const GRN_POINT: i32 = 1 << 7;
-const GRN_H: i32 = 1 << 8;
-const GRN_V: i32 = 1 << 9;
 const GRN_CELL: i32 = 1 << 10;
 pub const SENTENCED: i32 = 1 << 12;
 const DEAD: i32 = 1 << 13;
-const ONE_CELL_H: i32 = BDY_H | GRN_H;
-const ONE_CELL_V: i32 = BDY_V | GRN_V;
 
 const FREE: Row = [0, 0, 0, 0, 0, 0, 0, 0, 0, 0, 0, 0, DEAD, 0];
 const LAST_LEVEL: i32 = 12;
@@ -66,31 +60,41 @@ fn ground_depth(columns: u32, rows: u32) -> u32 {
 
 // ---- flags
 
-/// The bits of the two walls of a patch: `c`, `w` and `s` say whether it, its west and its south neighbour are cells, `above` are the parent's flags.
-fn walls(place: (i32, i32, i32), c: i32, w: i32, s: i32, above: i32) -> i32 {
-    let (level, i, j) = place;
-    let one_h = c ^ s;
-    let one_v = c ^ w;
-    let (edge_h, edge_v) = if level == 0 { (1, 1) } else { (!j & above >> 4, !i & above >> 5) };
-    let bdy_h = one_h & edge_h;
-    let bdy_v = one_v & edge_v;
-    (c | s) << 1 | (c | w) << 2 | bdy_h << 4 | bdy_v << 5 | (one_h ^ bdy_h) << 8 | (one_v ^ bdy_v) << 9
+/// The bits of the two walls of a patch, by five bits: whether it, its west and its south neighbour are cells, and whether a wall that has one cell
+/// is boundary, for the H-wall and for the V-wall.
+const WALLS: [i32; 32] = {
+    let mut table = [0; 32];
+    let mut at = 0;
+    while at < 32 {
+        let (c, w, s) = (at & 1, at >> 1 & 1, at >> 2 & 1);
+        let bdy_h = (c ^ s) & at >> 3;
+        let bdy_v = (c ^ w) & at >> 4;
+        let present = (c | s) << 1 | (c | w) << 2;
+        table[at as usize] = present | bdy_h << 4 | bdy_v << 5 | (c ^ s ^ bdy_h) << 8 | (c ^ w ^ bdy_v) << 9;
+        at += 1;
+    }
+    table
+};
+
+/// The bits of the walls of a row: on level 0 a wall with one cell is boundary, above it if it lies on a boundary wall of the parent.
+fn walls(r: &Row, west: i32, south: i32, above: i32) -> i32 {
+    let edges = if r[LEVEL] == 0 { 3 } else { above >> 4 & !(r[J] & 1 | (r[I] & 1) << 1) & 3 };
+    WALLS[(r[FLAGS] & 1 | (west & 1) << 1 | (south & 1) << 2 | edges << 3) as usize & 31]
+}
+
+/// Of some walls that two words have, H-walls in the first and V-walls in the second: bit 0, whether one is boundary; bit 4, whether one is green.
+fn outer(h: i32, v: i32) -> i32 {
+    (h >> 4 | v >> 5) & 0x11
 }
 
 /// The bits of the point, from the walls that end there.
 fn point(own: i32, west: i32, south: i32) -> i32 {
-    let ends = own & (ONE_CELL_H | ONE_CELL_V) | west & ONE_CELL_H | south & ONE_CELL_V;
-    let bdy = if ends & (BDY_H | BDY_V) != 0 { BDY_POINT } else { 0 };
-    let grn = if ends & (GRN_H | GRN_V) != 0 { GRN_POINT } else { 0 };
-    bdy | grn
+    outer(own | west, own | south) << 3
 }
 
 /// The bits of the cell, from its four walls.
 fn cell(own: i32, north: i32, east: i32) -> i32 {
-    let sides = own & (ONE_CELL_H | ONE_CELL_V) | north & ONE_CELL_H | east & ONE_CELL_V;
-    let bdy = if sides & (BDY_H | BDY_V) != 0 { BDY_CELL } else { 0 };
-    let grn = if sides & (GRN_H | GRN_V) != 0 { GRN_CELL } else { 0 };
-    bdy | grn
+    outer(own | north, own | east) << 6
 }
 
 // ---- the checker
@@ -121,37 +125,49 @@ fn admit(h: &Header, t: &[i32], v: &[f64], capacity: u32) -> Result<Facts, u32> 
     sound(h, t, v).ok_or(3)
 }
 
+/// Every row names its parent, and the parent names the row; so there is a kid word for each row but the root, and if there are no more, none names
+/// anything else.
 fn sound(h: &Header, t: &[i32], v: &[f64]) -> Option<Facts> {
     let root_level = -(ground_depth(h.columns, h.rows) as i32);
     let mut facts = Facts { free: 0, low: v.len(), ground_cells: 0 };
+    let mut kids = 0;
     if *row(t, 0) != [0; ROW] || v[0].to_bits() != 0 || !is_root(row(t, 1), root_level) {
         return None;
     }
-    for n in 1..v.len() {
-        let r = row(t, n);
+    for (n, (r, value)) in t.chunks_exact(ROW).zip(v).enumerate().skip(1) {
+        let r: &Row = r.try_into().unwrap();
+        let bits = value.to_bits();
         if r[FLAGS] == DEAD {
-            if *r != FREE || v[n].to_bits() != 0 {
+            if r[..FLAGS].iter().fold(r[STATUS], |any, word| any | word) != 0 || bits != 0 {
                 return None;
             }
             facts.free += 1;
             facts.low = facts.low.min(n);
             continue;
         }
+        let p = linked(t, r[PARENT])?;
         if n != 1 {
-            in_tree(t, n, r, root_level)?;
+            in_tree(t, n, r, p, root_level)?;
         }
-        kids_agree(t, n, r)?;
+        let count = r[NE..=NW].iter().filter(|&&kid| kid != 0).count();
+        kids += count;
         if r[LEVEL] < 0 {
-            let empty = r[NE] | r[SE] | r[SW] | r[NW] == 0;
-            if empty || r[FLAGS] != 0 || r[STATUS] != 0 || v[n].to_bits() != 0 {
+            if count == 0 || r[FLAGS] | r[STATUS] != 0 || bits != 0 {
+                return None;
+            }
+        } else if r[FLAGS] & COMPLETE == 0 {
+            point_agrees(t, r, p)?;
+            if r[STATUS] != 0 || bits != 0 {
                 return None;
             }
         } else {
-            patch_agrees(h, t, v, n, r)?;
-            facts.ground_cells += (r[LEVEL] == 0 && r[FLAGS] & COMPLETE != 0) as usize;
+            let above = v.get(r[PARENT] as usize)?.to_bits();
+            cell_agrees(h, t, r, p, count)?;
+            value_agrees(r[STATUS], bits, p[STATUS], above)?;
+            facts.ground_cells += (r[LEVEL] == 0) as usize;
         }
     }
-    Some(facts)
+    (kids + facts.free + 2 == v.len()).then_some(facts)
 }
 
 fn is_root(r: &Row, level: i32) -> bool {
@@ -160,13 +176,9 @@ fn is_root(r: &Row, level: i32) -> bool {
 
 /// The parent is one level up at the halved place and names the row, and the neighbours are its kids or its neighbours' kids. By induction on the
 /// level no two rows have one place.
-fn in_tree(t: &[i32], n: usize, r: &Row, root_level: i32) -> Option<()> {
+fn in_tree(t: &[i32], n: usize, r: &Row, p: &Row, root_level: i32) -> Option<()> {
     let (level, i, j) = (r[LEVEL], r[I], r[J]);
-    if level <= root_level || level > LAST_LEVEL {
-        return None;
-    }
-    let p = linked(t, r[PARENT])?;
-    if p[LEVEL] != level - 1 || p[I] != i >> 1 || p[J] != j >> 1 {
+    if level <= root_level || level > LAST_LEVEL || p[LEVEL] != level - 1 || p[I] != i >> 1 || p[J] != j >> 1 {
         return None;
     }
     let (own, around) = match (i & 1, j & 1) {
@@ -178,71 +190,40 @@ fn in_tree(t: &[i32], n: usize, r: &Row, root_level: i32) -> Option<()> {
     (own == n as i32 && r[N..=W] == around).then_some(())
 }
 
-/// A kid word that is not 0 names a row with this parent at that corner; that row's own test says the rest.
-fn kids_agree(t: &[i32], n: usize, r: &Row) -> Option<()> {
-    for (wind, east, north) in [(NE, 1, 1), (SE, 1, 0), (SW, 0, 0), (NW, 0, 1)] {
-        if r[wind] != 0 {
-            let kid = linked(t, r[wind])?;
-            if kid[PARENT] != n as i32 || kid[I] & 1 != east || kid[J] & 1 != north {
-                return None;
-            }
-        }
-    }
-    Some(())
-}
-
-/// A patch of level 0 up is touched by a cell, has the flags that the cells around it make, and a value if it is a cell.
-fn patch_agrees(h: &Header, t: &[i32], v: &[f64], n: usize, r: &Row) -> Option<()> {
-    let (place, flags) = ((r[LEVEL], r[I], r[J]), r[FLAGS]);
-    let p = linked(t, r[PARENT])?;
+/// A patch without a cell is touched by one, is no kid of a cell with kids, and has the flags that the cells around it make.
+fn point_agrees(t: &[i32], r: &Row, p: &Row) -> Option<()> {
     let west = linked(t, r[W])?;
     let south = linked(t, r[S])?;
-    let c = flags & COMPLETE;
-    let w = west[FLAGS] & COMPLETE;
-    let s = south[FLAGS] & COMPLETE;
-    if c | w | s == 0 && linked(t, west[S])?[FLAGS] & COMPLETE == 0 {
+    let untouched = (west[FLAGS] | south[FLAGS]) & COMPLETE == 0 && linked(t, west[S])?[FLAGS] & COMPLETE == 0;
+    if untouched || p[FLAGS] & COMPLETE != 0 && p[NE] != 0 {
         return None;
     }
-    let own = walls(place, c, w, s, p[FLAGS]);
-    let mut wanted = c | own | point(own, west[FLAGS], south[FLAGS]);
-    if c == 0 {
-        let blank = r[STATUS] == 0 && v[n].to_bits() == 0;
-        return (blank && flags == wanted).then_some(());
-    }
-    let north = linked(t, r[N])?;
-    let east = linked(t, r[E])?;
-    if r[N] == 0 || r[E] == 0 || east[N] == 0 || !cell_in_place(h, r, p) {
+    let own = walls(r, west[FLAGS], south[FLAGS], p[FLAGS]);
+    (r[FLAGS] == own | point(own, west[FLAGS], south[FLAGS])).then_some(())
+}
+
+/// A cell lies in the rectangle or in a cell, has all four kids if it has any, its patches north, east and north-east, and its flags.
+fn cell_agrees(h: &Header, t: &[i32], r: &Row, p: &Row, kids: usize) -> Option<()> {
+    let (west, south) = (linked(t, r[W])?[FLAGS], linked(t, r[S])?[FLAGS]);
+    let (north, east) = (linked(t, r[N])?[FLAGS], linked(t, r[E])?);
+    let placed = if r[LEVEL] == 0 { r[I] < h.columns as i32 && r[J] < h.rows as i32 } else { p[FLAGS] & COMPLETE != 0 };
+    if !placed || r[N] == 0 || east[N] == 0 || r[NE] != 0 && kids != 4 {
         return None;
     }
-    wanted |= cell(own, north[FLAGS], east[FLAGS]);
-    if r[NE] != 0 {
-        for wind in [NE, SE, SW, NW] {
-            if linked(t, r[wind])?[FLAGS] & COMPLETE == 0 {
-                return None;
-            }
-        }
-    } else if place.0 > 0 {
-        wanted |= flags & SENTENCED;
-    }
-    (flags == wanted && value_agrees(v, n, r, p)).then_some(())
+    let own = walls(r, west, south, p[FLAGS]);
+    let marks = COMPLETE | own | point(own, west, south) | cell(own, north, east[FLAGS]);
+    let sentenced = if r[NE] == 0 && r[LEVEL] > 0 { SENTENCED } else { 0 };
+    (r[FLAGS] & !sentenced == marks).then_some(())
 }
 
-fn cell_in_place(h: &Header, r: &Row, p: &Row) -> bool {
-    if r[LEVEL] == 0 {
-        r[I] < h.columns as i32 && r[J] < h.rows as i32
-    } else {
-        p[FLAGS] & COMPLETE != 0
-    }
-}
-
-fn value_agrees(v: &[f64], n: usize, r: &Row, p: &Row) -> bool {
-    let bits = v[n].to_bits();
-    match r[STATUS] {
-        0 => bits == 0 && p[STATUS] == 0,
+fn value_agrees(status: i32, bits: u64, status_above: i32, above: u64) -> Option<()> {
+    let good = match status {
+        0 => bits == 0 && status_above == 0,
         1 => bits & EXPONENT != EXPONENT,
-        2 => p[STATUS] != 0 && v.get(r[PARENT] as usize).map(|x| x.to_bits()) == Some(bits),
+        2 => bits == above && status_above != 0,
         _ => false,
-    }
+    };
+    good.then_some(())
 }
 
 pub fn check(h: &Header, t: &[i32], v: &[f64], capacity: u32) -> u32 {
@@ -316,10 +297,9 @@ fn number_levels(t: &mut [i32], d: u32, columns: i32, rows: i32) {
 
 /// The flags of a patch of a full rectangle.
 fn ground_flags(i: i32, j: i32, columns: i32, rows: i32) -> i32 {
-    let place = (0, i, j);
     let is_cell = |i: i32, j: i32| (i >= 0 && j >= 0 && i < columns && j < rows) as i32;
     let c = is_cell(i, j);
-    let own = walls(place, c, is_cell(i - 1, j), is_cell(i, j - 1), 0);
+    let own = WALLS[(c | is_cell(i - 1, j) << 1 | is_cell(i, j - 1) << 2 | 24) as usize];
     let point = if i == 0 || j == 0 || i == columns || j == rows { BDY_POINT } else { 0 };
     let edge = c != 0 && (i == 0 || j == 0 || i == columns - 1 || j == rows - 1);
     c | own | point | if edge { BDY_CELL } else { 0 }
@@ -419,39 +399,41 @@ impl<'a> Desk<'a> {
         self.t[n * ROW + FLAGS]
     }
 
-    /// The nine patches under a cell, each as a kid word of a row, in the order in which a refinement makes them.
-    fn block(&self, n: usize) -> [(usize, usize); 9] {
+    /// The nine patches under a cell, each as a kid word of a row, in the order in which a refinement makes them; and their numbers, 0 if missing.
+    fn block(&self, n: usize) -> ([(usize, usize); 9], [usize; 9]) {
         let (north, east) = (self.word(n, N), self.word(n, E));
         let corner = self.word(east, N);
-        [(n, SW), (n, SE), (n, NW), (n, NE), (north, SW), (north, SE), (east, NW), (east, SW), (corner, SW)]
+        let (own, north_row, east_row) = (row(self.t, n), row(self.t, north), row(self.t, east));
+        let kids = [own[SW], own[SE], own[NW], own[NE], north_row[SW], north_row[SE], east_row[NW], east_row[SW], row(self.t, corner)[SW]];
+        let places = [(n, SW), (n, SE), (n, NW), (n, NE), (north, SW), (north, SE), (east, NW), (east, SW), (corner, SW)];
+        (places, kids.map(|kid| kid as usize))
     }
 
     fn refine(&mut self, n: usize) -> u32 {
-        let block = self.block(n);
-        let missing = block.iter().filter(|&&(p, wind)| self.word(p, wind) == 0).count();
+        let (places, mut under) = self.block(n);
+        let missing = under.iter().filter(|&&q| q == 0).count();
         if missing > self.free {
             return 11;
         }
         self.free -= missing;
         let mut made = [0; 9];
-        let mut under = [0; 9];
-        for (at, &(p, wind)) in block.iter().enumerate() {
-            under[at] = self.word(p, wind);
+        for (at, (p, wind)) in places.into_iter().enumerate() {
             if under[at] == 0 {
                 under[at] = self.make(p, wind);
                 made[at] = under[at];
             }
         }
-        for q in made {
+        for (q, (p, wind)) in made.into_iter().zip(places) {
             if q != 0 {
-                self.link(q);
+                self.link(q, p, wind);
             }
         }
         let (status, value) = (self.t[n * ROW + STATUS], self.v[n]);
         for &q in &under[..4] {
-            self.t[q * ROW + FLAGS] |= COMPLETE;
+            let kid = row_mut(self.t, q);
+            kid[FLAGS] |= COMPLETE;
             if status != 0 {
-                self.t[q * ROW + STATUS] = 2;
+                kid[STATUS] = 2;
                 self.v[q] = value;
             }
         }
@@ -462,10 +444,11 @@ impl<'a> Desk<'a> {
 
     /// A new patch as a kid of `p`, not yet linked to its neighbours.
     fn make(&mut self, p: usize, wind: usize) -> usize {
-        let mut q = self.low;
-        while self.flags(q) != DEAD {
-            q += 1;
+        let mut at = self.low * ROW + FLAGS;
+        while self.t[at] != DEAD {
+            at += ROW;
         }
+        let q = at / ROW;
         self.low = q + 1;
         let above = row_mut(self.t, p);
         above[wind] = q as i32;
@@ -477,14 +460,13 @@ impl<'a> Desk<'a> {
     }
 
     /// Links a row with its neighbours: kids of its parent and of its parent's neighbours.
-    fn link(&mut self, q: usize) {
-        let (i, j) = (self.t[q * ROW + I], self.t[q * ROW + J]);
-        let p = *row(self.t, self.word(q, PARENT));
-        let of = |wind: usize, kid: usize| self.t[p[wind] as usize * ROW + kid];
-        let around = match (i & 1, j & 1) {
-            (0, 0) => [p[NW], p[SE], of(S, NW), of(W, SE)],
-            (0, _) => [of(N, SW), p[NE], p[SW], of(W, NE)],
-            (_, 0) => [p[NE], of(E, SW), of(S, NE), p[SW]],
+    fn link(&mut self, q: usize, p: usize, wind: usize) {
+        let p = row(self.t, p);
+        let of = |side: usize, kid: usize| self.t[p[side] as usize * ROW + kid];
+        let around = match wind {
+            SW => [p[NW], p[SE], of(S, NW), of(W, SE)],
+            NW => [of(N, SW), p[NE], p[SW], of(W, NE)],
+            SE => [p[NE], of(E, SW), of(S, NE), p[SW]],
             _ => [of(N, SE), of(E, NW), p[SE], p[NW]],
         };
         row_mut(self.t, q)[N..=W].copy_from_slice(&around);
@@ -514,16 +496,12 @@ impl<'a> Desk<'a> {
     }
 
     fn refresh_walls(&mut self, q: usize) {
-        if q == 0 {
-            return;
+        if q != 0 {
+            let r = row(self.t, q);
+            let own = walls(r, self.flags(r[W] as usize), self.flags(r[S] as usize), self.flags(r[PARENT] as usize));
+            let flags = &mut self.t[q * ROW + FLAGS];
+            *flags = *flags & (COMPLETE | SENTENCED) | own;
         }
-        let r = row(self.t, q);
-        let kept = r[FLAGS] & (COMPLETE | SENTENCED);
-        let w = self.flags(r[W] as usize) & COMPLETE;
-        let s = self.flags(r[S] as usize) & COMPLETE;
-        let above = self.flags(r[PARENT] as usize);
-        let own = walls((r[LEVEL], r[I], r[J]), kept & COMPLETE, w, s, above);
-        self.t[q * ROW + FLAGS] = kept | own;
     }
 
     fn refresh_marks(&mut self, q: usize) {
@@ -540,11 +518,7 @@ impl<'a> Desk<'a> {
     }
 
     fn remove(&mut self, n: usize) -> u32 {
-        let block = self.block(n);
-        let mut under = [0; 9];
-        for (at, &(p, wind)) in block.iter().enumerate() {
-            under[at] = self.word(p, wind);
-        }
+        let (_, mut under) = self.block(n);
         if under[..4].iter().any(|&q| self.flags(q) & SENTENCED == 0) {
             return 14;
         }
@@ -570,9 +544,9 @@ impl<'a> Desk<'a> {
 
     /// Whether one of the four cells that meet in the patch's point is there. A cell south-west has a patch west of this one.
     fn touched(&self, q: usize) -> bool {
-        let (west, south) = (self.word(q, W), self.word(q, S));
-        let corner = self.word(west, S);
-        (self.flags(q) | self.flags(west) | self.flags(south) | self.flags(corner)) & COMPLETE != 0
+        let r = row(self.t, q);
+        let west = row(self.t, r[W] as usize);
+        (r[FLAGS] | west[FLAGS] | self.flags(r[S] as usize) | self.flags(west[S] as usize)) & COMPLETE != 0
     }
 
     fn release(&mut self, q: usize) {
