@@ -470,10 +470,17 @@ impl<'a> Desk<'a> {
             _ => [of(N, SE), of(E, NW), p[SE], p[NW]],
         };
         row_mut(self.t, q)[N..=W].copy_from_slice(&around);
-        for (other, back) in around.into_iter().zip([S, W, N, E]) {
-            if other != 0 {
-                self.t[other as usize * ROW + back] = q as i32;
-            }
+        let [north, east, south, west] = around;
+        self.put_back(north, S, q);
+        self.put_back(east, W, q);
+        self.put_back(south, N, q);
+        self.put_back(west, E, q);
+    }
+
+    /// A neighbour, if it is there, names the row q on that side.
+    fn put_back(&mut self, neighbour: i32, side: usize, q: usize) {
+        if neighbour != 0 {
+            self.t[neighbour as usize * ROW + side] = q as i32;
         }
     }
 
@@ -551,11 +558,10 @@ impl<'a> Desk<'a> {
 
     fn release(&mut self, q: usize) {
         let r = *row(self.t, q);
-        for (wind, back) in [(N, S), (E, W), (S, N), (W, E)] {
-            if r[wind] != 0 {
-                self.t[r[wind] as usize * ROW + back] = 0;
-            }
-        }
+        self.put_back(r[N], S, 0);
+        self.put_back(r[E], W, 0);
+        self.put_back(r[S], N, 0);
+        self.put_back(r[W], E, 0);
         let kid = [[SW, NW], [SE, NE]][(r[I] & 1) as usize][(r[J] & 1) as usize];
         self.t[r[PARENT] as usize * ROW + kid] = 0;
         *row_mut(self.t, q) = FREE;
@@ -626,42 +632,44 @@ impl<'a> Desk<'a> {
 
 // ---- walks
 
-/// What a scan writes: numbers into a list that has room for all.
+/// A walk that finds numbers, into a list that has room for all: of rows from a level on that have all flags of `mask`, and no kid NE if `leaf` is -1.
 struct Walk<'a> {
     t: &'a [i32],
     order: [usize; 4],
-    kind: u32,
+    mask: i32,
+    leaf: i32,
     from: i32,
     to: i32,
     found: [u16; MOST],
     count: usize,
 }
 
-impl Walk<'_> {
+impl<'a> Walk<'a> {
+    fn new(t: &'a [i32], order: [usize; 4], kind: u32, from: i32, to: i32) -> Walk<'a> {
+        let mask = match kind {
+            2 | 3 => COMPLETE,
+            4 => 1 << 1,
+            5 => 1 << 2,
+            _ => 0,
+        };
+        let leaf = if kind == 3 { -1 } else { 0 };
+        let from = if kind == 6 { from.max(0) } else { from };
+        Walk { t, order, mask, leaf, from, to, found: [0; MOST], count: 0 }
+    }
+
     fn go(&mut self, n: usize) {
         let r = row(self.t, n);
-        if r[LEVEL] >= self.from && self.counts(r) {
+        if r[LEVEL] >= self.from && r[FLAGS] & self.mask == self.mask && r[NE] & self.leaf == 0 {
             self.found[self.count] = n as u16;
             self.count += 1;
         }
-        if r[LEVEL] < self.to {
+        if r[LEVEL] < self.to && r[NE] | r[SE] | r[SW] | r[NW] != 0 {
             for wind in self.order {
                 let kid = r[wind];
                 if kid != 0 {
                     self.go(kid as usize);
                 }
             }
-        }
-    }
-
-    fn counts(&self, r: &Row) -> bool {
-        match self.kind {
-            1 => true,
-            2 => r[FLAGS] & 1 != 0,
-            3 => r[FLAGS] & 1 != 0 && r[NE] == 0,
-            4 => r[FLAGS] & 2 != 0,
-            5 => r[FLAGS] & 4 != 0,
-            _ => r[LEVEL] >= 0,
         }
     }
 }
@@ -690,7 +698,7 @@ pub fn scan(h: &Header, t: &[i32], v: &[f64], capacity: u32, what: &Scan, out: &
     if !(1..=6).contains(&what.kind) || what.from < row(t, start)[LEVEL] || what.to < what.from {
         return (17, 0);
     }
-    let mut walk = Walk { t, order, kind: what.kind, from: what.from, to: what.to, found: [0; MOST], count: 0 };
+    let mut walk = Walk::new(t, order, what.kind, what.from, what.to);
     walk.go(start);
     if walk.count > out.len() {
         return (18, 0);
@@ -819,7 +827,7 @@ pub fn page(h: &Header, t: &[i32], v: &[f64], capacity: u32, out: &mut [u8]) -> 
     }
     let order = [SW, NW, SE, NE];
     let root_level = row(t, 1)[LEVEL];
-    let mut walk = Walk { t, order, kind: 3, from: root_level, to: LAST_LEVEL, found: [0; MOST], count: 0 };
+    let mut walk = Walk::new(t, order, 3, root_level, LAST_LEVEL);
     walk.go(1);
     let leaves = &walk.found[..walk.count];
     if out.len() < (leaves.len() + 2) * LONGEST_LINE && lines(h, t, v, leaves, &mut []) > out.len() {

@@ -4,9 +4,10 @@
 //!     bench compare                 compared alone, not timed: under an emulator times say nothing
 //!     bench list                    a line for each workload: its name, its units, the calls that check the table it starts from
 //!     bench NAME SIDE REPEATS       one workload alone, compared with nothing, for counting instructions. SIDE is proved or hand; proved-check or
-//!                                   hand-check: one check of the table that the workload starts from; none: the same without a call
+//!                                   hand-check: one check of the table that the workload starts from; none: the same with calls of nothing
 
 mod hand;
+mod nothing;
 mod proved;
 mod work;
 
@@ -69,7 +70,8 @@ fn run_once(side: &str, job: &Job, lists: &mut Lists, outcome: &mut Outcome) {
         "hand" => run!(hand, job, lists, outcome),
         "proved-check" => outcome.answers.push(proved::check(&lists.header, &lists.table, &lists.values, lists.capacity()) as u64),
         "hand-check" => outcome.answers.push(hand::check(&lists.header, &lists.table, &lists.values, lists.capacity()) as u64),
-        _ => (),
+        "none-check" => outcome.answers.push(nothing::check(&lists.header, &lists.table, &lists.values, lists.capacity()) as u64),
+        _ => run!(nothing, job, lists, outcome),
     }
 }
 

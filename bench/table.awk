@@ -1,11 +1,11 @@
-# From the counts of bench/run (name, units, checks, cost of one run: none, proved, hand, proved-check, hand-check) the tables of docs/SPEED.md.
+# From the counts of bench/run (name, units, checks, cost of one run: none, proved, hand, none-check, proved-check, hand-check) the tables of docs/SPEED.md.
 
 {
     units[$1] = $2
     whole[$1, "proved"] = $5 - $4
     whole[$1, "hand"] = $6 - $4
-    less[$1, "proved"] = $5 - $4 - $3 * ($7 - $4)
-    less[$1, "hand"] = $6 - $4 - $3 * ($8 - $4)
+    less[$1, "proved"] = $5 - $4 - $3 * ($8 - $7)
+    less[$1, "hand"] = $6 - $4 - $3 * ($9 - $7)
 }
 
 function grouped(x,   text, out) {
