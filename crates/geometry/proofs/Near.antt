@@ -1,17 +1,17 @@
 -- The cells that touch a point, and the points that a cell touches; both go up the tree.
 -- Assumes nothing.
-use Prim.Native.Nat.{ℕ, zero, suc, pred, _+_, _*_, _/_, _%_, _≤_, _<_}
+use Prim.Native.Nat.{ℕ, suc, _/_, _%_, _<_}
 use native.Mathlib.Omega.{arith}
 use native.Mathlib.Decide.{decLt}
-use mathlib.Core.Path.{_≡_, refl, sym, ap, _∙_, subst}
+use mathlib.Core.Path.{_≡_, refl, sym, ap, _∙_}
 use mathlib.Core.Logic.{_⊎_, inl, inr}
-use mathlib.Core.Bool.{Bool, true, false, _||_}
-use mathlib.Core.Option.{Option, none, some, Option·map, Option·none-ne-some, Option·some-injective}
+use mathlib.Core.Bool.{Bool, _||_}
+use mathlib.Core.Option.{Option, none, some}
 use lib.Dec.{T}
-use Rattle.mesh.specs.Place.{Place, Grid, at, before, toNorth, toEast, toSouth, toWest, then, step, SW, S, W}
+use Rattle.mesh.specs.Place.{Place, Grid, toNorth, toEast, toSouth, toWest, then, step, SW, S, W}
 use Rattle.mesh.specs.Mesh.{on, touched}
 use Rattle.geometry.proofs.Bools.{or-left, or-right, or-cases}
-use Rattle.geometry.proofs.Places.{place-path, before-is, mapped, then-some, south-north, west-east, north-south, east-west, east-north, west-of-north}
+use Rattle.geometry.proofs.Places.{then-some, south-north, west-east, north-south, east-west, east-north, west-of-north}
 use Rattle.geometry.proofs.Kids.{up}
 
 -- ---- the four points of a cell

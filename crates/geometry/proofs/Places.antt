@@ -3,14 +3,13 @@
 use Prim.Native.Nat.{ℕ, zero, suc}
 use mathlib.Core.Path.{_≡_, refl, sym, ap, _∙_, subst}
 use mathlib.Core.Logic.{_⊎_, inl, inr}
-use mathlib.Core.Bool.{Bool, true, false, _&&_, _||_}
+use mathlib.Core.Bool.{Bool, _&&_}
 use mathlib.Core.Option.{Option, none, some, Option·map, Option·none-ne-some, Option·some-injective}
-use mathlib.Core.List.{List, [], _∷_, _++_}
+use mathlib.Core.List.{List, [], _∷_}
 use lib.Dec.{T, eqb, eqb→eq, eqb-refl}
 use Rattle.mesh.specs.Tools.{any, all}
 use Rattle.mesh.specs.Place.{Place, Grid, at, same, before, toNorth, toEast, toSouth, toWest, then, step, compass, Wind, NE, SE, SW, NW, N, E, S, W}
 use Rattle.geometry.proofs.Bools.{yes-is, and-both, and-left, and-right, or-left, or-right, or-cases}
-use Rattle.geometry.proofs.Lists.{any-append}
 
 pub place-path : (p q : Place) → p .depth ≡ q .depth → p .col ≡ q .col → p .row ≡ q .row → p ≡ q
 place-path p q a b c = λ i. record { depth = a i; col = b i; row = c i }

@@ -2,7 +2,7 @@
 -- or tables; a deed's place is that of the number which the request named when it was made.
 -- Assumes nothing.
 use Prim.Native.Nat.{ℕ, zero, suc}
-use mathlib.Core.Bool.{Bool, cond}
+use mathlib.Core.Bool.{cond}
 use mathlib.Core.Option.{Option, none, some, Option·map}
 use mathlib.Core.List.{List, [], _∷_, _++_}
 use lib.ListN.{take}
@@ -11,7 +11,7 @@ use Rattle.mesh.specs.Tools.{any}
 use Rattle.mesh.specs.Place.{Place, same, kids}
 use Rattle.mesh.specs.State.{State, Entry, Cell, placeAt}
 use Rattle.mesh.specs.Request.{Request, refine, sentence, remove, kill, setValue, kidCell, sentencedCell, measuredCell}
-use Rattle.mesh.specs.Tape.{Kind, kind, Step, stop, next, stepBy, Run, run}
+use Rattle.mesh.specs.Tape.{Kind, kind, stop, next, stepBy, run}
 
 pub data Deed : Type 0 where
   refined sentenced removed killed : Place → Deed

@@ -1,10 +1,10 @@
 -- The equations of a tape's run that a reader expects: at its end, over a body's byte, and at a kind byte that stops it or goes on.
 -- Assumes nothing.
-use Prim.Native.Nat.{ℕ, zero, suc, _+_}
+use Prim.Native.Nat.{ℕ, suc, _+_}
 use mathlib.Core.Path.{_≡_, refl}
 use mathlib.Core.List.{List, [], _∷_}
 use Rattle.mesh.specs.State.{State}
-use Rattle.mesh.specs.Tape.{kind, Step, stop, next, stepBy, Run, runFrom}
+use Rattle.mesh.specs.Tape.{kind, stop, next, stepBy, runFrom}
 
 module _ (s : State) (n o : ℕ) where
   pub run-end : (l : ℕ) → runFrom l s n o [] ≡ record { state = s; done = n; why = 0; offset = o }

@@ -1,6 +1,6 @@
 -- The rule of the table of winds: the opposite of the opposite is the wind itself, and the two offsets cancel (each is one too large).
 -- Assumes nothing.
-use Prim.Native.Nat.{ℕ, _+_, _<_}
+use Prim.Native.Nat.{_+_, _<_}
 use mathlib.Core.Path.{_≡_, refl}
 use lib.Dec.{lit<}
 use lib.ListN.{getD}

@@ -1,15 +1,15 @@
 -- What a build makes (01, 'Build and requests').
 -- Assumes nothing.
 use Prim.Native.Nat.{ℕ, zero, suc, _-_}
-use mathlib.Core.Bool.{Bool, true, false, _&&_, cond}
-use mathlib.Core.Option.{Option, none, some}
+use mathlib.Core.Bool.{Bool, false, _&&_, cond}
+use mathlib.Core.Option.{none, some}
 use mathlib.Core.List.{List, [], _∷_, _++_, map}
 use lib.Dec.{ltb, eqb}
 use lib.ListN.{length, replicate}
 use Rattle.mesh.specs.Tools.{flat, keep}
 use Rattle.mesh.specs.Place.{Place, Grid, NE, SE, SW, NW, base, kid, root}
 use Rattle.mesh.specs.Mesh.{patch}
-use Rattle.mesh.specs.State.{State, Entry, nil, free, used, Cell, blank}
+use Rattle.mesh.specs.State.{State, nil, free, used, Cell, blank}
 
 -- every level-0 cell of the rectangle
 unfoldable pub full : Grid → Place → Bool

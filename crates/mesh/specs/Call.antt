@@ -15,7 +15,7 @@ use Rattle.mesh.specs.Decode.{decode}
 use Rattle.mesh.specs.Test.{sound}
 use Rattle.mesh.specs.Refusal.{Check, _if_, refusal}
 use Rattle.mesh.specs.Build.{numbered, built}
-use Rattle.mesh.specs.Tape.{Run, run}
+use Rattle.mesh.specs.Tape.{run}
 use Rattle.mesh.specs.Scan.{scan, scanChecks}
 use Rattle.mesh.specs.Lookup.{lookup, lookupChecks}
 use Rattle.mesh.specs.Page.{page, pageChecks}

@@ -1,18 +1,16 @@
 -- The reference grids P1 to P11 and the page of 07 01 01 (01, 'Reference grids'): one list of what the calls' rules give and what 01 says.
 -- Assumes nothing.
-use Prim.Native.Nat.{ℕ, zero, suc, _+_, _*_, _%_}
+use Prim.Native.Nat.{ℕ, _+_, _*_, _%_}
 use mathlib.Core.Path.{_≡_}
-use mathlib.Core.Bool.{Bool, true, false}
 use mathlib.Core.List.{List, [], _∷_, _++_, map}
 use lib.Dec.{eqb}
 use lib.ListN.{getD, replicate}
-use lib.IntN.{ℤ, pos, negsuc, natAbs}
-use lib.Ieee.{Float}
+use lib.IntN.{pos, negsuc, natAbs}
 use Rattle.mesh.specs.Tools.{keep}
 use Rattle.mesh.specs.Place.{rectangle}
-use Rattle.mesh.specs.State.{State, Header, inUse, plusZero}
+use Rattle.mesh.specs.State.{inUse, plusZero}
 use Rattle.mesh.specs.Picture.{rowWords}
-use Rattle.mesh.specs.Call.{Lent, stateOf, checkCall, Built, buildCall, Taped, tapeCall, Wrote, scanCall, Found, lookupCall}
+use Rattle.mesh.specs.Call.{Lent, stateOf, checkCall, Built, buildCall, Taped, tapeCall, scanCall, lookupCall}
 use Rattle.mesh.specs.Program.{program}
 
 -- ---- how 01's words read what a call leaves

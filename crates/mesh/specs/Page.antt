@@ -1,16 +1,16 @@
 -- The dossier page, as bytes (01, 'Walks, points, page').
 -- Assumes nothing.
 use Prim.Native.Nat.{ℕ, zero, suc, _+_, _/_, _%_, _^_}
-use mathlib.Core.Bool.{Bool, true, false, cond}
+use mathlib.Core.Bool.{true, false, cond}
 use mathlib.Core.List.{List, [], _∷_, _++_, map}
 use lib.Dec.{ltb}
 use lib.ListN.{length}
 use lib.IntN.{natAbs}
 use lib.Ieee.{toBits, binary64}
 use Rattle.mesh.specs.Tools.{flat}
-use Rattle.mesh.specs.Place.{Place, NE, SE, SW, NW, level, base, root}
+use Rattle.mesh.specs.Place.{NE, SE, SW, NW, level, base, root}
 use Rattle.mesh.specs.Mesh.{leaf}
-use Rattle.mesh.specs.State.{State, Value, status, amount, valueOf, entry, cells, placeAt, gridOf}
+use Rattle.mesh.specs.State.{State, status, amount, valueOf, entry, cells, placeAt, gridOf}
 use Rattle.mesh.specs.Refusal.{Check}
 use Rattle.mesh.specs.Scan.{walk, no18}
 

@@ -2,13 +2,11 @@
 -- Assumes nothing.
 use Prim.Native.Nat.{ℕ}
 use mathlib.Core.Path.{_≡_}
-use mathlib.Core.Bool.{false}
-use mathlib.Core.Option.{Option, none, some}
 use mathlib.Core.List.{List, [], _∷_, _++_, map}
 use lib.Ieee.{Float}
 use lib.IntN.{ℤ, pos}
 use Rattle.mesh.specs.Tools.{flat, digits}
-use Rattle.mesh.specs.Place.{Place, Grid, around, level}
+use Rattle.mesh.specs.Place.{Grid, around, level}
 use Rattle.mesh.specs.Mesh.{flags}
 use Rattle.mesh.specs.State.{State, Header, Entry, nil, free, used, placeOf, isSentenced, valueOf, status, amount, cells, numberOf, gridOf}
 use Rattle.mesh.specs.Valid.{Valid}

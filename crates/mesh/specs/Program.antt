@@ -1,12 +1,11 @@
 -- What the program `dossier` prints for its input (01, 'Walks, points, page').
 -- Assumes nothing.
-use Prim.Native.Nat.{ℕ, zero, suc, _+_}
-use mathlib.Core.Bool.{Bool, not}
+use Prim.Native.Nat.{ℕ, _+_}
+use mathlib.Core.Bool.{not}
 use mathlib.Core.List.{List, [], _∷_}
 use lib.Dec.{ltb, eqb}
 use lib.ListN.{length, getD, drop}
 use Rattle.mesh.specs.Place.{Grid, rectangle}
-use Rattle.mesh.specs.State.{State}
 use Rattle.mesh.specs.Refusal.{Check, _if_, refusal}
 use Rattle.mesh.specs.Build.{numbered, built}
 use Rattle.mesh.specs.Tape.{Run, run}

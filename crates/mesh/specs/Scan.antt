@@ -1,8 +1,8 @@
 -- Scans, over the tree of patches (01, 'Walks, points, page').
 -- Assumes nothing.
 use Prim.Native.Nat.{ℕ, zero, suc}
-use mathlib.Core.Bool.{Bool, true, false, not, _&&_, _||_, cond}
-use mathlib.Core.Option.{Option, none, some}
+use mathlib.Core.Bool.{Bool, not, _&&_, _||_, cond}
+use mathlib.Core.Option.{some}
 use mathlib.Core.List.{List, [], _∷_, _++_, map}
 use lib.Dec.{leb, ltb, eqb}
 use lib.ListN.{length}
@@ -12,7 +12,7 @@ use Rattle.mesh.specs.Tools.{any, keep, flat}
 use Rattle.mesh.specs.Place.{Place, Wind, NE, SE, SW, NW, level, base, kid}
 use Rattle.mesh.specs.Mesh.{leaf, wallH, wallV, isWall}
 use Rattle.mesh.specs.State.{State, Entry, cells, number, placeAt, gridOf}
-use Rattle.mesh.specs.Refusal.{Check, _if_, refusal}
+use Rattle.mesh.specs.Refusal.{Check, _if_}
 use Rattle.mesh.specs.Request.{no6}
 
 -- "1 patches, 2 cells, 3 leaves, 4 H-walls, 5 V-walls, 6 points (levels 0 up)"

@@ -1,17 +1,15 @@
 -- The test that a state is valid, the rules of `Valid` asked of each entry in turn, and the test that a table is sound.
 -- Assumes nothing.
-use Prim.Native.Nat.{ℕ, zero, suc, _+_, _-_}
+use Prim.Native.Nat.{_+_}
 use mathlib.Core.Bool.{Bool, true, false, not, _&&_, _||_, Bool·beq}
-use mathlib.Core.Option.{Option, none, some}
 use mathlib.Core.List.{List, [], _∷_, tail}
 use lib.Dec.{leb, ltb, eqb}
-use lib.ListN.{length, getD}
 use lib.Ieee.{Float, nan, inf, fin}
 use lib.IntN.{ℤ, pos, negsuc}
 use Rattle.mesh.specs.Tools.{any, all, every, orElse, sameList}
 use Rattle.mesh.specs.Place.{Place, Grid, root, base, parent, kids, toNorth, toEast}
 use Rattle.mesh.specs.Mesh.{on, patch, hasKids, leaf}
-use Rattle.mesh.specs.State.{State, Header, Entry, nil, free, used, Cell, Value, blank, measured, carried, amount, isBlank, isNil, placeOf, cellOf, stands, entry, cells, gridOf, capacity}
+use Rattle.mesh.specs.State.{State, Header, Entry, Cell, Value, blank, measured, carried, amount, isBlank, isNil, placeOf, cellOf, stands, entry, cells, gridOf, capacity}
 use Rattle.mesh.specs.Valid.{finite, aboveOf}
 use Rattle.mesh.specs.Picture.{table, amounts}
 use Rattle.mesh.specs.Decode.{decode}

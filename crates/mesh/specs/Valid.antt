@@ -3,13 +3,13 @@
 use Prim.Native.Nat.{ℕ, _≤_, _<_}
 use mathlib.Core.Path.{_≡_}
 use mathlib.Core.Bool.{Bool, true, false, not}
-use mathlib.Core.Option.{Option, none, some}
+use mathlib.Core.Option.{some}
 use lib.Dec.{T}
 use lib.Ieee.{Float, nan, inf, fin}
 use Rattle.mesh.specs.Tools.{any}
-use Rattle.mesh.specs.Place.{Place, Grid, root, base, parent}
+use Rattle.mesh.specs.Place.{Place, root, base, parent}
 use Rattle.mesh.specs.Mesh.{Mesh, patch, leaf}
-use Rattle.mesh.specs.State.{State, Entry, nil, used, Cell, Value, blank, measured, carried, amount, isBlank, isNil, placeOf, valueOf, stands, entry, cells, numberOf, gridOf, capacity}
+use Rattle.mesh.specs.State.{State, nil, used, Cell, Value, blank, measured, carried, amount, isBlank, isNil, placeOf, valueOf, stands, entry, cells, numberOf, gridOf, capacity}
 
 abbrev pub finite : Float → Bool
 finite nan = false
