@@ -98,12 +98,7 @@ fn lookups_agree(case: &mut Case, capacity: u32, lists: &Lists) -> bool {
     let points: Vec<(u32, u32)> = (0..case.number()).map(|_| (case.number() as u32, case.number() as u32)).collect();
     case.number();
     points.into_iter().all(|(speed, load)| {
-        let wanted = Found {
-            refusal: case.number() as u32,
-            number: case.number() as u32,
-            status: case.number() as u32,
-            bits: case.number() as u64,
-        };
+        let wanted = Found { refusal: case.number() as u32, number: case.number() as u32, status: case.number() as u32, bits: case.number() as u64 };
         let by_hand = hand::lookup(&lists.header, &lists.table, &lists.values, capacity, speed, load);
         by_hand == wanted && proved::lookup(&lists.header, &lists.table, &lists.values, capacity, speed, load) == wanted
     })
@@ -129,7 +124,9 @@ macro_rules! program {
         let head = match input {
             _ if input.len() > 60000 => 20,
             [] => 4,
-            [7, columns, rows, ..] => $calls::build(&mut lists.header, &mut lists.table, &mut lists.values, capacity, *columns as u32, *rows as u32).0,
+            [7, columns, rows, ..] => {
+                $calls::build(&mut lists.header, &mut lists.table, &mut lists.values, capacity, *columns as u32, *rows as u32).0
+            }
             [7, ..] => 4,
             _ => 5,
         };

@@ -442,13 +442,26 @@ impl<'a> Desk<'a> {
         0
     }
 
+    /// The lowest free number; four rows are looked at in a turn.
+    fn lowest_free(&self) -> usize {
+        let mut q = self.low;
+        for four in self.t[q * ROW..].chunks_exact(4 * ROW) {
+            for k in 0..4 {
+                if four[k * ROW + FLAGS] == DEAD {
+                    return q + k;
+                }
+            }
+            q += 4;
+        }
+        while self.flags(q) != DEAD {
+            q += 1;
+        }
+        q
+    }
+
     /// A new patch as a kid of `p`, not yet linked to its neighbours.
     fn make(&mut self, p: usize, wind: usize) -> usize {
-        let mut at = self.low * ROW + FLAGS;
-        while self.t[at] != DEAD {
-            at += ROW;
-        }
-        let q = at / ROW;
+        let q = self.lowest_free();
         self.low = q + 1;
         let above = row_mut(self.t, p);
         above[wind] = q as i32;

@@ -3,12 +3,71 @@
 use crate::hand::{Found, Header, Scan};
 
 extern "C" {
-    fn grid_build(h: *mut Header, t: *mut i32, t_len: usize, v: *mut f64, v_len: usize, capacity: u32, columns: u32, rows: u32, in_use: *mut u32) -> u32;
-    fn grid_tape(h: *mut Header, t: *mut i32, t_len: usize, v: *mut f64, v_len: usize, capacity: u32, tape: *const u8, tape_len: usize, done: *mut u32, offset: *mut usize) -> u32;
+    fn grid_build(
+        h: *mut Header,
+        t: *mut i32,
+        t_len: usize,
+        v: *mut f64,
+        v_len: usize,
+        capacity: u32,
+        columns: u32,
+        rows: u32,
+        in_use: *mut u32,
+    ) -> u32;
+    fn grid_tape(
+        h: *mut Header,
+        t: *mut i32,
+        t_len: usize,
+        v: *mut f64,
+        v_len: usize,
+        capacity: u32,
+        tape: *const u8,
+        tape_len: usize,
+        done: *mut u32,
+        offset: *mut usize,
+    ) -> u32;
     fn grid_check(h: *const Header, t: *const i32, t_len: usize, v: *const f64, v_len: usize, capacity: u32) -> u32;
-    fn grid_scan(h: *const Header, t: *const i32, t_len: usize, v: *const f64, v_len: usize, capacity: u32, start: u32, order: *const u8, order_len: usize, kind: u32, from: i32, to: i32, out: *mut u16, out_len: usize, count: *mut u32) -> u32;
-    fn grid_lookup(h: *const Header, t: *const i32, t_len: usize, v: *const f64, v_len: usize, capacity: u32, speed: u32, load: u32, number: *mut u32, status: *mut u32, value: *mut f64) -> u32;
-    fn grid_page(h: *const Header, t: *const i32, t_len: usize, v: *const f64, v_len: usize, capacity: u32, out: *mut u8, out_len: usize, count: *mut usize) -> u32;
+    fn grid_scan(
+        h: *const Header,
+        t: *const i32,
+        t_len: usize,
+        v: *const f64,
+        v_len: usize,
+        capacity: u32,
+        start: u32,
+        order: *const u8,
+        order_len: usize,
+        kind: u32,
+        from: i32,
+        to: i32,
+        out: *mut u16,
+        out_len: usize,
+        count: *mut u32,
+    ) -> u32;
+    fn grid_lookup(
+        h: *const Header,
+        t: *const i32,
+        t_len: usize,
+        v: *const f64,
+        v_len: usize,
+        capacity: u32,
+        speed: u32,
+        load: u32,
+        number: *mut u32,
+        status: *mut u32,
+        value: *mut f64,
+    ) -> u32;
+    fn grid_page(
+        h: *const Header,
+        t: *const i32,
+        t_len: usize,
+        v: *const f64,
+        v_len: usize,
+        capacity: u32,
+        out: *mut u8,
+        out_len: usize,
+        count: *mut usize,
+    ) -> u32;
 }
 
 pub fn check(h: &Header, t: &[i32], v: &[f64], capacity: u32) -> u32 {
@@ -23,7 +82,8 @@ pub fn build(h: &mut Header, t: &mut [i32], v: &mut [f64], capacity: u32, column
 
 pub fn tape(h: &mut Header, t: &mut [i32], v: &mut [f64], capacity: u32, tape: &[u8]) -> (usize, u32, usize) {
     let (mut done, mut offset) = (u32::MAX, usize::MAX);
-    let refusal = unsafe { grid_tape(h, t.as_mut_ptr(), t.len(), v.as_mut_ptr(), v.len(), capacity, tape.as_ptr(), tape.len(), &mut done, &mut offset) };
+    let refusal =
+        unsafe { grid_tape(h, t.as_mut_ptr(), t.len(), v.as_mut_ptr(), v.len(), capacity, tape.as_ptr(), tape.len(), &mut done, &mut offset) };
     (done as usize, refusal, offset)
 }
 
@@ -31,9 +91,21 @@ pub fn scan(h: &Header, t: &[i32], v: &[f64], capacity: u32, what: &Scan, out: &
     let mut count = u32::MAX;
     let refusal = unsafe {
         grid_scan(
-            h, t.as_ptr(), t.len(), v.as_ptr(), v.len(), capacity,
-            what.start, what.order.as_ptr(), what.order.len(), what.kind, what.from, what.to,
-            out.as_mut_ptr(), out.len(), &mut count,
+            h,
+            t.as_ptr(),
+            t.len(),
+            v.as_ptr(),
+            v.len(),
+            capacity,
+            what.start,
+            what.order.as_ptr(),
+            what.order.len(),
+            what.kind,
+            what.from,
+            what.to,
+            out.as_mut_ptr(),
+            out.len(),
+            &mut count,
         )
     };
     (refusal, count as usize)
