@@ -2,3 +2,4 @@
 pub mod Small
 pub mod Lent
 pub mod Edges
+pub mod Links

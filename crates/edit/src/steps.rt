@@ -5,14 +5,15 @@ ghost use lib.ListN.{length, getD};
 ghost use Rattle.mesh.specs.Place.{NE};
 ghost use Rattle.mesh.specs.Winds.{winds};
 ghost use Rattle.mesh.specs.Picture.{rowWords};
-ghost use Rattle.editing.specs.Steps.{putUnlessNil, linkSide, placeIn, linkIn, dropSide, takeOut};
+ghost use Rattle.editing.specs.Steps.{putUnlessNil, placeIn, linkIn, dropSide, takeOut};
 ghost use Rattle.editing.specs.Tables.{Lowers};
+ghost use Rattle.edit.specs.Links.{linkBy};
 ghost use Rattle.edit.specs.Small.{Small};
 use table::words::depth;
 use table::words::link;
 use table::words::word;
 use table::worked::kid_word;
-use table::worked::side;
+use table::worked::side_by;
 use table::writes::clear_row;
 use table::writes::put;
 use table::writes::put_level;
@@ -28,12 +29,12 @@ pub fn put_unless_nil(t: &mut [i32], n: usize, w: usize, x: u32)
     put(t, n, w, x);
 }
 
-// The row k and its neighbour in the wind at place w of the table of winds name each other.
-fn link_side(t: &mut [i32], cap: usize, k: usize, w: usize)
-    requires { ⌜ (cap * rowWords + rowWords ≤ length (now t)) × (cap ≤ 4095) × (k ≤ cap) × (w < 8) ⌝ }
-    ensures { λ _. ⌜ now (t .exit) ≡ linkSide (now (t .entry)) cap k (getD winds w NE) ⌝ }
+// The row k, a kid of the row p whose digits are l and m, and its neighbour in the wind at place w of the table of winds name each other.
+fn link_side(t: &mut [i32], cap: usize, p: usize, l: u32, m: u32, k: usize, w: usize)
+    requires { ⌜ (cap * rowWords + rowWords ≤ length (now t)) × (cap ≤ 4095) × (p ≤ cap) × (l < 2) × (m < 2) × (k ≤ cap) × (w < 8) ⌝ }
+    ensures { λ _. ⌜ now (t .exit) ≡ linkBy (now (t .entry)) cap p l m k (getD winds w NE) ⌝ }
 {
-    let x = side(t, cap, k, w);
+    let x = side_by(t, cap, p, l, m, w);
     let c = mesh::wind(w);
     let o = c.opposite;
     put(t, k, w + 1, x as u32);
@@ -62,10 +63,10 @@ pub fn link_in(t: &mut [i32], cap: usize, d: u32, p: usize, l: u32, m: u32, k: u
     ensures { λ _. ⌜ now (t .exit) ≡ linkIn (now (t .entry)) cap d p l m k ⌝ }
 {
     place_in(t, d, p, l, m, k);
-    link_side(t, cap, k, 4);
-    link_side(t, cap, k, 5);
-    link_side(t, cap, k, 6);
-    link_side(t, cap, k, 7);
+    link_side(t, cap, p, l, m, k, 4);
+    link_side(t, cap, p, l, m, k, 5);
+    link_side(t, cap, p, l, m, k, 6);
+    link_side(t, cap, p, l, m, k, 7);
 }
 
 // The neighbour in the wind at place w, if there is one, does not name the row k any more.

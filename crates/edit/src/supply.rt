@@ -8,7 +8,7 @@ ghost use Rattle.edit.specs.Small.{AllSmall};
 ghost use Rattle.edit.specs.Lent.{lending, cornerSpots};
 use crate::spots::kid;
 use crate::steps::link_in;
-use table::words::word;
+use table::words::is_vacant;
 
 // The smallest free number from low on, or 0 if there is none.
 pub fn next_free(t: &[i32], cap: usize, low: usize) -> usize
@@ -17,7 +17,7 @@ pub fn next_free(t: &[i32], cap: usize, low: usize) -> usize
 {
     let mut k = low;
     while k <= cap {
-        if word(t, k, 12) == 8192 {
+        if is_vacant(t, k) {
             return k;
         }
         k += 1;

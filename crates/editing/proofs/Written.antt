@@ -8,8 +8,8 @@ use mathlib.Core.Bool.{Bool, true, false, cond}
 use mathlib.Core.List.{List, [], _∷_}
 use lib.Dec.{eqb}
 use lib.IntN.{ℤ, pos}
-use lib.ListN.{getD, set}
-use lib.Seq.{getD-set-other}
+use lib.ListN.{length, getD, set}
+use lib.Seq.{getD-set-same, getD-set-other}
 use Rattle.mesh.specs.Place.{Wind}
 use Rattle.mesh.specs.Winds.{wordOfWind}
 use Rattle.mesh.specs.Picture.{rowWords}
@@ -36,6 +36,10 @@ module _ (t : List ℤ) (k w : ℕ) (z : ℤ) (n i : ℕ) where
   pub word-either : (P : ℕ → Type 0) → P (code z) → P (wordOf t n i) → P (wordOf (set t (k * rowWords + w) z) n i)
   unfolding wordOf
   word-either P a b = set-either (λ y. P (code y)) t (k * rowWords + w) (n * rowWords + i) z (pos 0) a b
+
+pub word-here : (t : List ℤ) (k w x : ℕ) → k * rowWords + w < length t → wordOf (putWord t k w x) k w ≡ x
+unfolding wordOf
+word-here t k w x h = ap code (getD-set-same t (k * rowWords + w) (pos x) (pos 0) h)
 
 -- ---- links
 

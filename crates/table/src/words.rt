@@ -85,7 +85,7 @@ pub fn is_vacant(t: &[i32], n: usize) -> bool
     requires { ⌜ n * rowWords + rowWords ≤ length (now t) ⌝ }
     ensures { λ r. ⌜ r ≡ vacant (now (t .entry)) n ⌝ }
 {
-    word(t, n, 12) == 8192
+    says(t, n, 12, 8192)
 }
 
 // Whether the number n is that of a patch.

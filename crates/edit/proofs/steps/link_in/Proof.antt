@@ -1,5 +1,6 @@
 -- `edit::steps::link_in` meets its contract.
 -- Assumes nothing.
+use native.Mathlib.Omega.{arith}
 use borrow.Author.Needs.{needs}
 use Rattle.edit.proofs.Linking.{linked-in}
 use Rattle.edit.proofs.steps.link_in.Statement.{statement}
@@ -30,7 +31,8 @@ returns c =
     let b₃ = b₂ .before .before .before in
     let b₄ = b₃ .before .before .before in
     let b₅ = b₄ .before .before .before in
-    linked-in _ _ _ _ _ _ _ (b₅ .place-in .ensures) (b₄ .link-side .ensures) (b₃ .link-side2 .ensures) (b₂ .link-side3 .ensures) (b₁ .link-side4 .ensures)
+    let b₆ = b₅ .before .before in
+    linked-in _ _ _ _ _ _ _ (omega arith) (b₆ .pre .5) (b₆ .pre .6) (b₆ .pre .2) (b₅ .place-in .ensures) (b₄ .link-side .ensures) (b₃ .link-side2 .ensures) (b₂ .link-side3 .ensures) (b₁ .link-side4 .ensures)
 
 pub link-in-spec : {M : Type 1} → statement M
 link-in-spec =

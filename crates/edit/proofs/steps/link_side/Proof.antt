@@ -7,8 +7,8 @@ use Rattle.edit.proofs.Opposite.{opposite-below}
 use Rattle.edit.proofs.steps.link_side.Statement.{statement}
 use Rattle.edit.proofs.steps.link_side.Tie as tie
 
-side-requires : tie.Need-side-requires
-side-requires c κs = search needs
+side-by-requires : tie.Need-side-by-requires
+side-by-requires c κs = search needs
 
 wind-requires : tie.Need-wind-requires
 wind-requires c κs = search needs
@@ -23,13 +23,13 @@ put-requires : tie.Need-put-requires
 put-requires c κs = search needs
 
 add-put-unless-nil : tie.Need-add-put-unless-nil
-add-put-unless-nil c = omega (arith, opposite-below _ _ (c .before .before .before .before .before .before .before .pre .3) (c .before .before .before .before .wind .ensures))
+add-put-unless-nil c = omega (arith, opposite-below _ _ (c .before .before .before .before .before .before .before .pre .6) (c .before .before .before .before .wind .ensures))
 
 cast-put-unless-nil : tie.Need-cast-put-unless-nil
 cast-put-unless-nil c = search needs
 
 put-unless-nil-requires : tie.Need-put-unless-nil-requires
-put-unless-nil-requires c κs = omega (arith, opposite-below _ _ (c .before .before .before .before .before .before .before .pre .3) (c .before .before .before .before .wind .ensures))
+put-unless-nil-requires c κs = omega (arith, opposite-below _ _ (c .before .before .before .before .before .before .before .pre .6) (c .before .before .before .before .wind .ensures))
 
 same-length : tie.Need-same-length
 same-length c = search needs
@@ -41,13 +41,13 @@ returns c =
     let b₃ = b₂ .before .before in
     let b₄ = b₃ .before in
     let b₅ = b₄ .before .before in
-    side-linked _ _ _ _ (b₅ .pre .3) (b₄ .side .ensures .1) (b₃ .wind .ensures) (b₂ .put .ensures) (b₁ .put-unless-nil .ensures)
+    side-linked _ _ _ _ _ _ _ (b₅ .pre .6) (b₄ .side-by .ensures .1) (b₃ .wind .ensures) (b₂ .put .ensures) (b₁ .put-unless-nil .ensures)
 
 pub link-side-spec : {M : Type 1} → statement M
 link-side-spec =
     tie.close
     (tie.spec
-    side-requires
+    side-by-requires
     wind-requires
     add-put
     cast-put

@@ -18,11 +18,11 @@ abbrev μ-loop : tie.MeasureT-loop
 loop-holds : tie.Need-loop-holds Inv-loop μ-loop
 loop-holds c = (search needs, refl)
 
-word-requires : tie.Need-word-requires Inv-loop μ-loop
-word-requires c κs = omega arith
+is-vacant-requires : tie.Need-is-vacant-requires Inv-loop μ-loop
+is-vacant-requires c κs = omega arith
 
 returns : tie.Need-returns Inv-loop μ-loop
-returns c = (omega arith, sym (c .before .before .before .loop .inv .1 ∙ free-here _ _ (c .before .before .before .loop .k) (omega arith) (c .before .word .ensures) (c .if1 .taken)))
+returns c = (omega arith, sym (c .before .before .before .loop .inv .1 ∙ free-here _ _ (c .before .before .before .loop .k) (omega arith) (c .before .is-vacant .ensures) (c .if1 .taken)))
 
 add-k : tie.Need-add-k Inv-loop μ-loop
 add-k c = omega arith
@@ -31,7 +31,7 @@ loop-less : tie.Need-loop-less Inv-loop μ-loop
 loop-less c = omega arith
 
 loop-again : tie.Need-loop-again Inv-loop μ-loop
-loop-again c = (omega arith, c .before .before .before .loop .inv .1 ∙ free-on _ _ (c .before .before .before .loop .k) (omega arith) (c .before .word .ensures) (c .if1 .left))
+loop-again c = (omega arith, c .before .before .before .loop .inv .1 ∙ free-on _ _ (c .before .before .before .loop .k) (omega arith) (c .before .is-vacant .ensures) (c .if1 .left))
 
 returns-2 : tie.Need-returns-2 Inv-loop μ-loop
 returns-2 c = (omega arith, sym (c .before .loop .inv .1 ∙ free-none _ _ (c .before .loop .k) (omega arith)))
@@ -43,7 +43,7 @@ next-free-spec =
     Inv-loop
     μ-loop
     loop-holds
-    word-requires
+    is-vacant-requires
     returns
     add-k
     loop-less

@@ -5,12 +5,12 @@ use Rattle.table.specs.Words.{vacant}
 use Rattle.table.proofs.words.is_vacant.Statement.{statement}
 use Rattle.table.proofs.words.is_vacant.Tie as tie
 
-word-requires : tie.Need-word-requires
-word-requires c κs = search needs
+says-requires : tie.Need-says-requires
+says-requires c κs = search needs
 
 returns : tie.Need-returns
 unfolding vacant
 returns c = cc
 
 pub is-vacant-spec : {M : Type 1} → statement M
-is-vacant-spec = tie.close (tie.spec word-requires returns)
+is-vacant-spec = tie.close (tie.spec says-requires returns)
