@@ -1,17 +1,20 @@
 -- The flags of a row anew, four at a time, and the row with them.
 -- Assumes nothing.
 use mathlib.Core.Path.{_≡_}
-use mathlib.Core.Bool.{Bool, false, cond, _&&_, _||_}
+use mathlib.Core.Logic.{_≢_}
+use mathlib.Core.Bool.{Bool, false, not, cond, _&&_, _||_, Bool·beq}
 use mathlib.Core.List.{List}
-use Prim.Native.Nat.{ℕ, _+_, _*_}
+use Prim.Native.Nat.{ℕ, _+_, _*_, _%_}
 use native.Mathlib.Omega.{arith}
+use borrow.Author.Tests.{eq-eqb, ne-eqb}
+use lib.Dec.{eqb}
 use lib.IntN.{ℤ}
 use Rattle.mesh.specs.Tools.{digits}
 use Rattle.table.specs.Digits.{four}
-use Rattle.table.specs.Words.{linkOf, flagOf}
+use Rattle.table.specs.Words.{wordOf, linkOf, flagOf, depthOf}
 use Rattle.table.specs.Worked.{edgeH, edgeV, innerH, innerV}
 use Rattle.editing.specs.Steps.{putWord}
-use Rattle.editing.specs.Anew.{flagsAnew, refreshed}
+use Rattle.editing.specs.Anew.{flagsAnew, refreshed, wallsAnew, marksAnew, wallRow, markRow}
 
 module _ (t : List ℤ) (cap d n : ℕ) where
   anew-by-four : (sentenced : Bool) →
@@ -56,6 +59,74 @@ module _ (t : List ℤ) (cap d n : ℕ) where
       p + 16 * q + 256 * r + u ≡ digits (flagsAnew t cap d n sentenced)
   anew-sum sentenced a1 a2 a3 a4 a5 a6 a7 a8 a9 a10 a11 a12 a13 a14 a15 a16 a17 a18 a19 = cc (anew-by-four sentenced)
 
+  -- ---- walls first
+
+  walls-by-four : (sentenced : Bool) →
+      let c = flagOf t 0 n in
+      four c (c || flagOf t 0 (linkOf t cap n 7)) (c || flagOf t 0 (linkOf t cap n 8)) false
+      + 16 * four (edgeH t cap d n) (edgeV t cap d n) false false
+      + 256 * four (innerH t cap d n) (innerV t cap d n) false false
+      + 4096 * cond sentenced 1 0
+      ≡ digits (wallsAnew t cap d n sentenced)
+  unfolding four wallsAnew
+  walls-by-four sentenced = omega arith
+
+  pub walls-sum : (sentenced : Bool) {south west : ℕ} {c a b h v : Bool} {p q r u : ℕ} →
+      c ≡ flagOf t 0 n →
+      south ≡ linkOf t cap n 7 →
+      a ≡ flagOf t 0 south →
+      west ≡ linkOf t cap n 8 →
+      b ≡ flagOf t 0 west →
+      h ≡ (not (Bool·beq c a) && (eqb (depthOf t d n) d || (eqb (wordOf t n 11 % 2) 0 && flagOf t 4 (linkOf t cap n 0)))) →
+      v ≡ (not (Bool·beq c b) && (eqb (depthOf t d n) d || (eqb (wordOf t n 10 % 2) 0 && flagOf t 5 (linkOf t cap n 0)))) →
+      p ≡ four c (c || a) (c || b) false →
+      q ≡ four h v false false →
+      r ≡ four (not (Bool·beq c a) && not h) (not (Bool·beq c b) && not v) false false →
+      u ≡ 4096 * cond sentenced 1 0 →
+      p + 16 * q + 256 * r + u ≡ digits (wallsAnew t cap d n sentenced)
+  unfolding edgeH edgeV innerH innerV
+  walls-sum sentenced a1 a2 a3 a4 a5 a6 a7 a8 a9 a10 a11 = cc (walls-by-four sentenced)
+
+  marks-by-four :
+      let c = flagOf t 0 n in
+      let h = flagOf t 4 n in
+      let v = flagOf t 5 n in
+      let i = flagOf t 8 n in
+      let j = flagOf t 9 n in
+      let north = linkOf t cap n 5 in
+      let east = linkOf t cap n 6 in
+      let south = linkOf t cap n 7 in
+      let west = linkOf t cap n 8 in
+      four c (flagOf t 1 n) (flagOf t 2 n) (h || (flagOf t 4 west || (v || flagOf t 5 south)))
+      + 16 * four h v (c && (h || (flagOf t 4 north || (v || flagOf t 5 east)))) (i || (flagOf t 8 west || (j || flagOf t 9 south)))
+      + 256 * four i j (c && (i || (flagOf t 8 north || (j || flagOf t 9 east)))) false
+      + 4096 * cond (flagOf t 12 n) 1 0
+      ≡ digits (marksAnew t cap n)
+  unfolding four marksAnew
+  marks-by-four = omega arith
+
+  pub marks-sum : {c h v i j edges inners edged fenced a b e : Bool} {p q r u : ℕ} →
+      c ≡ flagOf t 0 n →
+      h ≡ flagOf t 4 n →
+      v ≡ flagOf t 5 n →
+      i ≡ flagOf t 8 n →
+      j ≡ flagOf t 9 n →
+      edges ≡ (h || (flagOf t 4 (linkOf t cap n 8) || (v || flagOf t 5 (linkOf t cap n 7)))) →
+      inners ≡ (i || (flagOf t 8 (linkOf t cap n 8) || (j || flagOf t 9 (linkOf t cap n 7)))) →
+      edged ≡ (h || (flagOf t 4 (linkOf t cap n 5) || (v || flagOf t 5 (linkOf t cap n 6)))) →
+      fenced ≡ (i || (flagOf t 8 (linkOf t cap n 5) || (j || flagOf t 9 (linkOf t cap n 6)))) →
+      a ≡ flagOf t 1 n →
+      b ≡ flagOf t 2 n →
+      p ≡ four c a b edges →
+      q ≡ four h v (c && edged) inners →
+      r ≡ four i j (c && fenced) false →
+      e ≡ flagOf t 12 n →
+      u ≡ 4096 * cond e 1 0 →
+      p + 16 * q + 256 * r + u ≡ digits (marksAnew t cap n)
+  marks-sum a1 a2 a3 a4 a5 a6 a7 a8 a9 a10 a11 a12 a13 a14 a15 a16 = cc marks-by-four
+
+  -- ---- the row
+
   pub row-refreshed : {u : List ℤ} {sentenced : Bool} {x : ℕ} →
       sentenced ≡ flagOf t 12 n →
       x ≡ digits (flagsAnew t cap d n sentenced) →
@@ -63,3 +134,24 @@ module _ (t : List ℤ) (cap d n : ℕ) where
       u ≡ refreshed t cap d n
   unfolding refreshed
   row-refreshed a b e = rw (e, b, a)
+
+  pub row-walled : {u : List ℤ} {sentenced : Bool} {x : ℕ} →
+      n ≢ 0 →
+      sentenced ≡ flagOf t 12 n →
+      x ≡ digits (wallsAnew t cap d n sentenced) →
+      u ≡ putWord t n 12 x →
+      u ≡ wallRow cap d t n
+  unfolding wallRow
+  row-walled z a b e = rw (ne-eqb n 0 z, e, b, a)
+
+  pub row-marked : {u : List ℤ} {x : ℕ} → n ≢ 0 → x ≡ digits (marksAnew t cap n) → u ≡ putWord t n 12 x → u ≡ markRow cap t n
+  unfolding markRow
+  row-marked z b e = rw (ne-eqb n 0 z, e, b)
+
+  pub nil-walled : n ≡ 0 → t ≡ wallRow cap d t n
+  unfolding wallRow
+  nil-walled z = rw (eq-eqb n 0 z)
+
+  pub nil-marked : n ≡ 0 → t ≡ markRow cap t n
+  unfolding markRow
+  nil-marked z = rw (eq-eqb n 0 z)

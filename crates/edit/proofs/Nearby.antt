@@ -8,16 +8,17 @@ use lib.IntN.{ℤ}
 use lib.Ieee.{Float}
 use Rattle.table.specs.Words.{linkOf}
 use Rattle.editing.specs.Steps.{putUnlessNil}
-use Rattle.editing.specs.Tables.{Spot, Lending, kidAt, kidSpots, wantedSpots, outsideSpots, refreshUnlessNil, refreshAt, putCells, putValues, supplied, suppliedAll, dropUntouched, dropAt}
+use Rattle.editing.specs.Anew.{wallRow, markRow}
+use Rattle.editing.specs.Tables.{Spot, Lending, kidAt, kidSpots, wantedSpots, outsideSpots, eachAt, refreshNear, putCells, putValues, supplied, suppliedAll, dropUntouched, dropAt}
 use Rattle.edit.specs.Lent.{cornerSpots, sideSpots}
 
 -- ---- one place more
 
-module _ (cap d : ℕ) (x : Spot) (xs : List Spot) where
-  pub refresh-more : (t : List ℤ) {u r : List ℤ} → u ≡ refreshUnlessNil t cap d (kidAt t cap x) → r ≡ refreshAt xs u cap d → r ≡ refreshAt (x ∷ xs) t cap d
-  unfolding refreshAt
-  refresh-more t e h = h ∙ ap (λ z. refreshAt xs z cap d) e
+pub each-more : (cap : ℕ) (x : Spot) (xs : List Spot) (f : List ℤ → ℕ → List ℤ) (t : List ℤ) {u r : List ℤ} → u ≡ f t (kidAt t cap x) → r ≡ eachAt f cap xs u → r ≡ eachAt f cap (x ∷ xs) t
+unfolding eachAt
+each-more cap x xs f t e h = h ∙ ap (eachAt f cap xs) e
 
+module _ (cap d : ℕ) (x : Spot) (xs : List Spot) where
   pub drop-more : (t : List ℤ) {u r : List ℤ} → u ≡ dropUntouched t cap d (kidAt t cap x) → r ≡ dropAt xs u cap d → r ≡ dropAt (x ∷ xs) t cap d
   unfolding dropAt
   drop-more t e h = h ∙ ap (λ z. dropAt xs z cap d) e
@@ -39,9 +40,9 @@ pub values-more : (t : List ℤ) (cap : ℕ) (y : Float) (x : Spot) (xs : List S
 unfolding putValues
 values-more t cap y x xs v a e h = h ∙ ap (putValues xs t cap y) (e ∙ ap (λ k. set v k y) a)
 
-pub refresh-none : (t : List ℤ) (cap d : ℕ) → t ≡ refreshAt [] t cap d
-unfolding refreshAt
-refresh-none t cap d = refl
+pub each-none : (f : List ℤ → ℕ → List ℤ) (cap : ℕ) (t : List ℤ) → t ≡ eachAt f cap [] t
+unfolding eachAt
+each-none f cap t = refl
 
 pub drop-none : (t : List ℤ) (cap d : ℕ) → t ≡ dropAt [] t cap d
 unfolding dropAt
@@ -61,12 +62,16 @@ values-none t cap y v = refl
 
 -- ---- two lists
 
-module _ (cap d : ℕ) where
-  pub refresh-append : (xs ys : List Spot) (t : List ℤ) → refreshAt (xs ++ ys) t cap d ≡ refreshAt ys (refreshAt xs t cap d) cap d
-  unfolding refreshAt
-  refresh-append [] ys t = refl
-  refresh-append (x ∷ xs) ys t = refresh-append xs ys (refreshUnlessNil t cap d (kidAt t cap x))
+module _ (cap : ℕ) (f : List ℤ → ℕ → List ℤ) where
+  pub each-append : (xs ys : List Spot) (t : List ℤ) → eachAt f cap (xs ++ ys) t ≡ eachAt f cap ys (eachAt f cap xs t)
+  unfolding eachAt
+  each-append [] ys t = refl
+  each-append (x ∷ xs) ys t = each-append xs ys (f t (kidAt t cap x))
 
+  pub each-both : (xs ys : List Spot) (t : List ℤ) {u r : List ℤ} → u ≡ eachAt f cap xs t → r ≡ eachAt f cap ys u → r ≡ eachAt f cap (xs ++ ys) t
+  each-both xs ys t e h = h ∙ ap (eachAt f cap ys) e ∙ sym (each-append xs ys t)
+
+module _ (cap d : ℕ) where
   pub drop-append : (xs ys : List Spot) (t : List ℤ) → dropAt (xs ++ ys) t cap d ≡ dropAt ys (dropAt xs t cap d) cap d
   unfolding dropAt
   drop-append [] ys t = refl
@@ -94,10 +99,10 @@ module _ (t : List ℤ) (cap n : ℕ) where
       both ≡ linkOf t cap east 5 →
       south ≡ linkOf t cap n 7 →
       west ≡ linkOf t cap n 8 →
-      a ≡ refreshAt (kidSpots t cap n) t cap d →
-      b ≡ refreshAt (cornerSpots north east both) a cap d →
-      r ≡ refreshAt (sideSpots south west) b cap d →
-      r ≡ refreshAt (wantedSpots t cap n ++ outsideSpots t cap n) t cap d
-  near-refreshed d {north = north} {east} {both} {south} {west} h1 h2 h3 h4 h5 e f g =
-      rw (g, f, e, wanted-is h1 h2 h3, outside-is h4 h5, refresh-append cap d (kidSpots t cap n ++ cornerSpots north east both) (sideSpots south west) t)
-      (ap (λ u. refreshAt (sideSpots south west) u cap d) (sym (refresh-append cap d (kidSpots t cap n) (cornerSpots north east both) t)))
+      a ≡ eachAt (wallRow cap d) cap (kidSpots t cap n ++ cornerSpots north east both) t →
+      b ≡ eachAt (markRow cap) cap (kidSpots t cap n ++ cornerSpots north east both) a →
+      r ≡ eachAt (markRow cap) cap (sideSpots south west) b →
+      r ≡ refreshNear t cap d n
+  unfolding refreshNear
+  near-refreshed d {a} {north = north} {east} {both} {south} {west} h1 h2 h3 h4 h5 e f g =
+      rw (g, f, wanted-is h1 h2 h3, outside-is h4 h5, ← e) (sym (each-append cap (markRow cap) (kidSpots t cap n ++ cornerSpots north east both) (sideSpots south west) a))

@@ -2,7 +2,7 @@
 -- Assumes nothing.
 use mathlib.Core.Path.{_≡_, sym, ap, _∙_}
 use mathlib.Core.Logic.{_≢_}
-use mathlib.Core.List.{List, _++_}
+use mathlib.Core.List.{List}
 use Prim.Native.Nat.{ℕ}
 use native.Mathlib.Omega.{arith}
 use borrow.Author.Tests.{eq-eqb, ne-eqb}
@@ -11,7 +11,7 @@ use lib.ListN.{getD}
 use lib.Ieee.{Float}
 use Rattle.mesh.specs.State.{plusZero}
 use Rattle.table.specs.Words.{wordOf, linkOf}
-use Rattle.editing.specs.Tables.{Lowers, kidSpots, wantedSpots, outsideSpots, suppliedAll, putCells, putValues, refreshAt, dropAt, kidStatus, refineTable, refineValues, removeTable}
+use Rattle.editing.specs.Tables.{Lowers, kidSpots, wantedSpots, suppliedAll, putCells, putValues, refreshNear, dropAt, kidStatus, refineTable, refineValues, removeTable}
 use Rattle.editing.proofs.Lowering.{lowers-nothing, lowers-then, lowers-none, frees-cells, frees-near}
 use Rattle.edit.specs.Lent.{lending, cornerSpots}
 use Rattle.edit.proofs.Nearby.{wanted-is, supply-append, drop-append}
@@ -26,7 +26,7 @@ module _ (t : List ℤ) (cap d n low : ℕ) where
       lending t₁ a ≡ suppliedAll cap d (kidSpots t cap n) (lending t low) →
       lending t₂ b ≡ suppliedAll cap d (cornerSpots north east both) (lending t₁ a) →
       t₃ ≡ putCells (kidSpots t₂ cap n) t₂ cap 1 st →
-      t₄ ≡ refreshAt (wantedSpots t₃ cap n ++ outsideSpots t₃ cap n) t₃ cap d →
+      t₄ ≡ refreshNear t₃ cap d n →
       lending t₄ b ≡ refineTable cap d n (lending t low)
   unfolding refineTable
   refined {north} {east} {both} {b = b} {t₂ = t₂} h1 h2 h3 h4 h5 h6 h7 h8 h9 =
@@ -50,7 +50,7 @@ module _ (t : List ℤ) (cap d n : ℕ) where
       both ≡ linkOf t₁ cap east 5 →
       t₂ ≡ dropAt (kidSpots t₁ cap n) t₁ cap d →
       t₃ ≡ dropAt (cornerSpots north east both) t₂ cap d →
-      t₄ ≡ refreshAt (wantedSpots t₃ cap n ++ outsideSpots t₃ cap n) t₃ cap d →
+      t₄ ≡ refreshNear t₃ cap d n →
       t₄ ≡ removeTable t cap d n
   unfolding removeTable
   removed {north} {east} {both} {t₁} {t₂} {t₃} h1 h2 h3 h4 h5 h6 h7 =
@@ -62,7 +62,7 @@ module _ (t : List ℤ) (cap d n : ℕ) where
       t₁ ≡ putCells (kidSpots t cap n) t cap 0 0 →
       Lowers t₁ t₂ low a →
       Lowers t₂ t₃ a b →
-      t₄ ≡ refreshAt (wantedSpots t₃ cap n ++ outsideSpots t₃ cap n) t₃ cap d →
+      t₄ ≡ refreshNear t₃ cap d n →
       Lowers t t₄ low b
   removed-lowers {low} {t₃ = t₃} h1 f g h2 =
-      rw h2 (lowers-none (lowers-then (lowers-none (lowers-nothing t low) (rw h1 (frees-cells (kidSpots t cap n) t cap 0 0 (λ e. omega arith)))) (lowers-then f g)) (frees-near cap d _ t₃))
+      rw h2 (lowers-none (lowers-then (lowers-none (lowers-nothing t low) (rw h1 (frees-cells (kidSpots t cap n) t cap 0 0 (λ e. omega arith)))) (lowers-then f g)) (frees-near cap d n t₃))

@@ -4,9 +4,11 @@ ghost use mathlib.Core.List.{[], _∷_, _++_};
 ghost use Prim.Native.Nat.{_+_, _*_, _<_, _≤_};
 ghost use lib.ListN.{length};
 ghost use Rattle.mesh.specs.Picture.{rowWords};
-ghost use Rattle.editing.specs.Tables.{spot, kidAt, kidSpots, wantedSpots, outsideSpots, refreshUnlessNil, refreshAt, putCells, putValues};
+ghost use Rattle.editing.specs.Anew.{wallRow, markRow};
+ghost use Rattle.editing.specs.Tables.{spot, kidAt, kidSpots, eachAt, refreshNear, putCells, putValues};
 ghost use Rattle.edit.specs.Lent.{cornerSpots, sideSpots};
-use crate::anew::refresh_unless_nil;
+use crate::anew::mark_row;
+use crate::anew::wall_row;
 use crate::steps::put_unless_nil;
 use table::words::link;
 use table::worked::kid_word;
@@ -20,59 +22,107 @@ pub fn kid(t: &[i32], cap: usize, p: usize, l: u32, m: u32) -> usize
     link(t, cap, p, kid_word(l, m))
 }
 
-// Flags anew.
-fn refresh_kid(t: &mut [i32], cap: usize, d: u32, p: usize, l: u32, m: u32)
+// Walls anew.
+fn wall_kid(t: &mut [i32], cap: usize, d: u32, p: usize, l: u32, m: u32)
     requires { ⌜ (cap * rowWords + rowWords ≤ length (now t)) × (cap ≤ 4095) × (p ≤ cap) × (m < 2) × (d ≤ 32) ⌝ }
-    ensures { λ _. ⌜ now (t .exit) ≡ refreshUnlessNil (now (t .entry)) cap d (kidAt (now (t .entry)) cap (spot p l m)) ⌝ }
+    ensures { λ _. ⌜ now (t .exit) ≡ wallRow cap d (now (t .entry)) (kidAt (now (t .entry)) cap (spot p l m)) ⌝ }
 {
     let k = kid(t, cap, p, l, m);
-    refresh_unless_nil(t, cap, d, k);
+    wall_row(t, cap, d, k);
 }
 
-fn refresh_kids(t: &mut [i32], cap: usize, d: u32, n: usize)
+fn wall_kids(t: &mut [i32], cap: usize, d: u32, n: usize)
     requires { ⌜ (cap * rowWords + rowWords ≤ length (now t)) × (cap ≤ 4095) × (n ≤ cap) × (d ≤ 32) ⌝ }
-    ensures { λ _. ⌜ now (t .exit) ≡ refreshAt (kidSpots (now (t .entry)) cap n) (now (t .entry)) cap d ⌝ }
+    ensures { λ _. ⌜ now (t .exit) ≡ eachAt (wallRow cap d) cap (kidSpots (now (t .entry)) cap n) (now (t .entry)) ⌝ }
 {
-    refresh_kid(t, cap, d, n, 0, 0);
-    refresh_kid(t, cap, d, n, 1, 0);
-    refresh_kid(t, cap, d, n, 0, 1);
-    refresh_kid(t, cap, d, n, 1, 1);
+    wall_kid(t, cap, d, n, 0, 0);
+    wall_kid(t, cap, d, n, 1, 0);
+    wall_kid(t, cap, d, n, 0, 1);
+    wall_kid(t, cap, d, n, 1, 1);
 }
 
-fn refresh_corners(t: &mut [i32], cap: usize, d: u32, north: usize, east: usize, both: usize)
+fn wall_corners(t: &mut [i32], cap: usize, d: u32, north: usize, east: usize, both: usize)
     requires { ⌜ (cap * rowWords + rowWords ≤ length (now t)) × (cap ≤ 4095) × (north ≤ cap) × (east ≤ cap) × (both ≤ cap) × (d ≤ 32) ⌝ }
-    ensures { λ _. ⌜ now (t .exit) ≡ refreshAt (cornerSpots north east both) (now (t .entry)) cap d ⌝ }
+    ensures { λ _. ⌜ now (t .exit) ≡ eachAt (wallRow cap d) cap (cornerSpots north east both) (now (t .entry)) ⌝ }
 {
-    refresh_kid(t, cap, d, north, 0, 0);
-    refresh_kid(t, cap, d, north, 1, 0);
-    refresh_kid(t, cap, d, east, 0, 1);
-    refresh_kid(t, cap, d, east, 0, 0);
-    refresh_kid(t, cap, d, both, 0, 0);
+    wall_kid(t, cap, d, north, 0, 0);
+    wall_kid(t, cap, d, north, 1, 0);
+    wall_kid(t, cap, d, east, 0, 1);
+    wall_kid(t, cap, d, east, 0, 0);
+    wall_kid(t, cap, d, both, 0, 0);
 }
 
-fn refresh_sides(t: &mut [i32], cap: usize, d: u32, south: usize, west: usize)
-    requires { ⌜ (cap * rowWords + rowWords ≤ length (now t)) × (cap ≤ 4095) × (south ≤ cap) × (west ≤ cap) × (d ≤ 32) ⌝ }
-    ensures { λ _. ⌜ now (t .exit) ≡ refreshAt (sideSpots south west) (now (t .entry)) cap d ⌝ }
+// Points and cells anew.
+fn mark_kid(t: &mut [i32], cap: usize, p: usize, l: u32, m: u32)
+    requires { ⌜ (cap * rowWords + rowWords ≤ length (now t)) × (cap ≤ 4095) × (p ≤ cap) × (m < 2) ⌝ }
+    ensures { λ _. ⌜ now (t .exit) ≡ markRow cap (now (t .entry)) (kidAt (now (t .entry)) cap (spot p l m)) ⌝ }
 {
-    refresh_kid(t, cap, d, south, 0, 1);
-    refresh_kid(t, cap, d, south, 1, 1);
-    refresh_kid(t, cap, d, west, 1, 0);
-    refresh_kid(t, cap, d, west, 1, 1);
+    let k = kid(t, cap, p, l, m);
+    mark_row(t, cap, k);
+}
+
+fn mark_kids(t: &mut [i32], cap: usize, n: usize)
+    requires { ⌜ (cap * rowWords + rowWords ≤ length (now t)) × (cap ≤ 4095) × (n ≤ cap) ⌝ }
+    ensures { λ _. ⌜ now (t .exit) ≡ eachAt (markRow cap) cap (kidSpots (now (t .entry)) cap n) (now (t .entry)) ⌝ }
+{
+    mark_kid(t, cap, n, 0, 0);
+    mark_kid(t, cap, n, 1, 0);
+    mark_kid(t, cap, n, 0, 1);
+    mark_kid(t, cap, n, 1, 1);
+}
+
+fn mark_corners(t: &mut [i32], cap: usize, north: usize, east: usize, both: usize)
+    requires { ⌜ (cap * rowWords + rowWords ≤ length (now t)) × (cap ≤ 4095) × (north ≤ cap) × (east ≤ cap) × (both ≤ cap) ⌝ }
+    ensures { λ _. ⌜ now (t .exit) ≡ eachAt (markRow cap) cap (cornerSpots north east both) (now (t .entry)) ⌝ }
+{
+    mark_kid(t, cap, north, 0, 0);
+    mark_kid(t, cap, north, 1, 0);
+    mark_kid(t, cap, east, 0, 1);
+    mark_kid(t, cap, east, 0, 0);
+    mark_kid(t, cap, both, 0, 0);
+}
+
+fn mark_sides(t: &mut [i32], cap: usize, south: usize, west: usize)
+    requires { ⌜ (cap * rowWords + rowWords ≤ length (now t)) × (cap ≤ 4095) × (south ≤ cap) × (west ≤ cap) ⌝ }
+    ensures { λ _. ⌜ now (t .exit) ≡ eachAt (markRow cap) cap (sideSpots south west) (now (t .entry)) ⌝ }
+{
+    mark_kid(t, cap, south, 0, 1);
+    mark_kid(t, cap, south, 1, 1);
+    mark_kid(t, cap, west, 1, 0);
+    mark_kid(t, cap, west, 1, 1);
+}
+
+// Of the nine rows that the kids of the row n want, the walls.
+fn wall_near(t: &mut [i32], cap: usize, d: u32, n: usize, north: usize, east: usize, both: usize)
+    requires { ⌜ (cap * rowWords + rowWords ≤ length (now t)) × (cap ≤ 4095) × (n ≤ cap) × (north ≤ cap) × (east ≤ cap) × (both ≤ cap) × (d ≤ 32) ⌝ }
+    ensures { λ _. ⌜ now (t .exit) ≡ eachAt (wallRow cap d) cap (kidSpots (now (t .entry)) cap n ++ cornerSpots north east both) (now (t .entry)) ⌝ }
+{
+    wall_kids(t, cap, d, n);
+    wall_corners(t, cap, d, north, east, both);
+}
+
+// The points and cells.
+fn mark_near(t: &mut [i32], cap: usize, n: usize, north: usize, east: usize, both: usize)
+    requires { ⌜ (cap * rowWords + rowWords ≤ length (now t)) × (cap ≤ 4095) × (n ≤ cap) × (north ≤ cap) × (east ≤ cap) × (both ≤ cap) ⌝ }
+    ensures { λ _. ⌜ now (t .exit) ≡ eachAt (markRow cap) cap (kidSpots (now (t .entry)) cap n ++ cornerSpots north east both) (now (t .entry)) ⌝ }
+{
+    mark_kids(t, cap, n);
+    mark_corners(t, cap, north, east, both);
 }
 
 // The flags of the thirteen rows whose flags a refinement or a removal can change.
 pub fn refresh_near(t: &mut [i32], cap: usize, d: u32, n: usize)
     requires { ⌜ (cap * rowWords + rowWords ≤ length (now t)) × (cap ≤ 4095) × (n ≤ cap) × (d ≤ 32) ⌝ }
-    ensures { λ _. ⌜ now (t .exit) ≡ refreshAt (wantedSpots (now (t .entry)) cap n ++ outsideSpots (now (t .entry)) cap n) (now (t .entry)) cap d ⌝ }
+    ensures { λ _. ⌜ now (t .exit) ≡ refreshNear (now (t .entry)) cap d n ⌝ }
 {
     let north = link(t, cap, n, 5);
     let east = link(t, cap, n, 6);
     let both = link(t, cap, east, 5);
     let south = link(t, cap, n, 7);
     let west = link(t, cap, n, 8);
-    refresh_kids(t, cap, d, n);
-    refresh_corners(t, cap, d, north, east, both);
-    refresh_sides(t, cap, d, south, west);
+    wall_near(t, cap, d, n, north, east, both);
+    mark_near(t, cap, n, north, east, both);
+    mark_sides(t, cap, south, west);
 }
 
 // The flags' word and the status word of a kid.

@@ -31,7 +31,7 @@ use Rattle.pictures.proofs.Links.{around-parent, around-side, wind-lt}
 use Rattle.pictures.proofs.Pictured.{digit-at}
 use Rattle.pictures.proofs.Flagged.{boundary-wall, green-wall, four}
 use Rattle.editing.specs.Linked.{Flags, tableWith}
-use Rattle.editing.specs.Anew.{flagsAnew}
+use Rattle.editing.specs.Anew.{flagsAnew, wallsAnew, marksAnew}
 use Rattle.editing.proofs.Linked.{word-nil, col-of, row-of, flags-of}
 use Rattle.editing.proofs.Rooted.{Rooted, link-of, depth-of}
 
@@ -50,6 +50,35 @@ pub record Ready (g : Grid) (es : List Entry) (f : Flags) (c : Place → Bool) (
   pub edgesH : (q : Place) → suc (q .depth) ≡ e → base g ≤ q .depth → T (any (stands q) es) → bit 4 (f q) ≡ isBoundary (wallH g c (some q))
   pub edgesV : (q : Place) → suc (q .depth) ≡ e → base g ≤ q .depth → T (any (stands q) es) → bit 5 (f q) ≡ isBoundary (wallV g c (some q))
 
+-- and the walls of the rows at the depth e are right too
+pub record Walled (g : Grid) (es : List Entry) (f : Flags) (c : Place → Bool) (e : ℕ) : Type 0 where
+  pub ready : Ready g es f c e
+  pub wallsH : (q : Place) → q .depth ≡ e → T (any (stands q) es) → bit 1 (f q) ≡ isWall (wallH g c (some q))
+  pub wallsV : (q : Place) → q .depth ≡ e → T (any (stands q) es) → bit 2 (f q) ≡ isWall (wallV g c (some q))
+  pub boundaryH : (q : Place) → q .depth ≡ e → T (any (stands q) es) → bit 4 (f q) ≡ isBoundary (wallH g c (some q))
+  pub boundaryV : (q : Place) → q .depth ≡ e → T (any (stands q) es) → bit 5 (f q) ≡ isBoundary (wallV g c (some q))
+  pub greenH : (q : Place) → q .depth ≡ e → T (any (stands q) es) → bit 8 (f q) ≡ isGreen (wallH g c (some q))
+  pub greenV : (q : Place) → q .depth ≡ e → T (any (stands q) es) → bit 9 (f q) ≡ isGreen (wallV g c (some q))
+
+-- the mesh's flags of a place without those that the walls around it make
+unfoldable pub wallFlags : Grid → (Place → Bool) → Place → Bool → List Bool
+wallFlags g c p b =
+    c p ∷
+    isWall (wallH g c (some p)) ∷
+    isWall (wallV g c (some p)) ∷
+    false ∷
+    isBoundary (wallH g c (some p)) ∷
+    isBoundary (wallV g c (some p)) ∷
+    false ∷
+    false ∷
+    isGreen (wallH g c (some p)) ∷
+    isGreen (wallV g c (some p)) ∷
+    false ∷
+    false ∷
+    b ∷
+    false ∷
+    []
+
 -- the mesh's flags have these bits
 module _ (g : Grid) (c : Place → Bool) (q : Place) (b : Bool) where
   pub complete-bit : bit 0 (digits (flags g c q b)) ≡ c q
@@ -63,6 +92,22 @@ module _ (g : Grid) (c : Place → Bool) (q : Place) (b : Bool) where
   pub edgeV-bit : bit 5 (digits (flags g c q b)) ≡ isBoundary (wallV g c (some q))
   unfolding flags derived
   edgeV-bit = digit-at (flags g c q b) 5
+
+  pub wallH-bit : bit 1 (digits (flags g c q b)) ≡ isWall (wallH g c (some q))
+  unfolding flags derived
+  wallH-bit = digit-at (flags g c q b) 1
+
+  pub wallV-bit : bit 2 (digits (flags g c q b)) ≡ isWall (wallV g c (some q))
+  unfolding flags derived
+  wallV-bit = digit-at (flags g c q b) 2
+
+  pub greenH-bit : bit 8 (digits (flags g c q b)) ≡ isGreen (wallH g c (some q))
+  unfolding flags derived
+  greenH-bit = digit-at (flags g c q b) 8
+
+  pub greenV-bit : bit 9 (digits (flags g c q b)) ≡ isGreen (wallV g c (some q))
+  unfolding flags derived
+  greenV-bit = digit-at (flags g c q b) 9
 
   pub sentenced-bit : bit 12 (digits (flags g c q b)) ≡ b
   unfolding flags derived
@@ -239,6 +284,80 @@ module _ {g : Grid} {cap : ℕ} {es : List Entry} (r : Rooted g cap es) (f : Fla
         ∷ b
         ∷ false
         ∷ []
+
+    -- ---- walls first
+
+    walls-by : (n : ℕ) (p : Place) → placeOf (entry es n) ≡ some p → p .depth ≡ e → (b : Bool) → wallsAnew t cap (base g) n b ≡ wallFlags g c p b
+    unfolding wallsAnew wallFlags
+    walls-by n p h d b =
+        let cell = cell-of n p h d in
+        let eh = edge-h n p h d in
+        let ev = edge-v n p h d in
+        let ih = inner-h n p h d in
+        let iv = inner-v n p h d in
+        let wall-h : (flagOf t 0 n || flagOf t 0 (linkOf t cap n 7)) ≡ isWall (wallH g c (some p)) = rw (cell, cell-side S tt n p h d) (sym (wallH-cells g c p)) in
+        let wall-v : (flagOf t 0 n || flagOf t 0 (linkOf t cap n 8)) ≡ isWall (wallV g c (some p)) = rw (cell, cell-side W tt n p h d) (sym (wallV-cells g c p)) in
+        λ i. cell i ∷ wall-h i ∷ wall-v i ∷ false ∷ eh i ∷ ev i ∷ false ∷ false ∷ ih i ∷ iv i ∷ false ∷ false ∷ b ∷ false ∷ []
+
+  module _ (c : Place → Bool) (e : ℕ) (low : base g ≤ e) (w : Walled g es f c e) where
+    -- a wall of a neighbour, as its flags say it
+    said-at : (k : ℕ) (y : Wall → Bool) (wall : Option Place → Wall) → ((u : Wall) → T (y u) → T (isWall u)) → wall none ≡ absent → ((q : Place) → T (isWall (wall (some q))) → T (touched g c q))
+        → ((q : Place) → q .depth ≡ e → T (any (stands q) es) → bit k (f q) ≡ y (wall (some q)))
+        → (n : ℕ) (q : Place) → placeOf (entry es n) ≡ some q → q .depth ≡ e → (v : Wind) → T (aside v) → flagOf t k (linkOf t cap n (wordOfWind v)) ≡ y (wall (step g v q))
+    said-at k y wall only nowhere begins is =
+        side-at c e low (w .ready) (flagOf t k) (λ o. y (wall o))
+        (wall-at c e low (w .ready) (flagOf t k) y wall (zero-flag k) only nowhere begins (λ n q h d. flag-bit n q h k ∙ is q d (stands-in es n q h)))
+
+    absentH : wallH g c none ≡ absent
+    unfolding wallH
+    absentH = refl
+
+    absentV : wallV g c none ≡ absent
+    unfolding wallV
+    absentV = refl
+
+    marks-by : (n : ℕ) (p : Place) → placeOf (entry es n) ≡ some p → p .depth ≡ e → marksAnew t cap n ≡ flags g c p (bit 12 (f p))
+    unfolding marksAnew flags derived ends sides
+    marks-by n p h d =
+        let there = stands-in es n p h in
+        let bdyH = said-at 4 isBoundary (wallH g c) boundary-wall absentH (wallH-touched g c) (w .boundaryH) n p h d in
+        let bdyV = said-at 5 isBoundary (wallV g c) boundary-wall absentV (wallV-touched g c) (w .boundaryV) n p h d in
+        let grnH = said-at 8 isGreen (wallH g c) green-wall absentH (wallH-touched g c) (w .greenH) n p h d in
+        let grnV = said-at 9 isGreen (wallV g c) green-wall absentV (wallV-touched g c) (w .greenV) n p h d in
+        let cell = cell-of c e low (w .ready) n p h d in
+        let wall-h : flagOf t 1 n ≡ isWall (wallH g c (some p)) = flag-bit n p h 1 ∙ w .wallsH p d there in
+        let wall-v : flagOf t 2 n ≡ isWall (wallV g c (some p)) = flag-bit n p h 2 ∙ w .wallsV p d there in
+        let eh : flagOf t 4 n ≡ isBoundary (wallH g c (some p)) = flag-bit n p h 4 ∙ w .boundaryH p d there in
+        let ev : flagOf t 5 n ≡ isBoundary (wallV g c (some p)) = flag-bit n p h 5 ∙ w .boundaryV p d there in
+        let ih : flagOf t 8 n ≡ isGreen (wallH g c (some p)) = flag-bit n p h 8 ∙ w .greenH p d there in
+        let iv : flagOf t 9 n ≡ isGreen (wallV g c (some p)) = flag-bit n p h 9 ∙ w .greenV p d there in
+        let sentence = flag-bit n p h 12 in
+        let hor = wallH g c in
+        let ver = wallV g c in
+        let here = some p in
+        λ i. cell i
+        ∷ wall-h i
+        ∷ wall-v i
+        ∷ four isBoundary (hor here) (hor (step g W p)) (ver here) (ver (step g S p)) eh (bdyH W tt) ev (bdyV S tt) i
+        ∷ eh i
+        ∷ ev i
+        ∷ (cell i && four isBoundary (hor here) (hor (step g N p)) (ver here) (ver (step g E p)) eh (bdyH N tt) ev (bdyV E tt) i)
+        ∷ four isGreen (hor here) (hor (step g W p)) (ver here) (ver (step g S p)) ih (grnH W tt) iv (grnV S tt) i
+        ∷ ih i
+        ∷ iv i
+        ∷ (cell i && four isGreen (hor here) (hor (step g N p)) (ver here) (ver (step g E p)) ih (grnH N tt) iv (grnV E tt) i)
+        ∷ false
+        ∷ sentence i
+        ∷ false
+        ∷ []
+
+pub walls-anew : {g : Grid} {cap : ℕ} {es : List Entry} → Rooted g cap es → (f : Flags) (c : Place → Bool) (n : ℕ) (p : Place) → placeOf (entry es n) ≡ some p
+    → base g ≤ p .depth → Ready g es f c (p .depth) → (b : Bool) → wallsAnew (tableWith g es f) cap (base g) n b ≡ wallFlags g c p b
+walls-anew r f c n p h l ready b = walls-by r f c (p .depth) l ready n p h refl b
+
+pub marks-anew : {g : Grid} {cap : ℕ} {es : List Entry} → Rooted g cap es → (f : Flags) (c : Place → Bool) (n : ℕ) (p : Place) → placeOf (entry es n) ≡ some p
+    → base g ≤ p .depth → Walled g es f c (p .depth) → marksAnew (tableWith g es f) cap n ≡ flags g c p (bit 12 (f p))
+marks-anew r f c n p h l walled = marks-by r f c (p .depth) l walled n p h refl
 
 pub flags-anew : {g : Grid} {cap : ℕ} {es : List Entry} → Rooted g cap es → (f : Flags) (c : Place → Bool) (n : ℕ) (p : Place) → placeOf (entry es n) ≡ some p
     → base g ≤ p .depth → Ready g es f c (p .depth) → (b : Bool) → flagsAnew (tableWith g es f) cap (base g) n b ≡ flags g c p b

@@ -17,8 +17,8 @@ use Rattle.table.specs.Worked.{kidWord, sideOf}
 use Rattle.table.specs.Writes.{freeRow}
 use Rattle.table.proofs.Links.{link-within}
 use Rattle.editing.specs.Steps.{putWord, putUnlessNil, linkSide, placeIn, linkIn, dropSide, takeOut}
-use Rattle.editing.specs.Anew.{refreshed}
-use Rattle.editing.specs.Tables.{Spot, Lending, Border, kidAt, kidSpots, refreshUnlessNil, refreshAt, putCells, putValues, freeFrom, supplied, suppliedAll, refineTable, refineValues, touchedRow, dropUntouched, dropAt, removeTable, removeValues, kidless, dropUp, dropCorner, eachKid, refreshDown, refreshLevel, refreshLevels, killTable, killValues}
+use Rattle.editing.specs.Anew.{refreshed, wallRow, markRow}
+use Rattle.editing.specs.Tables.{Spot, Lending, Border, kidAt, kidSpots, refreshUnlessNil, eachAt, refreshNear, putCells, putValues, freeFrom, supplied, suppliedAll, refineTable, refineValues, touchedRow, dropUntouched, dropAt, removeTable, removeValues, kidless, dropUp, dropCorner, eachKid, refreshDown, refreshLevel, refreshLevels, killTable, killValues}
 use Rattle.editing.proofs.Spots.{put-length}
 
 -- ---- words
@@ -69,10 +69,20 @@ length-refreshed t cap d n = simp length-set
 pub length-refreshUnlessNil : (t : List ℤ) (cap d n : ℕ) → length (refreshUnlessNil t cap d n) ≡ length t
 length-refreshUnlessNil t cap d n = length-cond (eqb n 0) _ _ refl (length-refreshed t cap d n)
 
-pub length-refreshAt : (xs : List Spot) (t : List ℤ) (cap d : ℕ) → length (refreshAt xs t cap d) ≡ length t
-unfolding refreshAt
-length-refreshAt [] t cap d = refl
-length-refreshAt (x ∷ xs) t cap d = length-refreshAt xs (refreshUnlessNil t cap d (kidAt t cap x)) cap d ∙ length-refreshUnlessNil t cap d (kidAt t cap x)
+length-eachAt : (f : List ℤ → ℕ → List ℤ) → ((t : List ℤ) (k : ℕ) → length (f t k) ≡ length t) → (cap : ℕ) (xs : List Spot) (t : List ℤ) → length (eachAt f cap xs t) ≡ length t
+unfolding eachAt
+length-eachAt f h cap [] t = refl
+length-eachAt f h cap (x ∷ xs) t = length-eachAt f h cap xs (f t (kidAt t cap x)) ∙ h t (kidAt t cap x)
+
+pub length-refreshNear : (t : List ℤ) (cap d n : ℕ) → length (refreshNear t cap d n) ≡ length t
+unfolding refreshNear wallRow markRow
+length-refreshNear t cap d n = length-eachAt (markRow cap) marks cap _ _ ∙ length-eachAt (wallRow cap d) walls cap _ t
+  where
+    walls : (t : List ℤ) (k : ℕ) → length (wallRow cap d t k) ≡ length t
+    walls t k = length-putUnlessNil t k 12 _
+
+    marks : (t : List ℤ) (k : ℕ) → length (markRow cap t k) ≡ length t
+    marks t k = length-putUnlessNil t k 12 _
 
 pub length-putCells : (xs : List Spot) (t : List ℤ) (cap f st : ℕ) → length (putCells xs t cap f st) ≡ length t
 unfolding putCells
@@ -90,7 +100,7 @@ length-putValues (x ∷ xs) t cap y v = length-putValues xs t cap y _ ∙ simp l
 
 pub length-refineTable : (cap d n : ℕ) (r : Lending) → length (refineTable cap d n r .words) ≡ length (r .words)
 unfolding refineTable
-length-refineTable cap d n r = simp (length-refreshAt, length-putCells, length-suppliedAll)
+length-refineTable cap d n r = simp (length-refreshNear, length-putCells, length-suppliedAll)
 
 pub length-refineValues : (t : List ℤ) (cap n : ℕ) (v : List Float) → length (refineValues t cap n v) ≡ length v
 unfolding refineValues
@@ -146,7 +156,7 @@ pub length-removeTable : (t : List ℤ) (cap d n : ℕ) → cap * rowWords + row
 unfolding removeTable
 length-removeTable t cap d n h =
     let e : length (putCells (kidSpots t cap n) t cap 0 0) ≡ length t = length-putCells (kidSpots t cap n) t cap 0 0 in
-    length-refreshAt _ _ cap d ∙ length-dropAt cap _ (putCells (kidSpots t cap n) t cap 0 0) d (omega arith) ∙ e
+    length-refreshNear _ cap d n ∙ length-dropAt cap _ (putCells (kidSpots t cap n) t cap 0 0) d (omega arith) ∙ e
 
 pub length-removeValues : (t : List ℤ) (cap n : ℕ) (v : List Float) → length (removeValues t cap n v) ≡ length v
 unfolding removeValues

@@ -13,6 +13,7 @@ pub mod Flags
 pub mod Refreshing
 pub mod Named
 pub mod Renewing
+pub mod Passing
 pub mod Celling
 pub mod Supplying
 pub mod Starting

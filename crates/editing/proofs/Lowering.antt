@@ -18,8 +18,8 @@ use Rattle.table.specs.Worked.{kidWord}
 use Rattle.table.specs.Writes.{freeRow}
 use Rattle.pictures.proofs.Linked.{kid-word-lt}
 use Rattle.editing.specs.Steps.{putWord, putUnlessNil, dropSide, takeOut}
-use Rattle.editing.specs.Anew.{flagsAnew, refreshed}
-use Rattle.editing.specs.Tables.{Lowers, Spot, Border, kidAt, refreshUnlessNil, refreshAt, putCells, eachKid, refreshDown, refreshLevel, refreshLevels}
+use Rattle.editing.specs.Anew.{flagsAnew, refreshed, wallsAnew, marksAnew, wallRow, markRow}
+use Rattle.editing.specs.Tables.{Lowers, Spot, Border, kidAt, refreshUnlessNil, eachAt, refreshNear, putCells, eachKid, refreshDown, refreshLevel, refreshLevels}
 use Rattle.editing.proofs.Spots.{put-other}
 use Rattle.editing.proofs.Starting.{digits-alive}
 use Rattle.editing.proofs.Lengths.{unnamed, length-unnamed}
@@ -86,10 +86,22 @@ module _ (cap d : ℕ) where
   frees-anew : (t : List ℤ) (n : ℕ) → FreesNone t (refreshUnlessNil t cap d n)
   frees-anew t n = either (eqb n 0) nothing (frees-refreshed t n)
 
-  pub frees-near : (xs : List Spot) (t : List ℤ) → FreesNone t (refreshAt xs t cap d)
-  unfolding refreshAt
-  frees-near [] t = nothing
-  frees-near (x ∷ xs) t = next (frees-anew t (kidAt t cap x)) (frees-near xs (refreshUnlessNil t cap d (kidAt t cap x)))
+  frees-each : (f : List ℤ → ℕ → List ℤ) → ((t : List ℤ) (k : ℕ) → FreesNone t (f t k)) → (xs : List Spot) (t : List ℤ) → FreesNone t (eachAt f cap xs t)
+  unfolding eachAt
+  frees-each f h [] t = nothing
+  frees-each f h (x ∷ xs) t = next (h t (kidAt t cap x)) (frees-each f h xs (f t (kidAt t cap x)))
+
+  frees-walls : (t : List ℤ) (n : ℕ) → FreesNone t (wallRow cap d t n)
+  unfolding wallRow wallsAnew
+  frees-walls t n = either (eqb n 0) nothing (frees-flags t n _ (digits-alive (wallsAnew t cap d n (flagOf t 12 n)) refl))
+
+  frees-marks : (t : List ℤ) (n : ℕ) → FreesNone t (markRow cap t n)
+  unfolding markRow marksAnew
+  frees-marks t n = either (eqb n 0) nothing (frees-flags t n _ (digits-alive (marksAnew t cap n) refl))
+
+  pub frees-near : (n : ℕ) (t : List ℤ) → FreesNone t (refreshNear t cap d n)
+  unfolding refreshNear
+  frees-near n t = next (frees-each (wallRow cap d) frees-walls _ t) (frees-each (markRow cap) frees-marks _ _)
 
   each : (f : List ℤ → ℕ → List ℤ) → ((t : List ℤ) (k : ℕ) → FreesNone t (f t k)) → (n : ℕ) (ws : List ℕ) (t : List ℤ) → FreesNone t (eachKid f cap n ws t)
   each f h n [] t = nothing

@@ -7,7 +7,7 @@ use mathlib.Core.Path.{_≡_, refl, sym, ap, _∙_, subst}
 use mathlib.Core.Logic.{_≢_}
 use mathlib.Core.Bool.{Bool, true, false, _||_, cond}
 use mathlib.Core.Option.{some}
-use mathlib.Core.List.{List, _++_, map}
+use mathlib.Core.List.{List, map}
 use lib.Dec.{T}
 use lib.IntN.{ℤ}
 use Rattle.mesh.specs.Tools.{any, orElse}
@@ -31,7 +31,7 @@ use Rattle.numbering.proofs.Refining.{Refinable, refinable, have, here, kids-th
 use Rattle.table.specs.Words.{wordOf}
 use Rattle.pictures.proofs.Linked.{corner-numbered}
 use Rattle.editing.specs.Linked.{Flags, tableWith, flagsOf}
-use Rattle.editing.specs.Tables.{Lending, kidSpots, wantedSpots, outsideSpots, refreshAt, putCells, suppliedAll, kidStatus, refineTable}
+use Rattle.editing.specs.Tables.{Lending, kidSpots, wantedSpots, refreshNear, putCells, suppliedAll, kidStatus, refineTable}
 use Rattle.editing.proofs.Linked.{status-of, picture-linked}
 use Rattle.editing.proofs.Rooted.{valid-rooted}
 use Rattle.editing.proofs.Setting.{fill-rooted}
@@ -175,7 +175,7 @@ module _ (s : State) (v : Valid s) (n : ℕ) (p : Place) (x : Cell) (r : Refinab
 
     -- ---- the flags around them
 
-    refined-words : refreshAt (wantedSpots celled cap n ++ outsideSpots celled cap n) celled cap (base g) ≡ table (withEntries s after)
+    refined-words : refreshNear celled cap (base g) n ≡ table (withEntries s after)
     refined-words =
         rw cell-table
         (refresh-near nearly (fill-rooted (kids p) (some (kidCell x)) (supplied-table .rooted)) n after-own east-stands

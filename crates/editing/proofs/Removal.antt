@@ -34,7 +34,7 @@ use Rattle.numbering.proofs.Naming.{Named}
 use Rattle.numbering.proofs.Taking.{remove-passed, remove-kept}
 use Rattle.pictures.proofs.Linked.{touched-stands, corner-numbered}
 use Rattle.editing.specs.Linked.{Flags, tableWith}
-use Rattle.editing.specs.Tables.{kidSpots, wantedSpots, outsideSpots, putCells, dropAt, refreshAt, putValues, removeTable, removeValues}
+use Rattle.editing.specs.Tables.{kidSpots, wantedSpots, putCells, dropAt, refreshNear, putValues, removeTable, removeValues}
 use Rattle.editing.proofs.Linked.{picture-linked}
 use Rattle.editing.proofs.Rooted.{Rooted, valid-rooted}
 use Rattle.editing.proofs.Setting.{fill-rooted}
@@ -187,8 +187,8 @@ module _ (s : State) (v : Valid s) (n : ℕ) (h : refusal (checks s (remove n)) 
   pub remove-table : removeTable (table s) (capacity s) (base (gridOf s)) n ≡ table (effect s (remove n))
   unfolding removeTable effect
   remove-table =
-      ap (λ (t : List ℤ). let u = dropAt (wantedSpots t cap n) t cap (base g) in refreshAt (wantedSpots u cap n ++ outsideSpots u cap n) u cap (base g)) without-cells
-      ∙ ap (λ (u : List ℤ). refreshAt (wantedSpots u cap n ++ outsideSpots u cap n) u cap (base g)) (dropped .rest .is-table ∙ ap (λ (ds : List Entry). tableWith g ds f₁) left-is)
+      ap (λ (t : List ℤ). let u = dropAt (wantedSpots t cap n) t cap (base g) in refreshNear u cap (base g) n) without-cells
+      ∙ ap (λ (u : List ℤ). refreshNear u cap (base g) n) (dropped .rest .is-table ∙ ap (λ (ds : List Entry). tableWith g ds f₁) left-is)
       ∙ refresh-near near₂ r₂ n there₂ (corner-numbered (withEntries s after) (kept .valid) p-cell c-east)
       ∙ sym (picture-linked (withEntries s after) (r₂ .numbered))
 

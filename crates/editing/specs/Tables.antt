@@ -12,7 +12,7 @@ use Rattle.mesh.specs.State.{plusZero}
 use Rattle.table.specs.Words.{wordOf, linkOf, vacant}
 use Rattle.table.specs.Worked.{kidWord, cellIn}
 use Rattle.editing.specs.Steps.{putWord, putUnlessNil, linkIn, takeOut}
-use Rattle.editing.specs.Anew.{refreshed}
+use Rattle.editing.specs.Anew.{refreshed, wallRow, markRow}
 
 -- ---- free numbers
 
@@ -71,9 +71,14 @@ module _ (t : List ℤ) (cap : ℕ) where
 abbrev pub refreshUnlessNil : List ℤ → ℕ → ℕ → ℕ → List ℤ
 refreshUnlessNil t cap d n = cond (eqb n 0) t (refreshed t cap d n)
 
-unfoldable pub refreshAt : List Spot → List ℤ → ℕ → ℕ → List ℤ
-refreshAt [] t cap d = t
-refreshAt (x ∷ xs) t cap d = refreshAt xs (refreshUnlessNil t cap d (kidAt t cap x)) cap d
+-- a step at each of these kids
+unfoldable pub eachAt : (List ℤ → ℕ → List ℤ) → ℕ → List Spot → List ℤ → List ℤ
+eachAt f cap [] t = t
+eachAt f cap (x ∷ xs) t = eachAt f cap xs (f t (kidAt t cap x))
+
+-- the flags that the kids of the row n can change: the walls first, since points and cells are worked out from walls
+unfoldable pub refreshNear : List ℤ → ℕ → ℕ → ℕ → List ℤ
+refreshNear t cap d n = eachAt (markRow cap) cap (wantedSpots t cap n ++ outsideSpots t cap n) (eachAt (wallRow cap d) cap (wantedSpots t cap n) t)
 
 -- the flags' word and the status word of each of these kids
 unfoldable pub putCells : List Spot → List ℤ → ℕ → ℕ → ℕ → List ℤ
@@ -104,7 +109,7 @@ unfoldable pub refineTable : ℕ → ℕ → ℕ → Lending → Lending
 refineTable cap d n r =
     let s = suppliedAll cap d (wantedSpots (r .words) cap n) r in
     let t = putCells (kidSpots (r .words) cap n) (s .words) cap 1 (kidStatus (wordOf (r .words) n 13)) in
-    record { words = refreshAt (wantedSpots t cap n ++ outsideSpots t cap n) t cap d; low = s .low }
+    record { words = refreshNear t cap d n; low = s .low }
 
 -- the values, with the words after the refinement
 unfoldable pub refineValues : List ℤ → ℕ → ℕ → List Float → List Float
@@ -129,7 +134,7 @@ unfoldable pub removeTable : List ℤ → ℕ → ℕ → ℕ → List ℤ
 removeTable t cap d n =
     let t₁ = putCells (kidSpots t cap n) t cap 0 0 in
     let t₂ = dropAt (wantedSpots t₁ cap n) t₁ cap d in
-    refreshAt (wantedSpots t₂ cap n ++ outsideSpots t₂ cap n) t₂ cap d
+    refreshNear t₂ cap d n
 
 unfoldable pub removeValues : List ℤ → ℕ → ℕ → List Float → List Float
 removeValues t cap n v = putValues (kidSpots t cap n) t cap plusZero v

@@ -132,6 +132,14 @@ module _ (g : Grid) (c d : Place → Bool) where
   agree-at none h = (refl, refl)
   agree-at (some r) h = h r refl
 
+  -- the walls of the place itself are made of three of these
+  pub walls-frame : (q : Place) → ((r : Place) → Corner g r q → AgreeAt r) → (wallH g c (some q) ≡ wallH g d (some q)) × (wallV g c (some q) ≡ wallV g d (some q))
+  unfolding step
+  walls-frame q touch = (
+    wallH-same (some q) (touch q c-here) (agree-at (step g S q) (λ r e. touch r (corner-cast (south-north g q r e) c-north))),
+    wallV-same (some q) (touch q c-here) (agree-at (step g W q) (λ r e. touch r (corner-cast (west-east g q r e) c-east))),
+  )
+
   pub derived-frame : (q : Place) → ((r : Place) → Corner g r q → AgreeAt r) → (T (c q) → AgreeAt (toNorth g q) × AgreeAt (toEast g q)) → derived g c q ≡ derived g d q
   unfolding step
   derived-frame q touch beyond =

@@ -9,14 +9,14 @@ use mathlib.Core.Bool.{Bool, _&&_, cond}
 use mathlib.Core.Option.{some, Option·map}
 use lib.Dec.{T}
 use Rattle.mesh.specs.Place.{Place, Grid, base, step, toNorth, toEast, toSouth, toWest, kid, kids, parent, compass, Wind, NE, SE, SW, NW, S, W}
-use Rattle.mesh.specs.Mesh.{derived}
+use Rattle.mesh.specs.Mesh.{wallH, wallV, derived}
 use Rattle.mesh.specs.Request.{wanted}
 use Rattle.geometry.proofs.Places.{In, south-north, west-east, north-south, east-west}
 use Rattle.geometry.proofs.Kids.{parent-kid, parent-in, parent-depth, up-kid, kid-depth}
 use Rattle.geometry.proofs.Digits.{kidBy, kid-by, kid-by-digits, aside, within, step-digits}
-use Rattle.geometry.proofs.Near.{c-here}
+use Rattle.geometry.proofs.Near.{Corner, c-here}
 use Rattle.geometry.proofs.Wanted.{north-sw, north-se, east-sw, east-nw, north-once, east-once, each-in, corner-wanted}
-use Rattle.geometry.proofs.Frames.{AgreeAt, derived-frame, area-same}
+use Rattle.geometry.proofs.Frames.{AgreeAt, walls-frame, derived-frame, area-same}
 
 -- ---- the four places
 
@@ -96,6 +96,13 @@ module _ (g : Grid) (p : Place) where
 module _ (g : Grid) (c d : Place → Bool) (p : Place) (low : base g ≤ p .depth) (else : (r : Place) → (parent r ≡ some p → ⊥) → c r ≡ d r) where
   agree : (r : Place) → (parent r ≡ some p → ⊥) → AgreeAt g c d r
   agree r h = (else r h, area-same g c d (λ o e. else o (λ k. omega (arith, parent-depth o p k))) r)
+
+  -- the walls of a place that is no corner of a kid
+  pub kids-walls : (q : Place) → (In q (wanted g p) → ⊥) → (c q ≡ d q) × (wallH g c (some q) ≡ wallH g d (some q)) × (wallV g c (some q) ≡ wallV g d (some q))
+  kids-walls q out =
+      let touch : (r : Place) → Corner g r q → AgreeAt g c d r = λ r k. agree r (λ e. out (corner-wanted g p e k)) in
+      let (h, v) = walls-frame g c d q touch in
+      (touch q c-here .0, h, v)
 
   pub kids-same : (q : Place) → (In q (wanted g p) → ⊥) → (T (c q) → Fringe g p q → ⊥) → derived g c q ≡ derived g d q
   kids-same q out off =

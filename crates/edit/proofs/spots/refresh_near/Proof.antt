@@ -20,14 +20,14 @@ link-requires-4 c κs = search needs
 link-requires-5 : tie.Need-link-requires-5
 link-requires-5 c κs = search needs
 
-refresh-kids-requires : tie.Need-refresh-kids-requires
-refresh-kids-requires c κs = search needs
+wall-near-requires : tie.Need-wall-near-requires
+wall-near-requires c κs = search needs
 
-refresh-corners-requires : tie.Need-refresh-corners-requires
-refresh-corners-requires c κs = search needs
+mark-near-requires : tie.Need-mark-near-requires
+mark-near-requires c κs = search needs
 
-refresh-sides-requires : tie.Need-refresh-sides-requires
-refresh-sides-requires c κs = search needs
+mark-sides-requires : tie.Need-mark-sides-requires
+mark-sides-requires c κs = search needs
 
 same-length : tie.Need-same-length
 same-length c = search needs
@@ -42,7 +42,7 @@ returns c =
     let b₆ = b₅ .before .before in
     let b₇ = b₆ .before .before in
     let b₈ = b₇ .before .before in
-    near-refreshed _ _ _ _ (b₈ .link .ensures .1) (b₇ .link2 .ensures .1) (b₆ .link3 .ensures .1) (b₅ .link4 .ensures .1) (b₄ .link5 .ensures .1) (b₃ .refresh-kids .ensures) (b₂ .refresh-corners .ensures) (b₁ .refresh-sides .ensures)
+    near-refreshed _ _ _ _ (b₈ .link .ensures .1) (b₇ .link2 .ensures .1) (b₆ .link3 .ensures .1) (b₅ .link4 .ensures .1) (b₄ .link5 .ensures .1) (b₃ .wall-near .ensures) (b₂ .mark-near .ensures) (b₁ .mark-sides .ensures)
 
 pub refresh-near-spec : {M : Type 1} → statement M
 refresh-near-spec =
@@ -53,8 +53,8 @@ refresh-near-spec =
     link-requires-3
     link-requires-4
     link-requires-5
-    refresh-kids-requires
-    refresh-corners-requires
-    refresh-sides-requires
+    wall-near-requires
+    mark-near-requires
+    mark-sides-requires
     same-length
     returns)
