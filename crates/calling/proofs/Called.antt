@@ -4,7 +4,7 @@
 use Prim.Native.Nat.{ℕ, _+_, _*_}
 use native.Mathlib.Omega.{arith}
 use borrow.Author.Tests.{eqb-true, not-false}
-use mathlib.Core.Path.{_≡_, sym, ap, _∙_}
+use mathlib.Core.Path.{_≡_, sym, ap, _∙_, subst}
 use mathlib.Core.Bool.{Bool, false, not, _||_}
 use mathlib.Core.List.{List, [], _∷_, _++_}
 use lib.Dec.{T, eqb}
@@ -64,3 +64,13 @@ module _ (cap : ℕ) (l : Lent) (h : refusal (lentChecks cap l) ≡ 0) where
       let size : cap ≡ capacity s = omega (arith, values-length, amounts-length s, ap length (o .is-values)) in
       let same : k (s .header) (table s) (amounts s) (capacity s) ≡ k (l .header) (l .words) (l .values) cap = cc (o .is-header, o .is-table, o .is-values) in
       ap f (sym (sound-state (l .header) (l .words) (l .values) o)) ∙ agree s (o .valid) ∙ same
+
+  -- what holds of the pictures of valid states holds of what was lent
+  pub of-picture : (P : Header → List ℤ → ℕ → Type 0) → ((s : State) → Valid s → P (s .header) (table s) (capacity s)) → P (l .header) (l .words) cap
+  of-picture P holds =
+      let o = lent-sound in
+      let s = o .state in
+      let size : cap ≡ capacity s = omega (arith, values-length, amounts-length s, ap length (o .is-values)) in
+      let header = subst (λ (h : Header). P h (table s) (capacity s)) (sym (o .is-header)) (holds s (o .valid)) in
+      let words = subst (λ (t : List ℤ). P (l .header) t (capacity s)) (sym (o .is-table)) header in
+      subst (P (l .header) (l .words)) (sym size) words

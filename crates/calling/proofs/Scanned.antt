@@ -1,7 +1,8 @@
 -- A scan call that passes the first checks answers what the scan by rows answers: in the picture of a valid state the start's row is in use exactly
 -- if its number is, its word says its level, and past 6 and 17 the rows that are walked are those of the scan.
 -- Assumes nothing.
-use Prim.Native.Nat.{ℕ}
+use Prim.Native.Nat.{ℕ, _≤_}
+use native.Mathlib.Omega.{arith}
 use mathlib.Core.Path.{_≡_, refl, sym, ap, _∙_}
 use mathlib.Core.Bool.{Bool, true, false}
 use mathlib.Core.List.{List}
@@ -16,15 +17,19 @@ use Rattle.mesh.specs.Picture.{table}
 use Rattle.mesh.specs.Refusal.{refusal}
 use Rattle.mesh.specs.Scan.{permutation, scan, scanChecks}
 use Rattle.mesh.specs.Call.{Lent, lentChecks, stateOf, unless, wrote, scanCall}
-use Rattle.walk.specs.Calls.{levelOf, rowScan, rowScanOut}
+use Rattle.walk.specs.Plain.{Plain}
+use Rattle.walk.specs.Calls.{levelOf, rowScan, Few, rowScanOut}
+use Rattle.walk.proofs.Answers.{Open, opened}
 use Rattle.geometry.proofs.Bools.{is-yes}
 use Rattle.numbering.proofs.Entries.{used-is}
 use Rattle.pictures.proofs.Pictured.{level-word}
 use Rattle.pictures.proofs.Taken.{taken-row}
+use Rattle.walking.proofs.Few.{scan-few}
 use Rattle.walking.proofs.Rowing.{row-scan}
-use Rattle.calling.proofs.Called.{checks-after, by-picture}
+use Rattle.walking.proofs.Plainly.{plain-picture}
+use Rattle.calling.proofs.Called.{checks-after, by-picture, of-picture}
 
-module _ (n : ℕ) (o : List ℕ) (k : ℕ) (from to : ℤ) (out : List ℕ) where
+module _ (n : ℕ) (o : List ℕ) (k : ℕ) (from to : ℤ) where
   module _ (s : State) (v : Valid s) where
     level-there : T (isUsed (entry (s .entries) n)) → levelOf (table s) n ≡ level (gridOf s) (placeAt (s .entries) n)
     level-there t =
@@ -35,10 +40,16 @@ module _ (n : ℕ) (o : List ℕ) (k : ℕ) (from to : ℤ) (out : List ℕ) whe
     unfolding rowScan
     scan-there t u = rw (level-there t) (sym (row-scan s v n o k from to t u))
 
+    few-there : Few (table s) (capacity s) (base (gridOf s)) n o k from to
+    few-there e =
+        let h = opened (table s) (capacity s) n o k from to e in
+        let t = is-yes (isUsed (entry (s .entries) n)) (sym (taken-row s v n) ∙ h .used) in
+        omega (arith, ap length (scan-there t (h .order)), scan-few s v n o k from to t (h .order))
+
     -- where 6 or 17 is given, what would be written is not looked at
-    scan-picture : wrote (refusal (scanChecks s (length out) n o k from to)) (scan s n o k from to) out ≡ rowScanOut (table s) (capacity s) (base (gridOf s)) n o k from to out
+    scan-picture : (out : List ℕ) → wrote (refusal (scanChecks s (length out) n o k from to)) (scan s n o k from to) out ≡ rowScanOut (table s) (capacity s) (base (gridOf s)) n o k from to out
     unfolding scanChecks rowScanOut refusal unless
-    scan-picture = go (isUsed (entry (s .entries) n)) (permutation o) refl refl
+    scan-picture out = go (isUsed (entry (s .entries) n)) (permutation o) refl refl
       where
         go : (a b : Bool) → isUsed (entry (s .entries) n) ≡ a → permutation o ≡ b
             → wrote (refusal (scanChecks s (length out) n o k from to)) (scan s n o k from to) out ≡ rowScanOut (table s) (capacity s) (base (gridOf s)) n o k from to out
@@ -49,9 +60,17 @@ module _ (n : ℕ) (o : List ℕ) (k : ℕ) (from to : ℤ) (out : List ℕ) whe
             rw (taken-row s v n, level-there t, scan-there t (is-yes (permutation o) f))
 
   -- the scan call, by rows
-  pub scan-call : (cap : ℕ) (l : Lent) → refusal (lentChecks cap l) ≡ 0
+  pub scan-call : (out : List ℕ) (cap : ℕ) (l : Lent) → refusal (lentChecks cap l) ≡ 0
       → scanCall cap l n o k from to out ≡ rowScanOut (l .words) cap (base (l .header .grid)) n o k from to out
   unfolding scanCall
-  scan-call cap l h =
+  scan-call out cap l h =
       ap (λ (r : ℕ). wrote r (scan (stateOf l) n o k from to) out) (checks-after cap l h (scanChecks (stateOf l) (length out) n o k from to))
-      ∙ by-picture cap l h (λ s. wrote (refusal (scanChecks s (length out) n o k from to)) (scan s n o k from to) out) (λ g t v c. rowScanOut t c (base (g .grid)) n o k from to out) scan-picture
+      ∙ by-picture cap l h (λ s. wrote (refusal (scanChecks s (length out) n o k from to)) (scan s n o k from to) out) (λ g t v c. rowScanOut t c (base (g .grid)) n o k from to out) (λ s v. scan-picture s v out)
+
+  -- and it lists no more numbers than the table has rows
+  pub few-lent : (cap : ℕ) (l : Lent) → refusal (lentChecks cap l) ≡ 0 → Few (l .words) cap (base (l .header .grid)) n o k from to
+  few-lent cap l h = of-picture cap l h (λ g t c. Few t c (base (g .grid)) n o k from to) few-there
+
+-- what was lent can be read as it stands
+pub plain-lent : (cap : ℕ) (l : Lent) → cap ≤ 4095 → refusal (lentChecks cap l) ≡ 0 → Plain (l .words) cap (base (l .header .grid))
+plain-lent cap l small h = of-picture cap l h (λ g t c. c ≤ 4095 → Plain t c (base (g .grid))) plain-picture small

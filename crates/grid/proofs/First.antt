@@ -20,8 +20,9 @@ use Rattle.mesh.specs.Call.{Lent, picture, stateOf, outside, no1, lentChecks, c
 use Rattle.geometry.proofs.Ranges.{within-outside, outside-within}
 use Rattle.geometry.proofs.Base.{base-range}
 use lib.IntN.{ℤ}
-use Rattle.walk.specs.Calls.{rowScanOut, rowLookupOut}
-use Rattle.calling.proofs.Scanned.{scan-call}
+use Rattle.walk.specs.Plain.{Plain}
+use Rattle.walk.specs.Calls.{Few, rowScanOut, rowLookupOut}
+use Rattle.calling.proofs.Scanned.{scan-call, few-lent, plain-lent}
 use Rattle.calling.proofs.Looked.{lookup-call}
 use Rattle.mesh.specs.Place.{base}
 use Rattle.page.specs.Rows.{rowOut}
@@ -125,6 +126,16 @@ unfolding checkCall
 scan-done cap l n o k {from} {to} {from′} {to′} out d w ok e f g h =
     let same : rowScanOut (l .words) cap d n o k from′ to′ out ≡ rowScanOut (l .words) cap (base (l .header .grid)) n o k from to out = λ i. rowScanOut (l .words) cap (e i) n o k (f i) (g i) out in
     h ∙ same ∙ sym (scan-call n o k from to out cap l ok)
+
+-- what a scan asks of what is lent
+pub lent-plain : (cap : ℕ) (l : Lent) (d : ℕ) → checkCall cap l ≡ 0 → d ≡ base (l .header .grid) → Plain (l .words) cap d
+unfolding checkCall
+lent-plain cap l d ok e = rw e (plain-lent cap l (sizes cap l ok .high) ok)
+
+pub lent-few : (cap : ℕ) (l : Lent) (n : ℕ) (o : List ℕ) (k : ℕ) {from to from′ to′ : ℤ} (d : ℕ) → checkCall cap l ≡ 0 → d ≡ base (l .header .grid)
+    → from′ ≡ from → to′ ≡ to → Few (l .words) cap d n o k from′ to′
+unfolding checkCall
+lent-few cap l n o k {from} {to} {from′} {to′} d ok e f g = rw (e, f, g) (few-lent n o k from to cap l ok)
 
 pub lookup-done : (cap : ℕ) (l : Lent) (x y : ℕ) (d : ℕ) (w : Found) → checkCall cap l ≡ 0 → d ≡ base (l .header .grid)
     → w ≡ rowLookupOut (l .words) (l .values) cap d x y → w ≡ lookupCall cap l x y

@@ -1,6 +1,6 @@
 -- What a scan and a lookup answer where a branch of the code has decided a test.
 -- Assumes nothing.
-use Prim.Native.Nat.{ℕ, zero, suc, _+_, _≤_, _<_, min}
+use Prim.Native.Nat.{ℕ, zero, suc, _≤_}
 use native.Mathlib.Omega.{arith}
 use mathlib.Core.Path.{_≡_, refl, sym, _∙_}
 use mathlib.Core.Logic.{_≢_}
@@ -11,7 +11,7 @@ use lib.ListN.{length, getD}
 use lib.IntN.{ℤ, _-ℤ_, natAbs}
 use lib.Ieee.{Float}
 use lib.Signed.{leZ, ltZ}
-use borrow.Author.Tests.{eq-eqb, ne-eqb, lt-ltb, le-ltb, not-false}
+use borrow.Author.Tests.{eq-eqb, ne-eqb, lt-ltb, le-ltb, leb-true, leb-false, not-false}
 use Rattle.mesh.specs.Tools.{all}
 use Rattle.mesh.specs.State.{Value, blank, measured, carried, plusZero}
 use Rattle.mesh.specs.Refusal.{Check, refusal}
@@ -24,7 +24,7 @@ use Rattle.numbering.proofs.Checks.{passes, kept}
 use Rattle.walk.specs.Rows.{kidsWord, scans, rowWalk, rowLookup}
 use Rattle.walk.specs.Written.{Wrote}
 use Rattle.walk.specs.Calls.{levelOf, startChecks, rowScan, rowScanOut, written, rowValue, rowLookupOut}
-use Rattle.walk.proofs.Orders.{permutation-words}
+use Rattle.walk.proofs.Orders.{permutation-length, permutation-words}
 use Rattle.walk.proofs.Levels.{not-below, level-trans}
 use Rattle.walk.proofs.Writing.{wrote-whole}
 
@@ -32,7 +32,11 @@ use Rattle.walk.proofs.Writing.{wrote-whole}
 
 -- what a scan that is not refused by 6 or 17 has
 pub record Open (t : List ℤ) (cap n : ℕ) (o : List ℕ) (k : ℕ) (to : ℤ) : Type 0 where
+  pub used : taken t cap n ≡ true
+  pub order : T (permutation o)
+  pub first : 1 ≤ n
   pub within : n ≤ cap
+  pub four : length o ≡ 4
   pub words : T (all kidsWord o)
   pub small : k ≤ 6
   pub low : T (leZ (levelOf t n) to)
@@ -67,9 +71,14 @@ module _ (t : List ℤ) (cap n : ℕ) (o : List ℕ) (k : ℕ) (from to : ℤ) w
         let (p, h) = neither (not (permutation o)) _ (passed .1) in
         let (q, h′) = neither (not (leb 1 k && leb k 6)) _ h in
         let (u, w) = neither (ltZ from (levelOf t n)) (ltZ to from) h′ in
+        let order = is-yes (permutation o) (not-false (permutation o) p) in
         record {
+          used = passed .0;
+          order = order;
+          first = taken-within t cap n (passed .0) .0;
           within = taken-within t cap n (passed .0) .1;
-          words = permutation-words o (is-yes (permutation o) (not-false (permutation o) p));
+          four = permutation-length o order;
+          words = permutation-words o order;
           small = leb→le k 6 (and-right (leb 1 k) (leb k 6) (is-yes (leb 1 k && leb k 6) (not-false (leb 1 k && leb k 6) q)));
           low = level-trans (levelOf t n) from to (not-below from (levelOf t n) u) (not-below to from w);
         }
@@ -88,18 +97,18 @@ module _ (t : List ℤ) (cap n : ℕ) (o : List ℕ) (k : ℕ) (from to : ℤ) w
         go zero z = absurd (z refl)
         go (suc r) z = refl
 
-    module _ (m : ℕ) (e : refusal start ≡ 0) (c : m ≡ min (0 + length xs) (length out + 1)) where
-      pub short-scan : length out < m → written (record { why = 18; count = 0 }) out ≡ rowScanOut t cap d n o k from to out
+    module _ (e : refusal start ≡ 0) where
+      pub short-scan : leb (length xs) (length out) ≡ false → written (record { why = 18; count = 0 }) out ≡ rowScanOut t cap d n o k from to out
       unfolding rowScanOut refusal unless
       short-scan h =
           let (x, y) = passed e in
-          rw (x, y, lt-ltb (length out) (length xs) (omega arith))
+          rw (x, y, lt-ltb (length out) (length xs) (leb-false (length xs) (length out) h))
 
-      pub whole-scan : m ≤ length out → (g : List ℕ) (q : ℕ) → Wrote out 0 xs g q → written (record { why = 0; count = q }) g ≡ rowScanOut t cap d n o k from to out
+      pub whole-scan : leb (length xs) (length out) ≡ true → (g : List ℕ) (q : ℕ) → Wrote out 0 xs g q → written (record { why = 0; count = q }) g ≡ rowScanOut t cap d n o k from to out
       unfolding rowScanOut refusal unless
       whole-scan h g q w =
           let (x, y) = passed e in
-          let l : length xs ≤ length out = omega arith in
+          let l = leb-true (length xs) (length out) h in
           let (i, j) = wrote-whole l w in
           rw (x, y, le-ltb (length out) (length xs) l, i, j)
 

@@ -46,14 +46,18 @@ count-all f (w ∷ o) h = go (f w) refl (count-all f o)
     go true e ih = ih (let h′ : suc (length o) ≤ 1 + count f o = rw e at h in omega arith)
     go false e ih = absurd (let h′ : suc (length o) ≤ 0 + count f o = rw e at h in omega (arith, count-le f o))
 
--- a permutation has no other words
+-- a permutation has four words
+pub permutation-length : (o : List ℕ) → T (permutation o) → length o ≡ 4
+permutation-length o t = eqb→eq (length o) 4 (and-left (eqb (length o) 4) (any (eqb 1) o && (any (eqb 2) o && (any (eqb 3) o && any (eqb 4) o))) t)
+
+-- and no other
 pub permutation-words : (o : List ℕ) → T (permutation o) → T (all kidsWord o)
 permutation-words o t =
     let a = any (eqb 1) o in
     let b = any (eqb 2) o in
     let c = any (eqb 3) o in
     let d = any (eqb 4) o in
-    let l = eqb→eq (length o) 4 (and-left (eqb (length o) 4) (a && (b && (c && d))) t) in
+    let l = permutation-length o t in
     let t₁ = and-right (eqb (length o) 4) (a && (b && (c && d))) t in
     let t₂ = and-right a (b && (c && d)) t₁ in
     let t₃ = and-right b (c && d) t₂ in

@@ -5,28 +5,32 @@ use native.Mathlib.Nat.{one-mul, one-le-pow, div-eq-of-lt, div-lt-iff-lt-mul}
 use native.Mathlib.Omega.{arith}
 use native.Mathlib.Decide.{decLt}
 use native.Mathlib.Numerals.{add-one}
-use mathlib.Core.Path.{_≡_, refl, sym, ap, _∙_}
+use mathlib.Core.Path.{_≡_, refl, sym, ap, _∙_, subst}
 use mathlib.Core.Logic.{_≢_}
-use mathlib.Core.Bool.{Bool, true, false, _&&_, cond}
+use mathlib.Core.Bool.{Bool, true, false, not, _&&_, cond}
 use mathlib.Core.List.{List, [], _∷_, _++_, map, append-nil, append-assoc}
-use lib.Dec.{T, leb, ltb, leb→le}
+use lib.Dec.{T, eqb, leb, ltb, leb→le, eqb→eq}
 use lib.IntN.{ℤ, pos}
 use lib.ListN.{length, getD, take}
 use lib.Seq.{take-all}
 use lib.Signed.{leZ}
-use borrow.Author.Tests.{eq-eqb, ne-eqb, lt-ltb, le-ltb}
+use borrow.Author.Tests.{eq-eqb, ne-eqb, lt-ltb, le-ltb, le-leb, not-true, not-false}
 use Rattle.mesh.specs.Tools.{all, flat}
 use Rattle.mesh.specs.Picture.{rowWords}
-use Rattle.table.specs.Words.{linkOf}
+use Rattle.table.specs.Words.{wordOf, linkOf}
 use Rattle.table.specs.Worked.{kidWord}
-use Rattle.geometry.proofs.Bools.{and-right}
+use Rattle.geometry.proofs.Bools.{is-yes, and-left, and-right}
 use Rattle.geometry.proofs.Lists.{all-at}
-use Rattle.walk.specs.Rows.{kidsWord, leafRow, fromLevel, scans, rowWalk, rowFind, rowLookup}
+use Rattle.walk.specs.Rows.{kidsWord, isEnd, leafRow, fromLevel, scans, rowWalk, rowsBelow, rowFind, rowLookup}
 
 -- ---- tests
 
-pub both : {a b x y : Bool} → a ≡ x → b ≡ y → (a && b) ≡ (x && y)
-both e h = rw (e, h)
+-- a test that the code makes first, and the one it makes then
+pub not-first : (a : Bool) {x : Bool} (y : Bool) → a ≡ x → not a ≡ true → false ≡ (x && y)
+not-first a y e h = rw (← e, not-true a h)
+
+pub then-second : (a : Bool) {x y b : Bool} → a ≡ x → not a ≡ false → b ≡ y → b ≡ (x && y)
+then-second a e h i = rw (← e, not-false a h) i
 
 pub level-test : (t : List ℤ) (cap d n : ℕ) {a z x : ℤ} → a ≡ z → x ≡ getD t (n * rowWords + 9) (pos 0) → leZ a x ≡ fromLevel t cap d z n
 unfolding fromLevel
@@ -56,6 +60,10 @@ module _ (part : ℕ → List ℕ) where
 
 -- ---- walks
 
+pub not-end : (t : List ℤ) (l n : ℕ) → isEnd t l n ≡ false → l ≢ 0
+not-end t zero n e z = absurd (subst T e tt)
+not-end t (suc l) n e z = omega (arith, z)
+
 module _ (t : List ℤ) (cap d : ℕ) (f : ℕ → Bool) (o : List ℕ) where
   -- the part of the kid of a word
   abbrev pub kidPart : ℕ → ℕ → ℕ → List ℕ
@@ -81,13 +89,58 @@ module _ (t : List ℤ) (cap d : ℕ) (f : ℕ → Bool) (o : List ℕ) where
           let p : suc k - 1 ≡ k = omega arith in
           rw (ne-eqb n 0 z) (ap (λ (m : ℕ). cond (f n) (n ∷ []) [] ++ flat (map (λ w. rowWalk t cap d f o m (linkOf t cap n w)) o)) p)
 
+  -- where the row is an end, no kid word names a row
+  module _ (n : ℕ) (h : (eqb (wordOf t n 1) 0 && (eqb (wordOf t n 2) 0 && (eqb (wordOf t n 3) 0 && eqb (wordOf t n 4) 0))) ≡ true) where
+    abbrev z : ℕ → Bool
+    z w = eqb (wordOf t n w) 0
+
+    all-zero : T (z 1 && (z 2 && (z 3 && z 4)))
+    all-zero = is-yes (z 1 && (z 2 && (z 3 && z 4))) h
+
+    from-2 : T (z 2 && (z 3 && z 4))
+    from-2 = and-right (z 1) (z 2 && (z 3 && z 4)) all-zero
+
+    from-3 : T (z 3 && z 4)
+    from-3 = and-right (z 2) (z 3 && z 4) from-2
+
+    no-kid : (w : ℕ) → T (kidsWord w) → wordOf t n w ≡ 0
+    no-kid zero k = absurd k
+    no-kid (suc zero) k = eqb→eq (wordOf t n 1) 0 (and-left (z 1) (z 2 && (z 3 && z 4)) all-zero)
+    no-kid (suc (suc zero)) k = eqb→eq (wordOf t n 2) 0 (and-left (z 2) (z 3 && z 4) from-2)
+    no-kid (suc (suc (suc zero))) k = eqb→eq (wordOf t n 3) 0 (and-left (z 3) (z 4) from-3)
+    no-kid (suc (suc (suc (suc zero)))) k = eqb→eq (wordOf t n 4) 0 (and-right (z 3) (z 4) from-3)
+    no-kid (suc (suc (suc (suc (suc w))))) k =
+        let m = suc (suc (suc (suc (suc w)))) in
+        absurd (omega (arith, leb→le m 4 (and-right (leb 1 m) (leb m 4) k)))
+
+    none-below : (l : ℕ) (ws : List ℕ) → T (all kidsWord ws) → flat (map (λ w. rowWalk t cap d f o l (linkOf t cap n w)) ws) ≡ []
+    unfolding linkOf
+    none-below l [] k = refl
+    none-below l (w ∷ ws) k =
+        let e : wordOf t n w ≡ 0 = no-kid w (and-left (kidsWord w) (all kidsWord ws) k) in
+        let i : linkOf t cap n w ≡ 0 = rw (e, le-leb 0 cap (omega arith)) in
+        rw (i, ← walk-none l 0 refl) (none-below l ws (and-right (kidsWord w) (all kidsWord ws) k))
+
+  pub walk-end : (l n : ℕ) {b : Bool} → b ≡ f n → n ≢ 0 → T (all kidsWord o) → isEnd t l n ≡ true → cond b (n ∷ []) [] ≡ rowWalk t cap d f o l n
+  unfolding rowWalk
+  walk-end zero n h z k e = rw (ne-eqb n 0 z, h)
+  walk-end (suc l) n h z k e =
+      let e′ = rw (ne-eqb (suc l) 0 (λ y. omega arith)) at e in
+      rw (ne-eqb n 0 z, h, none-below n e′ l o k) (sym (append-nil _))
+
   -- one kid more
   pub kid-more : (l n q k : ℕ) → q < length o → k ≡ linkOf t cap n (getD o q 0) → parts (kidPart l n) o q ++ rowWalk t cap d f o (l - 1) k ≡ parts (kidPart l n) o (q + 1)
   kid-more l n q k h e = rw e (parts-more (kidPart l n) o q h)
 
+  pub kid-none : (l n q k : ℕ) → q < length o → k ≡ linkOf t cap n (getD o q 0) → k ≡ 0 → parts (kidPart l n) o q ≡ parts (kidPart l n) o (q + 1)
+  kid-none l n q k h e z = sym (append-nil _) ∙ ap (λ (xs : List ℕ). parts (kidPart l n) o q ++ xs) (walk-none (l - 1) k z) ∙ kid-more l n q k h e
+
 -- a scan from an equal level
 pub same-level : (t : List ℤ) (cap d kind : ℕ) (o : List ℕ) (l n : ℕ) {a z : ℤ} → a ≡ z → rowWalk t cap d (scans t cap d a kind) o l n ≡ rowWalk t cap d (scans t cap d z kind) o l n
 same-level t cap d kind o l n e = ap (λ z. rowWalk t cap d (scans t cap d z kind) o l n) e
+
+pub same-below : (t : List ℤ) (cap d kind : ℕ) (o : List ℕ) (l n : ℕ) {a z : ℤ} → a ≡ z → rowsBelow t cap d (scans t cap d a kind) o l n ≡ rowsBelow t cap d (scans t cap d z kind) o l n
+same-below t cap d kind o l n e = ap (λ z. rowsBelow t cap d (scans t cap d z kind) o l n) e
 
 -- ---- the way down to a leaf
 

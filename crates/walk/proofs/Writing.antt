@@ -7,8 +7,10 @@ use native.Mathlib.Decide.{decLe}
 use mathlib.Core.Path.{_≡_, refl, sym, ap, _∙_, subst}
 use mathlib.Core.Bool.{Bool, true, false, not, cond}
 use mathlib.Core.List.{List, [], _∷_, _++_}
+use lib.Dec.{leb}
 use lib.ListN.{length, set, drop, length-append}
 use lib.Seq.{sets, sets-eq, length-sets, set-out}
+use borrow.Author.Tests.{le-leb, lt-leb}
 use Rattle.walk.specs.Written.{Wrote}
 
 -- ---- lists
@@ -104,6 +106,14 @@ counted-more {xs = xs} {ys = ys} e h = record { next = omega (arith, length-appe
 
 pub counted-is : (n room : ℕ) (ys : List ℕ) {m : ℕ} {xs : List ℕ} → xs ≡ ys → Counted n xs room m → m ≡ min (n + length ys) room
 counted-is n room ys q e = counted-as q e .next
+
+-- a count up to one more than a size tells whether all of it fits
+pub counted-fits : (m n size : ℕ) → m ≡ min (0 + n) (size + 1) → leb m size ≡ leb n size
+counted-fits m n size e = go (decLe n size)
+  where
+    go : Dec (n ≤ size) → leb m size ≡ leb n size
+    go (yes h) = le-leb m size (omega arith) ∙ sym (le-leb n size h)
+    go (no h) = lt-leb m size (omega (arith, h)) ∙ sym (lt-leb n size (omega (arith, h)))
 
 -- ---- the whole
 

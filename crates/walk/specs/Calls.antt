@@ -1,6 +1,7 @@
 -- What a scan and a lookup answer by the rows, past the first checks.
 -- Assumes nothing.
-use Prim.Native.Nat.{ℕ, _+_, _*_}
+use Prim.Native.Nat.{ℕ, _+_, _*_, _≤_}
+use mathlib.Core.Path.{_≡_}
 use mathlib.Core.Bool.{not, _&&_, _||_, cond}
 use mathlib.Core.List.{List, [], _∷_, _++_}
 use lib.Dec.{eqb, leb}
@@ -39,6 +40,10 @@ module _ (t : List ℤ) where
     -- "for levels from-level to to-level": down from the start's level to the last one
     unfoldable pub rowScan : List ℕ
     rowScan = rowWalk t cap d (scans t cap d from k) o (natAbs (to -ℤ levelOf n)) n
+
+    -- it lists no more numbers than the table has rows, as in every table that was checked
+    abbrev pub Few : Type 0
+    Few = refusal (startChecks cap n o k from to) ≡ 0 → length rowScan ≤ cap + 1
 
     -- and 18: "output too short"
     unfoldable pub rowScanOut : List ℕ → Wrote

@@ -1,6 +1,6 @@
 -- Scan and lookup as the code meets the rows: down kid by kid, one level less left at each step.
 -- Assumes nothing.
-use Prim.Native.Nat.{ℕ, zero, suc, _+_, _*_, _/_, _%_, _^_}
+use Prim.Native.Nat.{ℕ, zero, suc, _+_, _-_, _*_, _/_, _%_, _^_}
 use mathlib.Core.Bool.{Bool, _&&_, _||_, cond}
 use mathlib.Core.List.{List, [], _∷_, _++_, map}
 use lib.Dec.{eqb, leb, ltb}
@@ -9,12 +9,16 @@ use lib.IntN.{ℤ, pos}
 use lib.Signed.{leZ}
 use Rattle.mesh.specs.Tools.{flat}
 use Rattle.mesh.specs.Picture.{rowWords}
-use Rattle.table.specs.Words.{linkOf, flagOf, depthOf}
+use Rattle.table.specs.Words.{wordOf, linkOf, flagOf, depthOf}
 use Rattle.table.specs.Worked.{kidWord}
 
 -- the word of a kid: NE 1, SE 2, SW 3, NW 4
 abbrev pub kidsWord : ℕ → Bool
 kidsWord w = leb 1 w && leb w 4
+
+-- nothing hangs under the row n with l levels left: none is, or no kid word names a row
+abbrev pub isEnd : List ℤ → ℕ → ℕ → Bool
+isEnd t l n = eqb l 0 || (eqb (wordOf t n 1) 0 && (eqb (wordOf t n 2) 0 && (eqb (wordOf t n 3) 0 && eqb (wordOf t n 4) 0)))
 
 module _ (t : List ℤ) (cap d : ℕ) where
   -- a cell has kids exactly if its NE kid word is not 0
@@ -43,6 +47,10 @@ module _ (t : List ℤ) (cap d : ℕ) where
   unfoldable pub rowWalk : (ℕ → Bool) → List ℕ → ℕ → ℕ → List ℕ
   rowWalk f o zero n = cond (eqb n 0) [] (cond (f n) (n ∷ []) [])
   rowWalk f o (suc l) n = cond (eqb n 0) [] (cond (f n) (n ∷ []) [] ++ flat (map (λ w. rowWalk f o l (linkOf t cap n w)) o))
+
+  -- those below n alone
+  abbrev pub rowsBelow : (ℕ → Bool) → List ℕ → ℕ → ℕ → List ℕ
+  rowsBelow f o l n = flat (map (λ w. rowWalk f o (l - 1) (linkOf t cap n w)) o)
 
   -- the leaf that holds a point, by the digits of its coordinates, so many levels down from the row n; 0 where there is none
   unfoldable pub rowFind : ℕ → ℕ → ℕ → ℕ → ℕ

@@ -1,18 +1,20 @@
 // Scan and lookup as calls that passed the first checks: refused by a number, or answered.
 ghost use mathlib.Core.Path.{_≡_};
 ghost use Prim.Native.Nat.{_+_, _*_, _<_, _≤_};
-ghost use lib.Dec.{T, eqb};
+ghost use lib.Dec.{T, eqb, leb};
 ghost use lib.ListN.{length};
 ghost use lib.IntN.{_-ℤ_, natAbs};
 ghost use lib.Signed.{leZ};
-ghost use Rattle.mesh.specs.Tools.{any};
+ghost use Rattle.mesh.specs.Tools.{any, all};
 ghost use Rattle.mesh.specs.Picture.{rowWords};
 ghost use Rattle.mesh.specs.Refusal.{refusal};
 ghost use Rattle.mesh.specs.Scan.{permutation};
-ghost use Rattle.walk.specs.Calls.{startChecks, rowScanOut, written, valueOfReading, rowValue, foundOf, rowLookupOut};
-use crate::count_rows;
+ghost use Rattle.walk.specs.Rows.{kidsWord, scans, rowWalk};
+ghost use Rattle.walk.specs.Plain.{Plain};
+ghost use Rattle.walk.specs.Calls.{startChecks, Few, rowScanOut, written, valueOfReading, rowValue, foundOf, rowLookupOut};
 use crate::lookup_row;
-use crate::scan_rows;
+use crate::scans::count_rows;
+use crate::scans::scan_rows;
 use table::values::value;
 use table::words::coded;
 use table::words::is_taken;
@@ -80,7 +82,29 @@ fn scan_refusal(
     0
 }
 
-// Writes the numbers of the rows that a scan lists, if the output is long enough: counted first, so that nothing is written before it is known.
+// Whether the output is long enough for what a scan lists from the row n on. That is no longer than the table, so it is counted only where the
+// output is shorter.
+fn has_room(
+    t: &[i32],
+    cap: usize,
+    d: u32,
+    n: usize,
+    left: u32,
+    order: &[u8; 4],
+    kind: u8,
+    from: i32,
+    size: usize,
+) -> bool
+    requires { ⌜ Plain (now t) cap d × (n ≤ cap) × (1 ≤ n) × (length (now order) ≡ 4) × T (all kidsWord (now order)) × (length (rowWalk (now t) cap d (scans (now t) cap d from kind) (now order) left n) ≤ cap + 1) ⌝ }
+    ensures { λ r. ⌜ r ≡ leb (length (rowWalk (now (t .entry)) cap d (scans (now (t .entry)) cap d from kind) (now (order .entry)) left n)) size ⌝ }
+{
+    if cap < size {
+        return true;
+    }
+    count_rows(t, cap, d, n, left, order, kind, from, size + 1) <= size
+}
+
+// Writes the numbers of the rows that a scan lists, if the output is long enough: that is known before the first is written.
 pub fn scan_out(
     t: &[i32],
     cap: usize,
@@ -92,7 +116,7 @@ pub fn scan_out(
     to: i32,
     out: &mut [u16],
 ) -> ScanOut
-    requires { ⌜ (cap * rowWords + rowWords ≤ length (now t)) × (cap ≤ 4095) × (d ≤ 32) ⌝ }
+    requires { ⌜ Plain (now t) cap d × Few (now t) cap d start order kind from to ⌝ }
     ensures { λ r. ⌜ written r (now (out .exit)) ≡ rowScanOut (now (t .entry)) cap d start order kind from to (now (out .entry)) ⌝ }
 {
     let n = start as usize;
@@ -102,13 +126,10 @@ pub fn scan_out(
     }
     let left = levels(raw(t, n, 9), to);
     let k = kind as u8;
-    let size = out.len();
-    let room = size + 1;
-    let m = count_rows(t, cap, d, n, left, order, k, from, room, 0);
-    if size < m {
+    if !has_room(t, cap, d, n, left, &order, k, from, out.len()) {
         return ScanOut { why: 18, count: 0 };
     }
-    let count = scan_rows(t, cap, d, n, left, order, k, from, out, 0);
+    let count = scan_rows(t, cap, d, n, left, &order, k, from, out);
     ScanOut { why: 0, count }
 }
 

@@ -10,3 +10,4 @@ pub mod Counts
 pub mod Lookups
 pub mod Rowing
 pub mod Finding
+pub mod Plainly

@@ -1,11 +1,10 @@
 -- `grid::scan` meets its contract: the first checks refuse, or what is lent is a picture and the scan by rows is the call's.
 -- Assumes nothing.
 use borrow.Author.Needs.{needs}
-use native.Mathlib.Omega.{arith}
 use mathlib.Core.Path.{sym, _∙_}
 use mir.Facts.{toZ-ofZ}
 use Rattle.grid.specs.Calls.{lentOf}
-use Rattle.grid.proofs.First.{sizes, shallow, scan-first, scan-done}
+use Rattle.grid.proofs.First.{lent-plain, lent-few, scan-first, scan-done}
 use Rattle.grid.proofs.scan.Statement.{statement}
 use Rattle.grid.proofs.scan.Tie as tie
 use Rattle.grid.proofs.scan.Reads as reads
@@ -25,10 +24,12 @@ ground-depth-requires c κs = search needs
 
 scan-out-requires : tie.Need-scan-out-requires
 scan-out-requires c κs =
-    let s = sizes _ _ (sym (c .before .before .before .check .ensures) ∙ c .before .before .if1 .left) in
-    let d = shallow _ _ s in
+    let start = c .before .before .before .before .before .before in
+    let a = start .args in
+    let l = lentOf (a .header) (a .table .now) (a .values .now) in
+    let ok = sym (c .before .before .before .check .ensures) ∙ c .before .before .if1 .left in
     let e = c .before .ground-depth .ensures in
-    (omega (arith, s .words), s .high, omega (arith, d, e))
+    (lent-plain (a .capacity) l _ ok e, lent-few (a .capacity) l (a .start) (a .order) (a .kind) _ ok e (toZ-ofZ (start .fits .from)) (toZ-ofZ (start .fits .to)))
 
 same-length : tie.Need-same-length
 same-length c = search needs

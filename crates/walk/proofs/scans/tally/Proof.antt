@@ -1,9 +1,9 @@
--- `walk::tally` meets its contract, by whether the number is asked for and fits.
+-- `walk::scans::tally` meets its contract, by whether the number is asked for and fits.
 -- Assumes nothing.
 use borrow.Author.Needs.{needs}
 use Rattle.walk.proofs.Writing.{tally-none, tally-one, tally-full}
-use Rattle.walk.proofs.tally.Statement.{statement}
-use Rattle.walk.proofs.tally.Tie as tie
+use Rattle.walk.proofs.scans.tally.Statement.{statement}
+use Rattle.walk.proofs.scans.tally.Tie as tie
 
 returns : tie.Need-returns
 returns c = (search needs, tally-none (c .before .args .asked) _ _ (c .if1 .taken) (search needs))

@@ -1,11 +1,11 @@
--- `walk::from_level` meets its contract: the signed words that are compared are those that the code reads.
+-- `walk::scans::from_level` meets its contract: the signed words that are compared are those that the code reads.
 -- Assumes nothing.
 use mathlib.Core.Path.{_∙_}
 use mir.Facts.{toZ-ofZ}
 use borrow.Author.Needs.{needs, sfits-of}
 use Rattle.walk.proofs.Steps.{level-test}
-use Rattle.walk.proofs.from_level.Statement.{statement}
-use Rattle.walk.proofs.from_level.Tie as tie
+use Rattle.walk.proofs.scans.from_level.Statement.{statement}
+use Rattle.walk.proofs.scans.from_level.Tie as tie
 
 raw-requires : tie.Need-raw-requires
 raw-requires c κs = search needs

@@ -1,9 +1,9 @@
--- `walk::push` meets its contract, by whether the number is asked for and fits.
+-- `walk::scans::push` meets its contract, by whether the number is asked for and fits.
 -- Assumes nothing.
 use borrow.Author.Needs.{needs}
 use Rattle.walk.proofs.Writing.{push-none, push-one, push-full}
-use Rattle.walk.proofs.push.Statement.{statement}
-use Rattle.walk.proofs.push.Tie as tie
+use Rattle.walk.proofs.scans.push.Statement.{statement}
+use Rattle.walk.proofs.scans.push.Tie as tie
 
 returns : tie.Need-returns
 returns c = push-none (c .before .args .asked) _ _ _ (c .if1 .taken) (search needs)
