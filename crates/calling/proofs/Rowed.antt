@@ -1,7 +1,8 @@
 -- In the picture of a valid state the page that is made row by row is the dossier page: the walk over the rows lists the leaves, and the words
--- of a leaf's row are its place's, its status and its value.
+-- of a leaf's row are its place's, its status and its value. There are no more leaves than the table has numbers.
 -- Assumes nothing.
 use Prim.Native.Nat.{ℕ, _+_, _≤_}
+use native.Mathlib.Omega.{arith}
 use borrow.Author.Tests.{le-ltb, eq-eqb}
 use mathlib.Core.Path.{_≡_, refl, sym, ap, _∙_}
 use mathlib.Core.Logic.{_≢_}
@@ -10,7 +11,7 @@ use mathlib.Core.Option.{some}
 use mathlib.Core.List.{List, [], _∷_, map}
 use lib.Dec.{T, eqb}
 use lib.IntN.{natAbs, subℕ}
-use lib.ListN.{getD}
+use lib.ListN.{length, getD}
 use lib.Ieee.{toBits, binary64}
 use Rattle.mesh.specs.Tools.{any, flat, orElse}
 use Rattle.mesh.specs.Place.{Place, Grid, SW, NW, SE, NE, base, level, root}
@@ -21,7 +22,7 @@ use Rattle.mesh.specs.Picture.{table, amounts}
 use Rattle.mesh.specs.Page.{leaves, leafLine, body, page}
 use Rattle.table.specs.Words.{code, wordOf}
 use Rattle.walk.specs.Rows.{leafRow, rowWalk}
-use Rattle.page.specs.Rows.{bitsOf, rowLine, leavesFrom, linesOf, headLine, footLine, rowBody, rowPage}
+use Rattle.page.specs.Rows.{bitsOf, rowLine, leavesFrom, linesOf, headLine, footLine, bodyOf, pageOf, rowPage}
 use Rattle.geometry.proofs.Bools.{yes-is, or-left, or-right}
 use Rattle.geometry.proofs.Kids.{leaf-cell}
 use Rattle.numbering.proofs.Numbers.{valid-numbered, place-number}
@@ -29,6 +30,8 @@ use Rattle.pictures.proofs.Rows.{amounts-at}
 use Rattle.pictures.proofs.Pictured.{word-status, word-col, word-row, level-word}
 use Rattle.pictures.proofs.Soundness.{finite-amount}
 use Rattle.walking.proofs.Walks.{walk-met, root-stands}
+use Rattle.walking.proofs.Few.{walk-few}
+use Rattle.walking.proofs.Orders.{permutation-order}
 use Rattle.walking.proofs.Rowing.{row-walk, leaf-row}
 
 -- two functions that agree on a list's numbers map it alike
@@ -68,6 +71,14 @@ module _ (s : State) (v : Valid s) where
       ap (rowWalk (table s) (capacity s) 0 (leafRow (table s) (capacity s) 0) (3 ∷ 4 ∷ 2 ∷ 1 ∷ []) (base g + 12)) (sym root-number)
       ∙ row-walk s v 0 (leafRow (table s) (capacity s) 0) (leaf g c) leaf-agrees (3 ∷ 4 ∷ 2 ∷ 1 ∷ []) tt (base g + 12) root (root-stands s v)
 
+  -- a walk meets each number of the table at most once
+  pub leaves-few : length (leaves s) ≤ length es
+  unfolding leaves
+  leaves-few = walk-few s v (leaf g c) (SW ∷ NW ∷ SE ∷ NE ∷ []) (permutation-order (3 ∷ 4 ∷ 2 ∷ 1 ∷ []) tt) (base g + 12) root (root-stands s v)
+
+  pub row-few : length (leavesFrom (table s) (capacity s) (base g + 12) 1) ≤ capacity s + 1
+  row-few = omega (arith, leaves-few, ap length row-leaves)
+
   -- ---- lines
 
   row-bits : (n : ℕ) → bitsOf (getD (amounts s) n plusZero) ≡ toBits binary64 (amount (valueOf (entry es n)))
@@ -95,11 +106,11 @@ module _ (s : State) (v : Valid s) where
   unfolding linesOf
   row-lines = rw row-leaves (ap flat (map-where (rowLine (table s) (amounts s)) (leafLine s) (leaves s) row-line))
 
-  row-body : rowBody (g .columns) (g .rows) (s .header .mark) (table s) (amounts s) (capacity s) (base g) ≡ body s
-  unfolding rowBody headLine body
+  row-body : bodyOf (g .columns) (g .rows) (s .header .mark) (table s) (amounts s) (leavesFrom (table s) (capacity s) (base g + 12) 1) ≡ body s
+  unfolding bodyOf headLine body
   row-body = rw row-lines
 
   -- the page by rows is the page
   pub row-page : rowPage (g .columns) (g .rows) (s .header .mark) (table s) (amounts s) (capacity s) (base g) ≡ page s
-  unfolding rowPage footLine page
+  unfolding rowPage pageOf footLine page
   row-page = rw (row-body, row-leaves)

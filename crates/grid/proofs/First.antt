@@ -25,8 +25,8 @@ use Rattle.walk.specs.Calls.{Few, rowScanOut, rowLookupOut}
 use Rattle.calling.proofs.Scanned.{scan-call, few-lent, plain-lent}
 use Rattle.calling.proofs.Looked.{lookup-call}
 use Rattle.mesh.specs.Place.{base}
-use Rattle.page.specs.Rows.{rowOut}
-use Rattle.calling.proofs.Paged.{page-call}
+use Rattle.page.specs.Rows.{leavesFrom, rowOut}
+use Rattle.calling.proofs.Paged.{page-call, page-few}
 use Rattle.mesh.specs.Page.{pageChecks}
 use Rattle.geometry.proofs.Bools.{neither, yes-is, is-yes}
 use Rattle.numbering.proofs.Checks.{passes, kept}
@@ -143,6 +143,10 @@ unfolding checkCall
 lookup-done cap l x y d w ok e h = h ∙ ap (λ (d : ℕ). rowLookupOut (l .words) (l .values) cap d x y) e ∙ sym (lookup-call x y cap l ok)
 
 -- a page call that they let through
+pub page-listed : (cap : ℕ) (l : Lent) (d : ℕ) → checkCall cap l ≡ 0 → cap ≤ 4095 → d ≡ base (l .header .grid) → length (leavesFrom (l .words) cap (d + 12) 1) ≤ 4096
+unfolding checkCall
+page-listed cap l d ok h e = rw e (omega (arith, page-few cap l ok))
+
 pub page-done : (cap : ℕ) (l : Lent) (out : List ℕ) (d : ℕ) (w : Wrote) → checkCall cap l ≡ 0 → d ≡ base (l .header .grid)
     → w ≡ rowOut (l .header .grid .columns) (l .header .grid .rows) (l .header .mark) (l .words) (l .values) cap d out → w ≡ pageCall cap l out
 unfolding checkCall

@@ -1,5 +1,5 @@
--- What a pen draws, piece by piece, and the digits and lines that the pieces make.
-pub mod Draws
+-- What is put piece by piece, and the digits, lines and pages that the pieces make.
+pub mod Puts
 pub mod Digits
-pub mod Lines
-pub mod Whole
+pub mod Worded
+pub mod Paged

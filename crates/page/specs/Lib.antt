@@ -1,3 +1,3 @@
--- The dossier page, row by row, and what a pen draws.
+-- The dossier page, row by row, and what is put into a lent list.
 pub mod Rows
-pub mod Pens
+pub mod Puts

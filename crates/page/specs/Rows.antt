@@ -1,15 +1,16 @@
 -- The dossier page as the code makes it from the rows of a table and the values.
 -- Assumes nothing.
-use Prim.Native.Nat.{ℕ, _+_, _%_, _^_}
-use mathlib.Core.Bool.{cond}
+use Prim.Native.Nat.{ℕ, _+_, _*_, _%_, _^_, _≤_, _<_}
+use mathlib.Core.Bool.{Bool, _&&_, cond}
 use mathlib.Core.List.{List, [], _∷_, _++_, map}
-use lib.Dec.{ltb}
+use lib.Dec.{eqb, ltb}
 use lib.ListN.{length, getD}
 use lib.IntN.{ℤ}
 use lib.Ieee.{Float, toBits, binary64}
 use Rattle.mesh.specs.Tools.{flat}
 use Rattle.mesh.specs.State.{plusZero}
 use Rattle.mesh.specs.Valid.{finite}
+use Rattle.mesh.specs.Picture.{rowWords}
 use Rattle.mesh.specs.Page.{decimal, hexIn, line, letter, total}
 use Rattle.mesh.specs.Refusal.{refusal}
 use Rattle.mesh.specs.Scan.{no18}
@@ -44,6 +45,15 @@ linesOf t v ns = flat (map (rowLine t v) ns)
 unfoldable pub ownLeaf : List ℤ → ℕ → ℕ → List ℕ
 ownLeaf t cap n = cond (leafRow t cap 0 n) (n ∷ []) []
 
+-- a row whose kid words are all 0
+unfoldable pub bareRow : List ℤ → ℕ → Bool
+bareRow t n = eqb (wordOf t n 1) 0 && (eqb (wordOf t n 2) 0 && (eqb (wordOf t n 3) 0 && eqb (wordOf t n 4) 0))
+
+-- the rows ns are rows of a table of that capacity, and no more than it can have
+abbrev pub Listed : List ℤ → List Float → ℕ → List ℕ → Type 0
+Listed t v cap ns =
+    (cap * rowWords + rowWords ≤ length t) × (cap < length v) × (cap ≤ 4095) × (length ns ≤ 4096) × ((i : ℕ) → getD ns i 0 ≤ cap)
+
 -- "`map`, columns, rows, mark"
 unfoldable pub headLine : ℕ → ℕ → ℕ → List ℕ
 headLine columns rows mark = line ((109 ∷ 97 ∷ 112 ∷ []) ∷ decimal columns ∷ decimal rows ∷ decimal mark ∷ [])
@@ -52,17 +62,22 @@ headLine columns rows mark = line ((109 ∷ 97 ∷ 112 ∷ []) ∷ decimal colum
 unfoldable pub footLine : ℕ → ℕ → List ℕ
 footLine leaves sum = line ((99 ∷ 101 ∷ 108 ∷ 108 ∷ 115 ∷ []) ∷ decimal leaves ∷ (115 ∷ 117 ∷ 109 ∷ []) ∷ decimal sum ∷ [])
 
+-- all lines but the last, for the leaves ns
+unfoldable pub bodyOf : ℕ → ℕ → ℕ → List ℤ → List Float → List ℕ → List ℕ
+bodyOf columns rows mark t v ns = headLine columns rows mark ++ linesOf t v ns
+
+unfoldable pub pageOf : ℕ → ℕ → ℕ → List ℤ → List Float → List ℕ → List ℕ
+pageOf columns rows mark t v ns =
+    let b = bodyOf columns rows mark t v ns in
+    b ++ footLine (length ns) (total b % 2 ^ 32)
+
 -- from the root down to level 12, with level 0 at depth d
-unfoldable pub rowBody : ℕ → ℕ → ℕ → List ℤ → List Float → ℕ → ℕ → List ℕ
-rowBody columns rows mark t v cap d = headLine columns rows mark ++ linesOf t v (leavesFrom t cap (d + 12) 1)
-
 unfoldable pub rowPage : ℕ → ℕ → ℕ → List ℤ → List Float → ℕ → ℕ → List ℕ
-rowPage columns rows mark t v cap d =
-    let b = rowBody columns rows mark t v cap d in
-    b ++ footLine (length (leavesFrom t cap (d + 12) 1)) (total b % 2 ^ 32)
+rowPage columns rows mark t v cap d = pageOf columns rows mark t v (leavesFrom t cap (d + 12) 1)
 
--- what a call answers that passes the first checks
+-- what a call answers that passes the first checks, for the page p
+abbrev pub pageOut : List ℕ → List ℕ → Wrote
+pageOut p out = wrote (refusal (no18 (length out) p ∷ [])) p out
+
 unfoldable pub rowOut : ℕ → ℕ → ℕ → List ℤ → List Float → ℕ → ℕ → List ℕ → Wrote
-rowOut columns rows mark t v cap d out =
-    let p = rowPage columns rows mark t v cap d in
-    wrote (refusal (no18 (length out) p ∷ [])) p out
+rowOut columns rows mark t v cap d out = pageOut (rowPage columns rows mark t v cap d) out

@@ -1,5 +1,5 @@
-// The dossier page: first drawn on nothing, to know its length, and then into the output.
-pub mod leaves;
+// The dossier page: its leaves are found once, its length is counted, and then it is put into the output.
+pub mod find;
+pub mod lines;
 pub mod pages;
-pub mod pens;
 pub mod words;

@@ -1,63 +1,108 @@
 // The page whole.
 ghost use mathlib.Core.Path.{_≡_};
-ghost use Prim.Native.Nat.{_+_, _*_, _<_, _≤_};
+ghost use Prim.Native.Nat.{_+_, _*_, _%_, _^_, _<_, _≤_};
+ghost use lib.Dec.{leb};
 ghost use lib.ListN.{length};
 ghost use Rattle.mesh.specs.Picture.{rowWords};
-ghost use Rattle.page.specs.Pens.{start, Drew, Drawn, written};
-ghost use Rattle.page.specs.Rows.{headLine, footLine, leavesFrom, rowBody, rowPage, rowOut};
-use crate::leaves::put_leaves;
-use crate::pens::Pen;
-use crate::pens::put_byte;
+ghost use Rattle.mesh.specs.Page.{total};
+ghost use Rattle.page.specs.Puts.{Put, written};
+ghost use Rattle.page.specs.Rows.{Listed, headLine, footLine, leavesFrom, bodyOf, pageOf, pageOut, rowOut};
+use crate::find::find_leaves;
+use crate::lines::lines_size;
+use crate::lines::lines_sum;
+use crate::lines::put_lines;
+use crate::lines::sum_of;
+use crate::words::digits;
+use crate::words::put_byte;
 use crate::words::put_decimal;
 use crate::words::put_number;
 use crate::words::put_text;
 
-// Draws the first line.
-fn put_head(out: &mut [u8], p: Pen, columns: u64, rows: u64, mark: u64) -> Pen
-    ensures { λ r. ⌜ Drew (now (out .entry)) p (headLine columns rows mark) 0 (now (out .exit)) r ⌝ }
+// No last line is longer.
+const LONGEST_FOOT: usize = 52;
+
+// Puts the first line.
+fn put_head(out: &mut [u8], columns: u32, rows: u32, mark: u32) -> usize
+    requires { ⌜ length (headLine columns rows mark) ≤ length (now out) ⌝ }
+    ensures { λ r. ⌜ Put (now (out .entry)) 0 (headLine columns rows mark) (now (out .exit)) r ⌝ }
 {
-    let a = put_text(out, p, b"map ");
+    let a = put_text(out, 0, b"map ");
     let b = put_number(out, a, columns);
     let c = put_number(out, b, rows);
-    let e = put_decimal(out, c, mark);
-    put_byte(out, e, b'\n')
+    let m = put_decimal(out, c, mark);
+    put_byte(out, m, b'\n')
 }
 
-// Draws the last line.
-fn put_foot(out: &mut [u8], p: Pen, leaves: u64, sum: u64) -> Pen
-    ensures { λ r. ⌜ Drew (now (out .entry)) p (footLine leaves sum) 0 (now (out .exit)) r ⌝ }
+// Puts the last line.
+fn put_foot(out: &mut [u8], at: usize, leaves: u32, sum: u32) -> usize
+    requires { ⌜ at + length (footLine leaves sum) ≤ length (now out) ⌝ }
+    ensures { λ r. ⌜ Put (now (out .entry)) at (footLine leaves sum) (now (out .exit)) r ⌝ }
 {
-    let a = put_text(out, p, b"cells ");
+    let a = put_text(out, at, b"cells ");
     let b = put_number(out, a, leaves);
     let c = put_text(out, b, b"sum ");
-    let e = put_decimal(out, c, sum);
-    put_byte(out, e, b'\n')
+    let m = put_decimal(out, c, sum);
+    put_byte(out, m, b'\n')
 }
 
-// Draws all lines but the last.
-fn put_body(
+// The length of all lines but the last.
+fn body_size(
     columns: u32,
     rows: u32,
     mark: u32,
     t: &[i32],
     v: &[f64],
     cap: usize,
-    d: u32,
-    out: &mut [u8],
-) -> Pen
-    requires { ⌜ (cap * rowWords + rowWords ≤ length (now t)) × (1 ≤ cap) × (cap < length (now v)) × (cap ≤ 4095) ⌝ }
-    ensures { λ r. ⌜ Drew (now (out .entry)) start (rowBody columns rows mark (now (t .entry)) (now (v .entry)) cap d) (length (leavesFrom (now (t .entry)) cap (d + 12) 1)) (now (out .exit)) r ⌝ }
+    leaves: &[u16],
+) -> usize
+    requires { ⌜ Listed (now t) (now v) cap (now leaves) ⌝ }
+    ensures { λ r. ⌜ (r ≤ 258085) × (r ≡ length (bodyOf columns rows mark (now (t .entry)) (now (v .entry)) (now (leaves .entry)))) ⌝ }
 {
-    let p = Pen {
-        at: 0,
-        sum: 0,
-        leaves: 0,
-    };
-    let q = put_head(out, p, columns as u64, rows as u64, mark as u64);
-    put_leaves(t, v, cap, d as usize + 12, 1, out, q)
+    let head = digits(columns) + digits(rows) + digits(mark) + 7;
+    head + lines_size(t, v, cap, leaves)
 }
 
-// Draws the page, and answers its length.
+// The sum of the bytes of all lines but the last.
+fn body_sum(
+    columns: u32,
+    rows: u32,
+    mark: u32,
+    t: &[i32],
+    v: &[f64],
+    cap: usize,
+    leaves: &[u16],
+) -> u32
+    requires { ⌜ Listed (now t) (now v) cap (now leaves) ⌝ }
+    ensures { λ r. ⌜ r ≡ total (bodyOf columns rows mark (now (t .entry)) (now (v .entry)) (now (leaves .entry))) % 2 ^ 32 ⌝ }
+{
+    let mut line = [0u8; 67];
+    let k = put_head(&mut line, columns, rows, mark);
+    lines_sum(t, v, cap, leaves, sum_of(&line[..k]))
+}
+
+// Whether the page has room. Its sum has to be known only where the length of the last line decides.
+fn fits(
+    columns: u32,
+    rows: u32,
+    mark: u32,
+    t: &[i32],
+    v: &[f64],
+    cap: usize,
+    leaves: &[u16],
+    room: usize,
+) -> bool
+    requires { ⌜ Listed (now t) (now v) cap (now leaves) ⌝ }
+    ensures { λ r. ⌜ r ≡ leb (length (pageOf columns rows mark (now (t .entry)) (now (v .entry)) (now (leaves .entry)))) room ⌝ }
+{
+    let size = body_size(columns, rows, mark, t, v, cap, leaves);
+    if size + LONGEST_FOOT <= room {
+        return true;
+    }
+    let sum = body_sum(columns, rows, mark, t, v, cap, leaves);
+    size + digits(leaves.len() as u32) + digits(sum) + 12 <= room
+}
+
+// Puts the page, and answers its length.
 fn put_page(
     columns: u32,
     rows: u32,
@@ -65,21 +110,43 @@ fn put_page(
     t: &[i32],
     v: &[f64],
     cap: usize,
-    d: u32,
+    leaves: &[u16],
     out: &mut [u8],
 ) -> usize
-    requires { ⌜ (cap * rowWords + rowWords ≤ length (now t)) × (1 ≤ cap) × (cap < length (now v)) × (cap ≤ 4095) ⌝ }
-    ensures { λ r. ⌜ Drawn (now (out .entry)) (rowPage columns rows mark (now (t .entry)) (now (v .entry)) cap d) (now (out .exit)) r ⌝ }
+    requires { ⌜ Listed (now t) (now v) cap (now leaves) × (length (pageOf columns rows mark (now t) (now v) (now leaves)) ≤ length (now out)) ⌝ }
+    ensures { λ r. ⌜ Put (now (out .entry)) 0 (pageOf columns rows mark (now (t .entry)) (now (v .entry)) (now (leaves .entry))) (now (out .exit)) r ⌝ }
 {
-    let p = put_body(columns, rows, mark, t, v, cap, d, out);
-    let q = put_foot(out, p, p.leaves as u64, p.sum as u64);
-    q.at
+    let a = put_head(out, columns, rows, mark);
+    let b = put_lines(t, v, cap, leaves, out, a);
+    let sum = sum_of(&out[..b]);
+    put_foot(out, b, leaves.len() as u32, sum)
 }
 
 // What came of a page: refusal 18 or 0, and how many bytes it has.
 pub struct PageOut {
     pub why: u32,
     pub count: usize,
+}
+
+// Writes the page of the leaves, if the output is long enough.
+fn write_leaves(
+    columns: u32,
+    rows: u32,
+    mark: u32,
+    t: &[i32],
+    v: &[f64],
+    cap: usize,
+    leaves: &[u16],
+    out: &mut [u8],
+) -> PageOut
+    requires { ⌜ Listed (now t) (now v) cap (now leaves) ⌝ }
+    ensures { λ r. ⌜ written r (now (out .exit)) ≡ pageOut (pageOf columns rows mark (now (t .entry)) (now (v .entry)) (now (leaves .entry))) (now (out .entry)) ⌝ }
+{
+    if !fits(columns, rows, mark, t, v, cap, leaves, out.len()) {
+        return PageOut { why: 18, count: 0 };
+    }
+    let count = put_page(columns, rows, mark, t, v, cap, leaves, out);
+    PageOut { why: 0, count }
 }
 
 // Writes the page, if the output is long enough.
@@ -93,14 +160,10 @@ pub fn write_page(
     d: u32,
     out: &mut [u8],
 ) -> PageOut
-    requires { ⌜ (cap * rowWords + rowWords ≤ length (now t)) × (1 ≤ cap) × (cap < length (now v)) × (cap ≤ 4095) ⌝ }
+    requires { ⌜ (cap * rowWords + rowWords ≤ length (now t)) × (1 ≤ cap) × (cap < length (now v)) × (cap ≤ 4095) × (length (leavesFrom (now t) cap (d + 12) 1) ≤ 4096) ⌝ }
     ensures { λ r. ⌜ written r (now (out .exit)) ≡ rowOut columns rows mark (now (t .entry)) (now (v .entry)) cap d (now (out .entry)) ⌝ }
 {
-    let mut none = [0u8; 1];
-    let n = put_page(columns, rows, mark, t, v, cap, d, &mut none);
-    if out.len() < n {
-        return PageOut { why: 18, count: 0 };
-    }
-    put_page(columns, rows, mark, t, v, cap, d, out);
-    PageOut { why: 0, count: n }
+    let mut found = [0u16; 4096];
+    let m = find_leaves(t, cap, d as usize + 12, 1, &mut found, 0);
+    write_leaves(columns, rows, mark, t, v, cap, &found[..m], out)
 }

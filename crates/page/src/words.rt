@@ -1,73 +1,131 @@
-// Words and numbers of a line.
+// Words and numbers of a line, put where there is room for them.
 ghost use mathlib.Core.List.{[], _∷_, _++_};
 ghost use mathlib.Core.Path.{_≡_};
-ghost use Prim.Native.Nat.{_<_};
-ghost use Rattle.mesh.specs.Page.{decimalIn, decimal, hexIn, space};
-ghost use Rattle.page.specs.Pens.{Drew};
+ghost use Prim.Native.Nat.{_+_, _<_, _≤_};
+ghost use lib.ListN.{length};
+ghost use Rattle.mesh.specs.Page.{decimal, hexIn, space};
+ghost use Rattle.page.specs.Puts.{Put};
 ghost use Rattle.page.specs.Rows.{hexDigit};
-use crate::pens::Pen;
-use crate::pens::put_byte;
 
-// Draws the bytes of s.
-pub fn put_text(out: &mut [u8], p: Pen, s: &[u8]) -> Pen
-    ensures { λ r. ⌜ Drew (now (out .entry)) p (now (s .entry)) 0 (now (out .exit)) r ⌝ }
+// The hexadecimal digits.
+const HEX: [u8; 16] = [
+    48,
+    49,
+    50,
+    51,
+    52,
+    53,
+    54,
+    55,
+    56,
+    57,
+    97,
+    98,
+    99,
+    100,
+    101,
+    102,
+];
+
+// Puts the byte b.
+pub fn put_byte(out: &mut [u8], at: usize, b: u8) -> usize
+    requires { ⌜ at < length (now out) ⌝ }
+    ensures { λ r. ⌜ Put (now (out .entry)) at (b ∷ []) (now (out .exit)) r ⌝ }
 {
-    let mut q = p;
-    let mut i = 0;
-    while i < s.len() {
-        q = put_byte(out, q, s[i]);
-        i += 1;
-    }
-    q
+    out[at] = b;
+    at + 1
 }
 
-// Draws the last f decimal digits of x, without leading zeros.
-fn put_decimal_in(out: &mut [u8], p: Pen, f: usize, x: u64) -> Pen
-    ensures { λ r. ⌜ Drew (now (out .entry)) p (decimalIn f x []) 0 (now (out .exit)) r ⌝ }
+// How many decimal digits x has.
+pub fn digits(x: u32) -> usize
+    ensures { λ r. ⌜ (r ≤ 10) × (r ≡ length (decimal x)) ⌝ }
 {
-    if f == 0 {
-        return p;
-    }
-    let b = (48 + x % 10) as u8;
     if x < 10 {
-        return put_byte(out, p, b);
+        return 1;
     }
-    let q = put_decimal_in(out, p, f - 1, x / 10);
-    put_byte(out, q, b)
+    if x < 100 {
+        return 2;
+    }
+    if x < 1000 {
+        return 3;
+    }
+    if x < 10000 {
+        return 4;
+    }
+    if x < 100000 {
+        return 5;
+    }
+    if x < 1000000 {
+        return 6;
+    }
+    if x < 10000000 {
+        return 7;
+    }
+    if x < 100000000 {
+        return 8;
+    }
+    if x < 1000000000 {
+        return 9;
+    }
+    10
 }
 
-pub fn put_decimal(out: &mut [u8], p: Pen, x: u64) -> Pen
-    ensures { λ r. ⌜ Drew (now (out .entry)) p (decimal x) 0 (now (out .exit)) r ⌝ }
+// Puts x as a decimal, the last digit first.
+pub fn put_decimal(out: &mut [u8], at: usize, x: u32) -> usize
+    requires { ⌜ at + length (decimal x) ≤ length (now out) ⌝ }
+    ensures { λ r. ⌜ Put (now (out .entry)) at (decimal x) (now (out .exit)) r ⌝ }
 {
-    put_decimal_in(out, p, 20, x)
+    let k = digits(x);
+    let mut i = k;
+    let mut y = x;
+    while 0 < i {
+        i -= 1;
+        out[at + i] = (48 + y % 10) as u8;
+        y = y / 10;
+    }
+    at + k
 }
 
-// Draws a number and the blank after it.
-pub fn put_number(out: &mut [u8], p: Pen, x: u64) -> Pen
-    ensures { λ r. ⌜ Drew (now (out .entry)) p (decimal x ++ space ∷ []) 0 (now (out .exit)) r ⌝ }
+// Puts a number and the blank after it.
+pub fn put_number(out: &mut [u8], at: usize, x: u32) -> usize
+    requires { ⌜ at + length (decimal x) + 1 ≤ length (now out) ⌝ }
+    ensures { λ r. ⌜ Put (now (out .entry)) at (decimal x ++ space ∷ []) (now (out .exit)) r ⌝ }
 {
-    let q = put_decimal(out, p, x);
-    put_byte(out, q, b' ')
+    let m = put_decimal(out, at, x);
+    put_byte(out, m, b' ')
 }
 
 fn hex_digit(x: u64) -> u8
     requires { ⌜ x < 16 ⌝ }
     ensures { λ r. ⌜ r ≡ hexDigit x ⌝ }
 {
-    if x < 10 {
-        (48 + x) as u8
-    } else {
-        (87 + x) as u8
-    }
+    HEX[x as usize]
 }
 
-// Draws f hexadecimal digits of x.
-pub fn put_hex(out: &mut [u8], p: Pen, f: usize, x: u64) -> Pen
-    ensures { λ r. ⌜ Drew (now (out .entry)) p (hexIn f x []) 0 (now (out .exit)) r ⌝ }
+// Puts the 16 hexadecimal digits of x, the last first.
+pub fn put_hex(out: &mut [u8], at: usize, x: u64) -> usize
+    requires { ⌜ at + 16 ≤ length (now out) ⌝ }
+    ensures { λ r. ⌜ Put (now (out .entry)) at (hexIn 16 x []) (now (out .exit)) r ⌝ }
 {
-    if f == 0 {
-        return p;
+    let mut i: usize = 16;
+    let mut y = x;
+    while 0 < i {
+        i -= 1;
+        out[at + i] = hex_digit(y % 16);
+        y = y / 16;
     }
-    let q = put_hex(out, p, f - 1, x / 16);
-    put_byte(out, q, hex_digit(x % 16))
+    at + 16
+}
+
+// Puts the bytes of s.
+pub fn put_text(out: &mut [u8], at: usize, s: &[u8]) -> usize
+    requires { ⌜ at + length (now s) ≤ length (now out) ⌝ }
+    ensures { λ r. ⌜ Put (now (out .entry)) at (now (s .entry)) (now (out .exit)) r ⌝ }
+{
+    let mut i = 0;
+    while i < s.len() {
+        out[at + i] = s[i];
+        i += 1;
+    }
+    at + i
 }

@@ -4,31 +4,20 @@ use Prim.Native.Nat.{ℕ, zero, suc, _+_, _≤_}
 use native.Mathlib.Omega.{arith}
 use mathlib.Core.Path.{_≡_, refl, ap, _∙_}
 use mathlib.Core.Bool.{Bool, true, false, cond}
-use mathlib.Core.List.{List, [], _∷_}
+use mathlib.Core.List.{List}
 use lib.Dec.{ltb}
 use lib.ListN.{length}
 use borrow.Author.Tests.{le-ltb}
-use Rattle.mesh.specs.Place.{NE, SE, SW, NW, base, root}
-use Rattle.mesh.specs.Mesh.{leaf}
-use Rattle.mesh.specs.State.{State, cells, gridOf}
-use Rattle.mesh.specs.Valid.{Valid}
 use Rattle.mesh.specs.Refusal.{refusal}
-use Rattle.mesh.specs.Page.{leaves}
 use Rattle.mesh.specs.Call as Call
 use Rattle.mesh.specs.Call.{unless, over, wrote}
 use Rattle.mesh.specs.Program.{headChecks, tapePage, program, programCall}
-use Rattle.walking.proofs.Walks.{root-stands}
-use Rattle.walking.proofs.Few.{walk-few}
-use Rattle.walking.proofs.Orders.{permutation-order}
+use Rattle.calling.proofs.Rowed.{leaves-few}
 use Rattle.grid.specs.declared.Wrote.{Wrote}
 use Rattle.grid.specs.Calls.{wroteOf}
 use Rattle.printing.specs.Head.{printed}
 use Rattle.printing.proofs.Lengths.{refused-long, page-long}
 use Rattle.printing.proofs.Ran.{ran, ran-valid}
-
-leaves-few : (s : State) → Valid s → length (leaves s) ≤ length (s .entries)
-unfolding leaves
-leaves-few s v = walk-few s v (leaf (gridOf s) (cells (s .entries))) (SW ∷ NW ∷ SE ∷ NE ∷ []) (permutation-order (3 ∷ 4 ∷ 2 ∷ 1 ∷ []) tt) (base (gridOf s) + 12) root (root-stands s v)
 
 -- ---- the program
 

@@ -1,43 +1,26 @@
 -- How long lines and pages are: a decimal has at most 20 digits, and so a leaf's line at most 103 bytes.
 -- Assumes nothing.
-use Prim.Native.Nat.{ℕ, zero, suc, _+_, _*_, _/_, _%_, _^_, _≤_}
+use Prim.Native.Nat.{ℕ, _+_, _*_, _%_, _^_, _≤_}
 use native.Mathlib.Omega.{arith}
-use mathlib.Core.Path.{_≡_, _∙_}
-use mathlib.Core.Bool.{Bool, true, false}
+use mathlib.Core.Path.{_≡_}
 use mathlib.Core.List.{List, [], _∷_, map}
-use lib.Dec.{ltb}
 use lib.ListN.{length, length-append}
 use lib.IntN.{natAbs}
 use Rattle.mesh.specs.Tools.{flat}
 use Rattle.mesh.specs.Place.{level}
 use Rattle.mesh.specs.State.{State, placeAt, gridOf}
-use Rattle.mesh.specs.Page.{decimalIn, decimal, hexIn, line, leaves, leafLine, total, body, page}
+use Rattle.mesh.specs.Page.{decimal, line, leaves, leafLine, total, body, page}
 use Rattle.mesh.specs.Program.{refusedLine}
+use Rattle.page.proofs.Digits.{decimal-long, hex-long}
 
 -- ---- digits and lines
 
-digits-long : (f n : ℕ) (r : List ℕ) → length (decimalIn f n r) ≤ f + length r
-unfolding decimalIn
-digits-long zero n r = omega arith
-digits-long (suc f) n r = go (ltb n 10) (digits-long f (n / 10) ((48 + n % 10) ∷ r))
-  where
-    go : (b : Bool) → length (decimalIn f (n / 10) ((48 + n % 10) ∷ r)) ≤ f + suc (length r)
-        → length {A = ℕ} (elim b [ true ↦ (48 + n % 10) ∷ r | false ↦ decimalIn f (n / 10) ((48 + n % 10) ∷ r) ]) ≤ suc f + length r
-    go true h = omega arith
-    go false h = omega arith
-
-decimal-long : (n : ℕ) → length (decimal n) ≤ 20
-unfolding decimal
-decimal-long n = digits-long 20 n []
-
-hex-long : (f n : ℕ) (r : List ℕ) → length (hexIn f n r) ≡ f + length r
-unfolding hexIn
-hex-long zero n r = omega arith
-hex-long (suc f) n r = hex-long f (n / 16) (_ ∷ r) ∙ omega arith
+pub refused-size : (n o : ℕ) → length (refusedLine n o) ≡ length (decimal n) + length (decimal o) + 13
+unfolding refusedLine line
+refused-size n o = simp length-append (omega arith)
 
 pub refused-long : (n o : ℕ) → length (refusedLine n o) ≤ 53
-unfolding refusedLine line
-refused-long n o = simp length-append (omega (arith, decimal-long n, decimal-long o))
+refused-long n o = omega (arith, refused-size n o, decimal-long n, decimal-long o)
 
 leaf-long : (s : State) (n : ℕ) → length (leafLine s n) ≤ 103
 unfolding leafLine line

@@ -1,17 +1,17 @@
 // What the program `dossier` prints for its input, as a call on two lists: the page of the grid after the tape, or the line of the refusal.
 ghost use mathlib.Core.Path.{_≡_};
-ghost use Prim.Native.Nat.{_*_};
+ghost use Prim.Native.Nat.{_*_, _≤_};
 ghost use lib.ListN.{length};
 ghost use Rattle.mesh.specs.Picture.{rowWords};
 ghost use Rattle.mesh.specs.Refusal.{refusal};
 ghost use Rattle.mesh.specs.Program.{refusedLine, programCall};
-ghost use Rattle.page.specs.Pens.{Drawn};
+ghost use Rattle.page.specs.Puts.{Put};
 ghost use Rattle.grid.specs.Calls.{wroteOf};
 ghost use Rattle.printing.specs.Head.{inputChecks, printed};
 use grid::Header;
 use grid::Wrote;
-use page::pens::Pen;
-use page::pens::put_byte;
+use page::words::digits;
+use page::words::put_byte;
 use page::words::put_decimal;
 use page::words::put_number;
 use page::words::put_text;
@@ -27,40 +27,32 @@ const VALUES: usize = 1001;
 // The longest input that is accepted.
 const LONGEST: usize = 60000;
 
-// Draws the line `refused n at o`, and answers its length.
-fn put_refused(out: &mut [u8], n: u32, o: usize) -> usize
-    ensures { λ r. ⌜ Drawn (now (out .entry)) (refusedLine n o) (now (out .exit)) r ⌝ }
+// Puts the line `refused n at o`.
+fn put_refused(out: &mut [u8], n: u32, o: u32) -> usize
+    requires { ⌜ length (refusedLine n o) ≤ length (now out) ⌝ }
+    ensures { λ r. ⌜ Put (now (out .entry)) 0 (refusedLine n o) (now (out .exit)) r ⌝ }
 {
-    let p = Pen {
-        at: 0,
-        sum: 0,
-        leaves: 0,
-    };
-    let a = put_text(out, p, b"refused ");
-    let b = put_number(out, a, n as u64);
+    let a = put_text(out, 0, b"refused ");
+    let b = put_number(out, a, n);
     let c = put_text(out, b, b"at ");
-    let e = put_decimal(out, c, o as u64);
-    let q = put_byte(out, e, b'\n');
-    q.at
+    let e = put_decimal(out, c, o);
+    put_byte(out, e, b'\n')
 }
 
 // Writes that line, if the output is long enough.
 fn write_refused(out: &mut [u8], n: u32, o: usize) -> Wrote
+    requires { ⌜ o ≤ 60003 ⌝ }
     ensures { λ r. ⌜ wroteOf r (now (out .exit)) ≡ printed (refusedLine n o) (now (out .entry)) ⌝ }
 {
-    let mut none = [0u8; 1];
-    let k = put_refused(&mut none, n, o);
-    if out.len() < k {
+    let offset = o as u32;
+    if out.len() < digits(n) + digits(offset) + 13 {
         return Wrote {
             refusal: 18,
             count: 0,
         };
     }
-    put_refused(out, n, o);
-    Wrote {
-        refusal: 0,
-        count: k,
-    }
+    let count = put_refused(out, n, offset);
+    Wrote { refusal: 0, count }
 }
 
 // The refusal of the input before the build, or 0.

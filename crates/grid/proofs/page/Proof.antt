@@ -4,14 +4,9 @@ use borrow.Author.Needs.{needs}
 use native.Mathlib.Omega.{arith}
 use mathlib.Core.Path.{sym, _∙_}
 use Rattle.grid.specs.Calls.{lentOf}
-use Rattle.grid.proofs.First.{sizes, page-first, page-done}
+use Rattle.grid.proofs.First.{sizes, page-first, page-listed, page-done}
 use Rattle.grid.proofs.page.Statement.{statement}
 use Rattle.grid.proofs.page.Tie as tie
-use Rattle.grid.proofs.page.Reads as reads
-use Rattle.grid.proofs.page.Lts as lts
-use Rattle.grid.proofs.check.Reads as check-reads
-use Rattle.mesh.proofs.ground_depth.Reads as ground-depth-reads
-use Rattle.page.proofs.pages.write_page.Reads as write-page-reads
 
 check-requires : tie.Need-check-requires
 check-requires c κs = search needs
@@ -27,8 +22,9 @@ cast-mark c = search needs
 
 write-page-requires : tie.Need-write-page-requires
 write-page-requires c κs =
-    let s = sizes _ _ (sym (c .before .before .before .before .check .ensures) ∙ c .before .before .before .if1 .left) in
-    (omega (arith, s .words), omega (arith, s .low), omega (arith, s .values), s .high)
+    let ok = sym (c .before .before .before .before .check .ensures) ∙ c .before .before .before .if1 .left in
+    let s = sizes _ _ ok in
+    (omega (arith, s .words), omega (arith, s .low), omega (arith, s .values), s .high, page-listed _ _ _ ok (s .high) (c .before .before .ground-depth .ensures))
 
 same-length : tie.Need-same-length
 same-length c = search needs

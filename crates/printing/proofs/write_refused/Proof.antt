@@ -1,36 +1,50 @@
--- `printing::write_refused` meets its contract: drawn first on nothing that matters, the line is known to fit or not.
+-- `printing::write_refused` meets its contract: refused, or written, by the length of the line.
 -- Assumes nothing.
-use Rattle.page.proofs.Whole.{page-refused, page-written}
 use native.Mathlib.Omega.{arith}
 use borrow.Author.Needs.{needs}
-use Rattle.printing.proofs.write_refused.Statement.{statement}
+use Rattle.mesh.specs.Program.{refusedLine}
+use Rattle.page.proofs.Paged.{page-refused, page-written}
+use Rattle.printing.proofs.Lengths.{refused-size}
 use Rattle.printing.proofs.write_refused.Tie as tie
+use Rattle.printing.proofs.write_refused.Statement.{statement}
 
-slice-aggregate-put-refused : tie.Need-slice-aggregate-put-refused
-slice-aggregate-put-refused c = search needs
+cast-offset : tie.Need-cast-offset
+cast-offset c = search needs
 
-put-refused-requires : tie.Need-put-refused-requires
-put-refused-requires c κs = search needs
+digits-requires : tie.Need-digits-requires
+digits-requires c κs = search needs
+
+digits-requires-2 : tie.Need-digits-requires-2
+digits-requires-2 c κs = search needs
+
+add-if1 : tie.Need-add-if1
+add-if1 c = search needs
+
+add-if1-2 : tie.Need-add-if1-2
+add-if1-2 c = search needs
 
 returns : tie.Need-returns
-returns c = page-refused _ _ _ _ _ (c .before .before .put-refused .ensures) (omega arith) (c .if1 .taken)
+returns c = page-refused (refusedLine (c .before .before .before .before .args .n) (c .before .before .before .before .args .o)) _ (omega (arith, c .before .before .digits .ensures, c .before .digits2 .ensures, c .if1 .taken, refused-size (c .before .before .before .before .args .n) (c .before .before .before .before .args .o)))
 
-put-refused-requires-2 : tie.Need-put-refused-requires-2
-put-refused-requires-2 c κs = search needs
+put-refused-requires : tie.Need-put-refused-requires
+put-refused-requires c κs = omega (arith, c .before .before .before .digits .ensures, c .before .before .digits2 .ensures, c .before .if1 .left, refused-size (c .before .before .before .before .before .args .n) (c .before .before .before .before .before .args .o))
 
 same-length : tie.Need-same-length
 same-length c = search needs
 
 returns-2 : tie.Need-returns-2
-returns-2 c = page-written _ _ _ _ _ _ _ (c .before .before .before .before .before .before .put-refused .ensures) (c .before .before .put-refused2 .ensures) (c .before .before .before .before .if1 .left)
+returns-2 c = page-written (refusedLine (c .before .before .before .before .before .before .before .before .args .n) (c .before .before .before .before .before .before .before .before .args .o)) _ (omega (arith, c .before .before .before .before .before .before .digits .ensures, c .before .before .before .before .before .digits2 .ensures, c .before .before .before .before .if1 .left, refused-size (c .before .before .before .before .before .before .before .before .args .n) (c .before .before .before .before .before .before .before .before .args .o))) (c .before .before .put-refused .ensures)
 
 pub write-refused-spec : {M : Type 1} → statement M
 write-refused-spec =
     tie.close
     (tie.spec
-    slice-aggregate-put-refused
-    put-refused-requires
+    cast-offset
+    digits-requires
+    digits-requires-2
+    add-if1
+    add-if1-2
     returns
-    put-refused-requires-2
+    put-refused-requires
     same-length
     returns-2)

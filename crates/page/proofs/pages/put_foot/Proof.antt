@@ -1,42 +1,42 @@
 -- `page::put_foot` meets its contract, word by word.
 -- Assumes nothing.
-use mathlib.Core.Path.{refl}
+use native.Mathlib.Omega.{arith}
 use borrow.Author.Needs.{needs}
-use Rattle.page.proofs.Draws.{drew-more, drew-as}
-use Rattle.page.proofs.Lines.{foot-line}
-use Rattle.page.proofs.pages.put_foot.Statement.{statement}
+use Rattle.page.proofs.Puts.{put-more, put-as, text-put}
+use Rattle.page.proofs.Worded.{foot-line, foot-size, number-put}
 use Rattle.page.proofs.pages.put_foot.Tie as tie
+use Rattle.page.proofs.pages.put_foot.Statement.{statement}
 
 slice-aggregate-put-text : tie.Need-slice-aggregate-put-text
 slice-aggregate-put-text c = search needs
 
 put-text-requires : tie.Need-put-text-requires
-put-text-requires c κs = search needs
+put-text-requires c κs = omega (arith, c .before .before .before .pre, foot-size (c .before .before .before .args .leaves) (c .before .before .before .args .sum))
 
 put-number-requires : tie.Need-put-number-requires
-put-number-requires c κs = search needs
+put-number-requires c κs = omega (arith, c .before .before .before .before .before .before .before .pre, text-put (c .before .before .before .put-text .ensures), foot-size (c .before .before .before .before .before .before .before .args .leaves) (c .before .before .before .before .before .before .before .args .sum))
 
 slice-aggregate-put-text-2 : tie.Need-slice-aggregate-put-text-2
 slice-aggregate-put-text-2 c = search needs
 
 put-text-requires-2 : tie.Need-put-text-requires-2
-put-text-requires-2 c κs = search needs
+put-text-requires-2 c κs = omega (arith, c .before .before .before .before .before .before .before .before .before .before .before .before .pre, text-put (c .before .before .before .before .before .before .before .before .put-text .ensures), number-put (c .before .before .before .before .before .before .before .before .before .before .before .before .args .leaves) (c .before .before .before .before .put-number .ensures), foot-size (c .before .before .before .before .before .before .before .before .before .before .before .before .args .leaves) (c .before .before .before .before .before .before .before .before .before .before .before .before .args .sum))
 
 put-decimal-requires : tie.Need-put-decimal-requires
-put-decimal-requires c κs = search needs
+put-decimal-requires c κs =
+    omega (arith, c .before .before .before .before .before .before .before .before .before .before .before .before .before .before .before .before .pre, text-put (c .before .before .before .before .before .before .before .before .before .before .before .before .put-text .ensures), number-put (c .before .before .before .before .before .before .before .before .before .before .before .before .before .before .before .before .args .leaves) (c .before .before .before .before .before .before .before .before .put-number .ensures), text-put (c .before .before .before .put-text2 .ensures), foot-size (c .before .before .before .before .before .before .before .before .before .before .before .before .before .before .before .before .args .leaves) (c .before .before .before .before .before .before .before .before .before .before .before .before .before .before .before .before .args .sum))
 
 put-byte-requires : tie.Need-put-byte-requires
-put-byte-requires c κs = search needs
+put-byte-requires c κs =
+    omega (arith, c .before .before .before .before .before .before .before .before .before .before .before .before .before .before .before .before .before .before .before .before .pre, text-put (c .before .before .before .before .before .before .before .before .before .before .before .before .before .before .before .before .put-text .ensures), number-put (c .before .before .before .before .before .before .before .before .before .before .before .before .before .before .before .before .before .before .before .before .args .leaves) (c .before .before .before .before .before .before .before .before .before .before .before .before .put-number .ensures), text-put (c .before .before .before .before .before .before .before .put-text2 .ensures), text-put (c .before .before .before .put-decimal .ensures), foot-size (c .before .before .before .before .before .before .before .before .before .before .before .before .before .before .before .before .before .before .before .before .args .leaves) (c .before .before .before .before .before .before .before .before .before .before .before .before .before .before .before .before .before .before .before .before .args .sum))
 
 same-length : tie.Need-same-length
 same-length c = search needs
 
 returns : tie.Need-returns
 returns c =
-    drew-as (foot-line _ _) refl
-    (drew-more
-    (drew-more (drew-more (drew-more (c .before .before .before .before .before .before .before .before .before .before .before .before .before .before .before .before .before .before .before .put-text .ensures) (c .before .before .before .before .before .before .before .before .before .before .before .before .before .before .before .put-number .ensures)) (c .before .before .before .before .before .before .before .before .before .before .put-text2 .ensures)) (c .before .before .before .before .before .before .put-decimal .ensures))
-    (c .before .before .put-byte .ensures))
+    put-as (foot-line _ _)
+    (put-more (put-more (put-more (put-more (c .before .before .before .before .before .before .before .before .before .before .before .before .before .before .before .before .before .before .before .put-text .ensures) (c .before .before .before .before .before .before .before .before .before .before .before .before .before .before .before .put-number .ensures)) (c .before .before .before .before .before .before .before .before .before .before .put-text2 .ensures)) (c .before .before .before .before .before .before .put-decimal .ensures)) (c .before .before .put-byte .ensures))
 
 pub put-foot-spec : {M : Type 1} → statement M
 put-foot-spec =

@@ -1,39 +1,39 @@
 -- `page::put_head` meets its contract, word by word.
 -- Assumes nothing.
-use mathlib.Core.Path.{refl}
+use native.Mathlib.Omega.{arith}
 use borrow.Author.Needs.{needs}
-use Rattle.page.proofs.Draws.{drew-more, drew-as}
-use Rattle.page.proofs.Lines.{head-line}
-use Rattle.page.proofs.pages.put_head.Statement.{statement}
+use Rattle.page.proofs.Puts.{put-more, put-as, text-put}
+use Rattle.page.proofs.Worded.{head-line, head-size, number-put}
 use Rattle.page.proofs.pages.put_head.Tie as tie
+use Rattle.page.proofs.pages.put_head.Statement.{statement}
 
 slice-aggregate-put-text : tie.Need-slice-aggregate-put-text
 slice-aggregate-put-text c = search needs
 
 put-text-requires : tie.Need-put-text-requires
-put-text-requires c κs = search needs
+put-text-requires c κs = omega (arith, c .before .before .before .pre, head-size (c .before .before .before .args .columns) (c .before .before .before .args .rows) (c .before .before .before .args .mark))
 
 put-number-requires : tie.Need-put-number-requires
-put-number-requires c κs = search needs
+put-number-requires c κs = omega (arith, c .before .before .before .before .before .before .before .pre, text-put (c .before .before .before .put-text .ensures), head-size (c .before .before .before .before .before .before .before .args .columns) (c .before .before .before .before .before .before .before .args .rows) (c .before .before .before .before .before .before .before .args .mark))
 
 put-number-requires-2 : tie.Need-put-number-requires-2
-put-number-requires-2 c κs = search needs
+put-number-requires-2 c κs = omega (arith, c .before .before .before .before .before .before .before .before .before .before .before .pre, text-put (c .before .before .before .before .before .before .before .put-text .ensures), number-put (c .before .before .before .before .before .before .before .before .before .before .before .args .columns) (c .before .before .before .put-number .ensures), head-size (c .before .before .before .before .before .before .before .before .before .before .before .args .columns) (c .before .before .before .before .before .before .before .before .before .before .before .args .rows) (c .before .before .before .before .before .before .before .before .before .before .before .args .mark))
 
 put-decimal-requires : tie.Need-put-decimal-requires
-put-decimal-requires c κs = search needs
+put-decimal-requires c κs =
+    omega (arith, c .before .before .before .before .before .before .before .before .before .before .before .before .before .before .before .pre, text-put (c .before .before .before .before .before .before .before .before .before .before .before .put-text .ensures), number-put (c .before .before .before .before .before .before .before .before .before .before .before .before .before .before .before .args .columns) (c .before .before .before .before .before .before .before .put-number .ensures), number-put (c .before .before .before .before .before .before .before .before .before .before .before .before .before .before .before .args .rows) (c .before .before .before .put-number2 .ensures), head-size (c .before .before .before .before .before .before .before .before .before .before .before .before .before .before .before .args .columns) (c .before .before .before .before .before .before .before .before .before .before .before .before .before .before .before .args .rows) (c .before .before .before .before .before .before .before .before .before .before .before .before .before .before .before .args .mark))
 
 put-byte-requires : tie.Need-put-byte-requires
-put-byte-requires c κs = search needs
+put-byte-requires c κs =
+    omega (arith, c .before .before .before .before .before .before .before .before .before .before .before .before .before .before .before .before .before .before .before .pre, text-put (c .before .before .before .before .before .before .before .before .before .before .before .before .before .before .before .put-text .ensures), number-put (c .before .before .before .before .before .before .before .before .before .before .before .before .before .before .before .before .before .before .before .args .columns) (c .before .before .before .before .before .before .before .before .before .before .before .put-number .ensures), number-put (c .before .before .before .before .before .before .before .before .before .before .before .before .before .before .before .before .before .before .before .args .rows) (c .before .before .before .before .before .before .before .put-number2 .ensures), text-put (c .before .before .before .put-decimal .ensures), head-size (c .before .before .before .before .before .before .before .before .before .before .before .before .before .before .before .before .before .before .before .args .columns) (c .before .before .before .before .before .before .before .before .before .before .before .before .before .before .before .before .before .before .before .args .rows) (c .before .before .before .before .before .before .before .before .before .before .before .before .before .before .before .before .before .before .before .args .mark))
 
 same-length : tie.Need-same-length
 same-length c = search needs
 
 returns : tie.Need-returns
 returns c =
-    drew-as (head-line _ _ _) refl
-    (drew-more
-    (drew-more (drew-more (drew-more (c .before .before .before .before .before .before .before .before .before .before .before .before .before .before .before .before .before .before .put-text .ensures) (c .before .before .before .before .before .before .before .before .before .before .before .before .before .before .put-number .ensures)) (c .before .before .before .before .before .before .before .before .before .before .put-number2 .ensures)) (c .before .before .before .before .before .before .put-decimal .ensures))
-    (c .before .before .put-byte .ensures))
+    put-as (head-line _ _ _)
+    (put-more (put-more (put-more (put-more (c .before .before .before .before .before .before .before .before .before .before .before .before .before .before .before .before .before .before .put-text .ensures) (c .before .before .before .before .before .before .before .before .before .before .before .before .before .before .put-number .ensures)) (c .before .before .before .before .before .before .before .before .before .before .put-number2 .ensures)) (c .before .before .before .before .before .before .put-decimal .ensures)) (c .before .before .put-byte .ensures))
 
 pub put-head-spec : {M : Type 1} → statement M
 put-head-spec =

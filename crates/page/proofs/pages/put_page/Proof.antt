@@ -1,26 +1,54 @@
--- `page::put_page` meets its contract: the body and the foot.
+-- `page::put_page` meets its contract: the first line, the leaves', and the last, with the sum of all before it.
 -- Assumes nothing.
+use Prim.Native.Nat.{_%_, _^_}
 use native.Mathlib.Omega.{arith}
+use mathlib.Core.Path.{refl, sym, ap, _∙_}
+use lib.Seq.{length-take-le}
 use borrow.Author.Needs.{needs}
-use Rattle.page.proofs.Whole.{page-drawn}
-use Rattle.page.proofs.pages.put_page.Statement.{statement}
+use Rattle.page.proofs.Puts.{text-put}
+use Rattle.page.proofs.Paged.{page-long, page-lines, body-sum, page-put}
 use Rattle.page.proofs.pages.put_page.Tie as tie
+use Rattle.page.proofs.pages.put_page.Statement.{statement}
 
-put-body-requires : tie.Need-put-body-requires
-put-body-requires c κs = search needs
+put-head-requires : tie.Need-put-head-requires
+put-head-requires c κs = omega (arith, c .before .before .before .before .pre .1, page-long (c .before .before .before .before .args .columns) (c .before .before .before .before .args .rows) (c .before .before .before .before .args .mark) (c .before .before .before .before .args .t .now) (c .before .before .before .before .args .v .now) (c .before .before .before .before .args .leaves .now))
+
+put-lines-requires : tie.Need-put-lines-requires
+put-lines-requires c κs = (c .before .before .before .before .before .before .before .before .pre .0, omega (arith, c .before .before .before .before .before .before .before .before .pre .1, text-put (c .before .before .before .put-head .ensures), page-long (c .before .before .before .before .before .before .before .before .args .columns) (c .before .before .before .before .before .before .before .before .args .rows) (c .before .before .before .before .before .before .before .before .args .mark) (c .before .before .before .before .before .before .before .before .args .t .now) (c .before .before .before .before .before .before .before .before .args .v .now) (c .before .before .before .before .before .before .before .before .args .leaves .now)))
+
+slice-reshare-prefix-sum-of : tie.Need-slice-reshare-prefix-sum-of
+slice-reshare-prefix-sum-of c = omega (arith, c .before .before .before .before .before .before .before .before .before .before .before .pre .1, text-put (c .before .before .before .before .before .before .put-head .ensures), text-put (c .before .before .put-lines .ensures), page-long (c .before .before .before .before .before .before .before .before .before .before .before .args .columns) (c .before .before .before .before .before .before .before .before .before .before .before .args .rows) (c .before .before .before .before .before .before .before .before .before .before .before .args .mark) (c .before .before .before .before .before .before .before .before .before .before .before .args .t .now) (c .before .before .before .before .before .before .before .before .before .before .before .args .v .now) (c .before .before .before .before .before .before .before .before .before .before .before .args .leaves .now))
+
+slice-aggregate-sum-of : tie.Need-slice-aggregate-sum-of
+slice-aggregate-sum-of c = sym (length-take-le _ _ (omega (arith, c .before .before .before .before .before .before .before .before .before .before .before .before .pre .1, text-put (c .before .before .before .before .before .before .before .put-head .ensures), text-put (c .before .before .before .put-lines .ensures), page-long (c .before .before .before .before .before .before .before .before .before .before .before .before .args .columns) (c .before .before .before .before .before .before .before .before .before .before .before .before .args .rows) (c .before .before .before .before .before .before .before .before .before .before .before .before .args .mark) (c .before .before .before .before .before .before .before .before .before .before .before .before .args .t .now) (c .before .before .before .before .before .before .before .before .before .before .before .before .args .v .now) (c .before .before .before .before .before .before .before .before .before .before .before .before .args .leaves .now))))
+
+sum-of-requires : tie.Need-sum-of-requires
+sum-of-requires c κs = search needs
 
 cast-put-foot : tie.Need-cast-put-foot
 cast-put-foot c = search needs
 
 put-foot-requires : tie.Need-put-foot-requires
-put-foot-requires c κs = search needs
+put-foot-requires c κs =
+    omega (arith, c .before .before .before .before .before .before .before .before .before .before .before .before .before .before .pre .1, text-put (c .before .before .before .before .before .before .before .before .before .put-head .ensures), text-put (c .before .before .before .before .before .put-lines .ensures), page-lines (c .before .before .before .before .before .before .before .before .before .before .before .before .before .before .args .columns) (c .before .before .before .before .before .before .before .before .before .before .before .before .before .before .args .rows) (c .before .before .before .before .before .before .before .before .before .before .before .before .before .before .args .mark) (c .before .before .before .before .before .before .before .before .before .before .before .before .before .before .args .t .now) (c .before .before .before .before .before .before .before .before .before .before .before .before .before .before .args .v .now) (c .before .before .before .before .before .before .before .before .before .before .before .before .before .before .args .leaves .now) _ _ refl (c .before .sum-of .ensures ∙ ap (λ z. z % 2 ^ 32) (body-sum (c .before .before .before .before .before .before .before .before .before .before .before .before .before .before .args .columns) (c .before .before .before .before .before .before .before .before .before .before .before .before .before .before .args .rows) (c .before .before .before .before .before .before .before .before .before .before .before .before .before .before .args .mark) (c .before .before .before .before .before .before .before .before .before .before .before .before .before .before .args .t .now) (c .before .before .before .before .before .before .before .before .before .before .before .before .before .before .args .v .now) (c .before .before .before .before .before .before .before .before .before .before .before .before .before .before .args .leaves .now) (c .before .before .before .before .before .before .before .before .before .put-head .ensures) (c .before .before .before .before .before .put-lines .ensures) (c .before .before .before .before .before .before .before .before .before .before .before .before .before .before .pre .1))))
 
 same-length : tie.Need-same-length
 same-length c = search needs
 
 returns : tie.Need-returns
-returns c = page-drawn _ _ _ _ _ _ (c .before .before .before .before .before .before .before .before .before .before .before .args .d) _ _ (omega arith) (c .before .before .before .before .before .before .before .put-body .ensures) (c .before .before .put-foot .ensures)
+returns c =
+    page-put (c .before .before .before .before .before .before .before .before .before .before .before .before .before .before .before .before .before .args .columns) (c .before .before .before .before .before .before .before .before .before .before .before .before .before .before .before .before .before .args .rows) (c .before .before .before .before .before .before .before .before .before .before .before .before .before .before .before .before .before .args .mark) (c .before .before .before .before .before .before .before .before .before .before .before .before .before .before .before .before .before .args .t .now) (c .before .before .before .before .before .before .before .before .before .before .before .before .before .before .before .before .before .args .v .now) (c .before .before .before .before .before .before .before .before .before .before .before .before .before .before .before .before .before .args .leaves .now) _ _ refl (c .before .before .before .before .sum-of .ensures ∙ ap (λ z. z % 2 ^ 32) (body-sum (c .before .before .before .before .before .before .before .before .before .before .before .before .before .before .before .before .before .args .columns) (c .before .before .before .before .before .before .before .before .before .before .before .before .before .before .before .before .before .args .rows) (c .before .before .before .before .before .before .before .before .before .before .before .before .before .before .before .before .before .args .mark) (c .before .before .before .before .before .before .before .before .before .before .before .before .before .before .before .before .before .args .t .now) (c .before .before .before .before .before .before .before .before .before .before .before .before .before .before .before .before .before .args .v .now) (c .before .before .before .before .before .before .before .before .before .before .before .before .before .before .before .before .before .args .leaves .now) (c .before .before .before .before .before .before .before .before .before .before .before .before .put-head .ensures) (c .before .before .before .before .before .before .before .before .put-lines .ensures) (c .before .before .before .before .before .before .before .before .before .before .before .before .before .before .before .before .before .pre .1))) (c .before .before .before .before .before .before .before .before .before .before .before .before .put-head .ensures) (c .before .before .before .before .before .before .before .before .put-lines .ensures) (c .before .before .put-foot .ensures)
 
 pub put-page-spec : {M : Type 1} → statement M
 put-page-spec =
-    tie.close (tie.spec put-body-requires cast-put-foot put-foot-requires same-length returns)
+    tie.close
+    (tie.spec
+    put-head-requires
+    put-lines-requires
+    slice-reshare-prefix-sum-of
+    slice-aggregate-sum-of
+    sum-of-requires
+    cast-put-foot
+    put-foot-requires
+    same-length
+    returns)

@@ -1,39 +1,53 @@
--- `page::write_page` meets its contract: drawn first on nothing that matters, the page is known to fit or not.
+-- `page::write_page` meets its contract: what was found are the leaves.
 -- Assumes nothing.
 use native.Mathlib.Omega.{arith}
+use mathlib.Core.Path.{sym, ap, _∙_}
+use lib.Seq.{length-take-le}
 use borrow.Author.Needs.{needs}
-use Rattle.page.specs.Rows.{rowOut}
-use Rattle.page.proofs.Whole.{page-refused, page-written}
-use Rattle.page.proofs.pages.write_page.Statement.{statement}
+use Rattle.page.specs.Rows.{rowPage, rowOut, pageOf, pageOut}
+use Rattle.page.proofs.Puts.{text-put, put-front}
+use Rattle.page.proofs.Worded.{leaves-within}
+use Rattle.page.proofs.Paged.{found-few, found-within}
 use Rattle.page.proofs.pages.write_page.Tie as tie
+use Rattle.page.proofs.pages.write_page.Statement.{statement}
 
-slice-aggregate-put-page : tie.Need-slice-aggregate-put-page
-slice-aggregate-put-page c = search needs
+add-find-leaves : tie.Need-add-find-leaves
+add-find-leaves c = search needs
 
-put-page-requires : tie.Need-put-page-requires
-put-page-requires c κs = search needs
+slice-aggregate-find-leaves : tie.Need-slice-aggregate-find-leaves
+slice-aggregate-find-leaves c = search needs
 
-returns : tie.Need-returns
-unfolding rowOut
-returns c = page-refused _ _ _ _ _ (c .before .before .put-page .ensures) (omega arith) (c .if1 .taken)
+find-leaves-requires : tie.Need-find-leaves-requires
+find-leaves-requires c κs = search needs
 
-put-page-requires-2 : tie.Need-put-page-requires-2
-put-page-requires-2 c κs = search needs
+array-share-prefix-found : tie.Need-array-share-prefix-found
+array-share-prefix-found c = search needs
+
+slice-aggregate-write-leaves : tie.Need-slice-aggregate-write-leaves
+slice-aggregate-write-leaves c = sym (length-take-le _ _ (omega (arith, c .before .before .before .before .before .before .pre, text-put (c .before .before .find-leaves .ensures))))
+
+write-leaves-requires : tie.Need-write-leaves-requires
+write-leaves-requires c κs =
+    (c .before .before .before .before .before .before .before .pre .0, c .before .before .before .before .before .before .before .pre .2, c .before .before .before .before .before .before .before .pre .3, found-few (c .before .before .before .find-leaves .ensures) (c .before .before .before .before .before .before .before .pre .4) (c .before .before .before .before .before .before .before .pre .4), found-within (c .before .before .before .find-leaves .ensures) (c .before .before .before .before .before .before .before .pre .4) _ (leaves-within _ _ _ _ (c .before .before .before .before .before .before .before .pre .1)))
 
 same-length : tie.Need-same-length
 same-length c = search needs
 
-returns-2 : tie.Need-returns-2
-unfolding rowOut
-returns-2 c = page-written _ _ _ _ _ _ _ (c .before .before .before .before .before .before .put-page .ensures) (c .before .before .put-page2 .ensures) (c .before .before .before .before .if1 .left)
+returns : tie.Need-returns
+unfolding rowOut rowPage
+returns c =
+    c .before .before .write-leaves .ensures
+    ∙ ap (λ ns. pageOut (pageOf (c .before .before .before .before .before .before .before .before .before .before .args .columns) (c .before .before .before .before .before .before .before .before .before .before .args .rows) (c .before .before .before .before .before .before .before .before .before .before .args .mark) (c .before .before .before .before .before .before .before .before .before .before .args .t .now) (c .before .before .before .before .before .before .before .before .before .before .args .v .now) ns) (c .before .before .before .before .before .before .before .before .before .before .args .out .now)) (put-front (c .before .before .before .before .before .before .find-leaves .ensures) (c .before .before .before .before .before .before .before .before .before .before .pre .4))
 
 pub write-page-spec : {M : Type 1} → statement M
 write-page-spec =
     tie.close
     (tie.spec
-    slice-aggregate-put-page
-    put-page-requires
-    returns
-    put-page-requires-2
+    add-find-leaves
+    slice-aggregate-find-leaves
+    find-leaves-requires
+    array-share-prefix-found
+    slice-aggregate-write-leaves
+    write-leaves-requires
     same-length
-    returns-2)
+    returns)

@@ -1,28 +1,16 @@
--- `page::hex_digit` meets its contract, on either side of ten.
+use Rattle.page.proofs.Digits.{hex-table}
+-- `page::hex_digit` meets its contract: the digits stand in their order.
 -- Assumes nothing.
-use borrow.Author.Tests.{lt-ltb, le-ltb}
+use native.Mathlib.Omega.{arith}
 use borrow.Author.Needs.{needs}
 use Rattle.page.proofs.words.hex_digit.Statement.{statement}
 use Rattle.page.proofs.words.hex_digit.Tie as tie
 
-add-result : tie.Need-add-result
-add-result c = search needs
-
-cast-result : tie.Need-cast-result
-cast-result c = search needs
-
-add-result-2 : tie.Need-add-result-2
-add-result-2 c = search needs
-
-cast-result-2 : tie.Need-cast-result-2
-cast-result-2 c = search needs
+array-read-result : tie.Need-array-read-result
+array-read-result c = search needs
 
 returns : tie.Need-returns
-returns c = rw (lt-ltb _ 10 (c .if1 .taken))
-
-returns-2 : tie.Need-returns-2
-returns-2 c = rw (le-ltb _ 10 (c .if1 .left))
+returns c = hex-table (c .args .x) (omega arith)
 
 pub hex-digit-spec : {M : Type 1} → statement M
-hex-digit-spec =
-    tie.close (tie.spec add-result cast-result add-result-2 cast-result-2 returns returns-2)
+hex-digit-spec = tie.close (tie.spec array-read-result returns)

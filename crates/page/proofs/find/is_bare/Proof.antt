@@ -1,0 +1,27 @@
+-- `page::is_bare` meets its contract, word by word.
+-- Assumes nothing.
+use borrow.Author.Needs.{needs}
+use Rattle.walk.proofs.Steps.{both}
+use Rattle.page.specs.Rows.{bareRow}
+use Rattle.page.proofs.find.is_bare.Tie as tie
+use Rattle.page.proofs.find.is_bare.Statement.{statement}
+
+says-requires : tie.Need-says-requires
+says-requires c κs = search needs
+
+says-requires-2 : tie.Need-says-requires-2
+says-requires-2 c κs = search needs
+
+says-requires-3 : tie.Need-says-requires-3
+says-requires-3 c κs = search needs
+
+says-requires-4 : tie.Need-says-requires-4
+says-requires-4 c κs = search needs
+
+returns : tie.Need-returns
+unfolding bareRow
+returns c = both (c .before .before .before .says .ensures) (both (c .before .before .says2 .ensures) (both (c .before .says3 .ensures) (c .says4 .ensures)))
+
+pub is-bare-spec : {M : Type 1} → statement M
+is-bare-spec =
+    tie.close (tie.spec says-requires says-requires-2 says-requires-3 says-requires-4 returns)

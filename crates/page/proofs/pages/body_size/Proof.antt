@@ -1,0 +1,48 @@
+-- `page::body_size` meets its contract: the first line, and then the leaves'.
+-- Assumes nothing.
+use native.Mathlib.Omega.{arith}
+use borrow.Author.Needs.{needs}
+use Rattle.page.proofs.Paged.{body-size}
+use Rattle.page.proofs.pages.body_size.Tie as tie
+use Rattle.page.proofs.pages.body_size.Statement.{statement}
+
+digits-requires : tie.Need-digits-requires
+digits-requires c κs = search needs
+
+digits-requires-2 : tie.Need-digits-requires-2
+digits-requires-2 c κs = search needs
+
+add-head : tie.Need-add-head
+add-head c = search needs
+
+digits-requires-3 : tie.Need-digits-requires-3
+digits-requires-3 c κs = search needs
+
+add-head-2 : tie.Need-add-head-2
+add-head-2 c = search needs
+
+add-head-3 : tie.Need-add-head-3
+add-head-3 c = search needs
+
+lines-size-requires : tie.Need-lines-size-requires
+lines-size-requires c κs = search needs
+
+add-result : tie.Need-add-result
+add-result c = omega (arith, c .before .before .before .digits .ensures, c .before .before .digits2 .ensures, c .before .digits3 .ensures, c .lines-size .ensures)
+
+returns : tie.Need-returns
+returns c = omega (arith, c .before .before .before .digits .ensures, c .before .before .digits2 .ensures, c .before .digits3 .ensures, c .lines-size .ensures, body-size (c .before .before .before .before .before .before .args .columns) (c .before .before .before .before .before .before .args .rows) (c .before .before .before .before .before .before .args .mark) (c .before .before .before .before .before .before .args .t .now) (c .before .before .before .before .before .before .args .v .now) (c .before .before .before .before .before .before .args .leaves .now))
+
+pub body-size-spec : {M : Type 1} → statement M
+body-size-spec =
+    tie.close
+    (tie.spec
+    digits-requires
+    digits-requires-2
+    add-head
+    digits-requires-3
+    add-head-2
+    add-head-3
+    lines-size-requires
+    add-result
+    returns)

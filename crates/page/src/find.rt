@@ -1,0 +1,55 @@
+// The leaves of a table, in the order of the page.
+ghost use mathlib.Core.Path.{_≡_};
+ghost use Prim.Native.Nat.{_+_, _*_, _≤_};
+ghost use lib.ListN.{length};
+ghost use Rattle.mesh.specs.Picture.{rowWords};
+ghost use Rattle.page.specs.Puts.{Put};
+ghost use Rattle.page.specs.Rows.{bareRow, ownLeaf, leavesFrom};
+use table::words::link;
+use table::words::says;
+
+// Whether the row n has no kids.
+fn is_bare(t: &[i32], n: usize) -> bool
+    requires { ⌜ n * rowWords + rowWords ≤ length (now t) ⌝ }
+    ensures { λ r. ⌜ r ≡ bareRow (now (t .entry)) n ⌝ }
+{
+    says(t, n, 1, 0) & (says(t, n, 2, 0) & (says(t, n, 3, 0) & says(t, n, 4, 0)))
+}
+
+// Puts the row n, if it is a leaf.
+fn put_own(t: &[i32], cap: usize, n: usize, found: &mut [u16], at: usize) -> usize
+    requires { ⌜ (cap * rowWords + rowWords ≤ length (now t)) × (n ≤ cap) × (cap ≤ 4095) × (at + length (ownLeaf (now t) cap n) ≤ length (now found)) ⌝ }
+    ensures { λ r. ⌜ Put (now (found .entry)) at (ownLeaf (now (t .entry)) cap n) (now (found .exit)) r ⌝ }
+{
+    if walk::leaf_row(t, cap, 0, n) {
+        found[at] = n as u16;
+        return at + 1;
+    }
+    at
+}
+
+// Puts the leaves from the row n on, l levels down, in the order SW, NW, SE, NE.
+pub fn find_leaves(t: &[i32], cap: usize, l: usize, n: usize, found: &mut [u16], at: usize) -> usize
+    requires { ⌜ (cap * rowWords + rowWords ≤ length (now t)) × (n ≤ cap) × (cap ≤ 4095) × (at + length (leavesFrom (now t) cap l n) ≤ length (now found)) ⌝ }
+    ensures { λ r. ⌜ Put (now (found .entry)) at (leavesFrom (now (t .entry)) cap l n) (now (found .exit)) r ⌝ }
+{
+    if n == 0 {
+        return at;
+    }
+    let a = put_own(t, cap, n, found, at);
+    if l == 0 {
+        return a;
+    }
+    if is_bare(t, n) {
+        return a;
+    }
+    let k = l - 1;
+    let sw = link(t, cap, n, 3);
+    let nw = link(t, cap, n, 4);
+    let se = link(t, cap, n, 2);
+    let ne = link(t, cap, n, 1);
+    let b = find_leaves(t, cap, k, sw, found, a);
+    let c = find_leaves(t, cap, k, nw, found, b);
+    let e = find_leaves(t, cap, k, se, found, c);
+    find_leaves(t, cap, k, ne, found, e)
+}
