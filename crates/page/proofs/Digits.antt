@@ -1,4 +1,4 @@
--- Digits are drawn highest first, and the definitions put the lowest last: the digits of a number are those of its quotient, and then the last.
+-- Digits are put lowest first, and the definitions put the lowest last: the digits of a number are those of its quotient, and then the last.
 -- Assumes nothing.
 use Prim.Native.Nat.{ℕ, zero, suc, _+_, _-_, _*_, _≤_, _<_, _/_, _%_, _^_}
 use native.Mathlib.Nat.{add-zero, zero-add, pow-suc, one-le-pow}

@@ -1,4 +1,4 @@
--- Lines are drawn word by word, and the leaves of a row are itself and those of its four kids.
+-- Lines are put word by word, and the leaves of a row are itself and those of its four kids.
 -- Assumes nothing.
 use Prim.Native.Nat.{ℕ, zero, suc, _+_, _-_, _≤_, _<_}
 use native.Mathlib.Omega.{arith}
