@@ -1,7 +1,7 @@
 -- A scan call that passes the first checks answers what the scan by rows answers: in the picture of a valid state the start's row is in use exactly
 -- if its number is, its word says its level, and past 6 and 17 the rows that are walked are those of the scan.
 -- Assumes nothing.
-use Prim.Native.Nat.{ℕ, _≤_}
+use Prim.Native.Nat.{ℕ}
 use native.Mathlib.Omega.{arith}
 use mathlib.Core.Path.{_≡_, refl, sym, ap, _∙_}
 use mathlib.Core.Bool.{Bool, true, false}
@@ -19,7 +19,7 @@ use Rattle.mesh.specs.Scan.{permutation, scan, scanChecks}
 use Rattle.mesh.specs.Call.{Lent, lentChecks, stateOf, unless, wrote, scanCall}
 use Rattle.walk.specs.Plain.{Plain}
 use Rattle.walk.specs.Calls.{levelOf, rowScan, Few, rowScanOut}
-use Rattle.walk.proofs.Answers.{Open, opened}
+use Rattle.walk.proofs.Answers.{opened}
 use Rattle.geometry.proofs.Bools.{is-yes}
 use Rattle.numbering.proofs.Entries.{used-is}
 use Rattle.pictures.proofs.Pictured.{level-word}
@@ -72,5 +72,5 @@ module _ (n : ℕ) (o : List ℕ) (k : ℕ) (from to : ℤ) where
   few-lent cap l h = of-picture cap l h (λ g t c. Few t c (base (g .grid)) n o k from to) few-there
 
 -- what was lent can be read as it stands
-pub plain-lent : (cap : ℕ) (l : Lent) → cap ≤ 4095 → refusal (lentChecks cap l) ≡ 0 → Plain (l .words) cap (base (l .header .grid))
-plain-lent cap l small h = of-picture cap l h (λ g t c. c ≤ 4095 → Plain t c (base (g .grid))) plain-picture small
+pub plain-lent : (cap : ℕ) (l : Lent) → refusal (lentChecks cap l) ≡ 0 → Plain (l .words) cap (base (l .header .grid))
+plain-lent cap l h = of-picture cap l h (λ g t c. Plain t c (base (g .grid))) plain-picture

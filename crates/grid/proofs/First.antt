@@ -127,10 +127,10 @@ scan-done cap l n o k {from} {to} {from′} {to′} out d w ok e f g h =
     let same : rowScanOut (l .words) cap d n o k from′ to′ out ≡ rowScanOut (l .words) cap (base (l .header .grid)) n o k from to out = λ i. rowScanOut (l .words) cap (e i) n o k (f i) (g i) out in
     h ∙ same ∙ sym (scan-call n o k from to out cap l ok)
 
--- what a scan asks of what is lent
+-- what a scan and a lookup ask of what is lent
 pub lent-plain : (cap : ℕ) (l : Lent) (d : ℕ) → checkCall cap l ≡ 0 → d ≡ base (l .header .grid) → Plain (l .words) cap d
 unfolding checkCall
-lent-plain cap l d ok e = rw e (plain-lent cap l (sizes cap l ok .high) ok)
+lent-plain cap l d ok e = rw e (plain-lent cap l ok)
 
 pub lent-few : (cap : ℕ) (l : Lent) (n : ℕ) (o : List ℕ) (k : ℕ) {from to from′ to′ : ℤ} (d : ℕ) → checkCall cap l ≡ 0 → d ≡ base (l .header .grid)
     → from′ ≡ from → to′ ≡ to → Few (l .words) cap d n o k from′ to′

@@ -6,7 +6,7 @@ use mathlib.Core.Path.{_≡_, refl, sym, _∙_}
 use mathlib.Core.Logic.{_≢_}
 use mathlib.Core.Bool.{Bool, true, false, not, _&&_, _||_, cond}
 use mathlib.Core.List.{List, [], _∷_, _++_}
-use lib.Dec.{T, leb, leb→le}
+use lib.Dec.{T, eqb, leb, leb→le}
 use lib.ListN.{length, getD}
 use lib.IntN.{ℤ, _-ℤ_, natAbs}
 use lib.Ieee.{Float}
@@ -120,18 +120,19 @@ module _ (t : List ℤ) (cap n : ℕ) (o : List ℕ) (k : ℕ) (from to : ℤ) w
 
 -- ---- lookup
 
-module _ (t : List ℤ) (v : List Float) (n s : ℕ) (e : s ≡ wordOf t n 13) (x : Float) (f : x ≡ getD v n plusZero) where
-  pub as-measured : s ≡ 1 → measured x ≡ rowValue t v n
+-- a and b are how the code decides the status
+module _ (t : List ℤ) (v : List Float) (n : ℕ) {a : Bool} (e : a ≡ eqb (wordOf t n 13) 1) where
+  pub as-measured : {x : Float} → x ≡ getD v n plusZero → a ≡ true → measured x ≡ rowValue t v n
   unfolding rowValue
-  as-measured h = rw (← e, eq-eqb s 1 h, f)
+  as-measured f h = rw (← e, h, f)
 
-  pub as-carried : s ≢ 1 → s ≡ 2 → carried x ≡ rowValue t v n
+  pub as-carried : {x : Float} → x ≡ getD v n plusZero → a ≡ false → {b : Bool} → b ≡ eqb (wordOf t n 13) 2 → b ≡ true → carried x ≡ rowValue t v n
   unfolding rowValue
-  as-carried z h = rw (← e, ne-eqb s 1 z, eq-eqb s 2 h, f)
+  as-carried f h i j = rw (← e, h, ← i, j, f)
 
-pub as-blank : (t : List ℤ) (v : List Float) (n s : ℕ) → s ≡ wordOf t n 13 → s ≢ 1 → s ≢ 2 → blank ≡ rowValue t v n
-unfolding rowValue
-as-blank t v n s e z y = rw (← e, ne-eqb s 1 z, ne-eqb s 2 y)
+  pub as-blank : a ≡ false → {b : Bool} → b ≡ eqb (wordOf t n 13) 2 → b ≡ false → blank ≡ rowValue t v n
+  unfolding rowValue
+  as-blank h i j = rw (← e, h, ← i, j)
 
 module _ (t : List ℤ) (v : List Float) (cap d x y n : ℕ) (e : n ≡ rowLookup t cap d x y) where
   abbrev answer : ℕ → ℕ → Value → Found

@@ -3,7 +3,7 @@
 use Prim.Native.Nat.{ℕ, zero, suc, _+_, _-_, _*_, _/_, _%_, _^_, _≤_, _<_}
 use native.Mathlib.Nat.{one-mul, one-le-pow, div-eq-of-lt, div-lt-iff-lt-mul}
 use native.Mathlib.Omega.{arith}
-use native.Mathlib.Decide.{decLt}
+use native.Mathlib.Decide.{decLt, ℕ-discrete}
 use native.Mathlib.Numerals.{add-one}
 use mathlib.Core.Path.{_≡_, refl, sym, ap, _∙_, subst}
 use mathlib.Core.Logic.{_≢_}
@@ -144,29 +144,50 @@ same-below t cap d kind o l n e = ap (λ z. rowsBelow t cap d (scans t cap d z k
 
 -- ---- the way down to a leaf
 
+-- no way leads out of row 0
+pub nil-on : (t : List ℤ) (cap : ℕ) → ((w : ℕ) → w < 5 → wordOf t 0 w ≡ 0) → (l m n k : ℕ) → m < 2 → k ≡ linkOf t cap n (kidWord l m) → n ≡ 0 → k ≡ 0
+unfolding linkOf
+nil-on t cap h l m n k b e z =
+    let i : k ≡ linkOf t cap 0 (kidWord l m) = rw z at e in
+    let j : wordOf t 0 (kidWord l m) ≡ 0 = h (kidWord l m) (go (eqb l 1)) in
+    i ∙ rw (j, le-leb 0 cap (omega arith))
+  where
+    go : (a : Bool) → cond a (2 - m) (3 + m) < 5
+    go true = omega arith
+    go false = omega arith
+
+zero-both : (b : Bool) → _≡_ {A = ℕ} 0 (cond b 0 0)
+zero-both true = refl
+zero-both false = refl
+
 module _ (t : List ℤ) (cap d u v : ℕ) where
   pub find-leaf : (l n : ℕ) → leafRow t cap d n ≡ true → n ≡ rowFind t cap d u v l n
   unfolding rowFind
   find-leaf zero n e = rw e
   find-leaf (suc l) n e = rw e
 
-  pub find-nil : (l n : ℕ) → leafRow t cap d n ≡ false → n ≡ 0 → 0 ≡ rowFind t cap d u v l n
+  find-nil : (l : ℕ) → 0 ≡ rowFind t cap d u v l 0
   unfolding rowFind
-  find-nil zero n e z = rw e
-  find-nil (suc l) n e z = rw (e, eq-eqb n 0 z)
+  find-nil zero = zero-both (leafRow t cap d 0)
+  find-nil (suc l) = zero-both (leafRow t cap d 0)
 
   pub find-last : (l n : ℕ) → leafRow t cap d n ≡ false → l ≡ 0 → 0 ≡ rowFind t cap d u v l n
   unfolding rowFind
   find-last l n e z = rw (z, e)
 
-  pub find-on : (l n k r : ℕ) → leafRow t cap d n ≡ false → n ≢ 0 → l ≢ 0
+  -- a step down; from row 0 it leads to row 0
+  pub find-on : (l n k r : ℕ) → leafRow t cap d n ≡ false → (n ≡ 0 → k ≡ 0) → l ≢ 0
       → k ≡ linkOf t cap n (kidWord (u / 2 ^ (l - 1) % 2) (v / 2 ^ (l - 1) % 2)) → r ≡ rowFind t cap d u v (l - 1) k → r ≡ rowFind t cap d u v l n
   unfolding rowFind
-  find-on l n k r e z y h i = go l refl (i ∙ ap (rowFind t cap d u v (l - 1)) h)
+  find-on l n k r e z y h i = case (ℕ-discrete n 0)
     where
-      go : (m : ℕ) → l ≡ m → r ≡ rowFind t cap d u v (m - 1) (linkOf t cap n (kidWord (u / 2 ^ (m - 1) % 2) (v / 2 ^ (m - 1) % 2))) → r ≡ rowFind t cap d u v m n
-      go zero p j = absurd (y p)
-      go (suc m) p j = let q : suc m - 1 ≡ m = omega arith in rw (e, ne-eqb n 0 z) (rw q at j)
+      go : n ≢ 0 → (m : ℕ) → l ≡ m → r ≡ rowFind t cap d u v (m - 1) (linkOf t cap n (kidWord (u / 2 ^ (m - 1) % 2) (v / 2 ^ (m - 1) % 2))) → r ≡ rowFind t cap d u v m n
+      go x zero p j = absurd (y p)
+      go x (suc m) p j = let q : suc m - 1 ≡ m = omega arith in rw (e, ne-eqb n 0 x) (rw q at j)
+
+      case : Dec (n ≡ 0) → r ≡ rowFind t cap d u v l n
+      case (yes x) = i ∙ ap (rowFind t cap d u v (l - 1)) (z x) ∙ sym (find-nil (l - 1)) ∙ find-nil l ∙ ap (rowFind t cap d u v l) (sym x)
+      case (no x) = go x l refl (i ∙ ap (rowFind t cap d u v (l - 1)) h)
 
 -- ---- from the root
 

@@ -19,7 +19,7 @@ use table::values::value;
 use table::words::coded;
 use table::words::is_taken;
 use table::words::raw;
-use table::words::word;
+use table::words::says;
 
 // What came of a scan: a refusal or 0, and how many numbers were written.
 pub struct ScanOut {
@@ -152,11 +152,10 @@ fn value_of(t: &[i32], v: &[f64], n: usize) -> Reading
     requires { ⌜ (n * rowWords + rowWords ≤ length (now t)) × (n < length (now v)) ⌝ }
     ensures { λ r. ⌜ valueOfReading r ≡ rowValue (now (t .entry)) (now (v .entry)) n ⌝ }
 {
-    let status = word(t, n, 13);
-    if status == 1 {
+    if says(t, n, 13, 1) {
         return Reading::Measured(value(v, n));
     }
-    if status == 2 {
+    if says(t, n, 13, 2) {
         return Reading::Carried(value(v, n));
     }
     Reading::Blank
@@ -164,7 +163,7 @@ fn value_of(t: &[i32], v: &[f64], n: usize) -> Reading
 
 // The leaf that holds a point, and its value.
 pub fn lookup_out(t: &[i32], v: &[f64], cap: usize, d: u32, x: u32, y: u32) -> Found
-    requires { ⌜ (cap * rowWords + rowWords ≤ length (now t)) × (cap < length (now v)) × (cap ≤ 4095) × (1 ≤ cap) × (d ≤ 19) ⌝ }
+    requires { ⌜ Plain (now t) cap d × (cap < length (now v)) × (1 ≤ cap) × (d ≤ 19) ⌝ }
     ensures { λ r. ⌜ foundOf r ≡ rowLookupOut (now (t .entry)) (now (v .entry)) cap d x y ⌝ }
 {
     let n = lookup_row(t, cap, d, x, y);

@@ -10,6 +10,7 @@ ghost use Rattle.mesh.specs.Picture.{rowWords};
 ghost use Rattle.table.specs.Words.{linkOf};
 ghost use Rattle.table.specs.Worked.{kidWord};
 ghost use Rattle.walk.specs.Rows.{leafRow, rowFind, rowLookup};
+ghost use Rattle.walk.specs.Plain.{Plain};
 use table::words::flag;
 use table::words::link;
 use table::worked::kid_word;
@@ -23,35 +24,33 @@ pub fn leaf_row(t: &[i32], cap: usize, d: u32, n: usize) -> bool
 }
 
 // The kid of the row n by the digits of u and v at the place l.
-fn toward(t: &[i32], cap: usize, n: usize, l: u32, u: u32, v: u32) -> usize
-    requires { ⌜ (cap * rowWords + rowWords ≤ length (now t)) × (cap ≤ 4095) × (n ≤ cap) × (l < 32) ⌝ }
+fn toward(t: &[i32], cap: usize, d: u32, n: usize, l: u32, u: u32, v: u32) -> usize
+    requires { ⌜ Plain (now t) cap d × (n ≤ cap) × (l < 32) ⌝ }
     ensures { λ r. ⌜ (r ≤ cap) × (r ≡ linkOf (now (t .entry)) cap n (kidWord (u / 2 ^ l % 2) (v / 2 ^ l % 2))) ⌝ }
 {
-    link(t, cap, n, kid_word((u >> l) % 2, (v >> l) % 2))
+    plain::link(t, cap, d, n, kid_word((u >> l) % 2, (v >> l) % 2))
 }
 
-// The leaf that holds a point, so many levels down from the row n, or 0.
-pub fn find_row(t: &[i32], cap: usize, d: u32, left: u32, n: usize, u: u32, v: u32) -> usize
-    requires { ⌜ (cap * rowWords + rowWords ≤ length (now t)) × (cap ≤ 4095) × (n ≤ cap) × (left ≤ 32) ⌝ }
-    ensures { λ r. ⌜ (r ≤ cap) × (r ≡ rowFind (now (t .entry)) cap d u v left n) ⌝ }
+// The leaf that holds a point, so many levels down from the row n, or 0: row 0 is no leaf, and no way leads out of it. The table is lent twice, so
+// that a call passes one word on, and the compiler makes the calls a loop.
+pub fn find_row(t: &&[i32], cap: usize, d: u32, left: u32, n: usize, u: u32, v: u32) -> usize
+    requires { ⌜ Plain (now (now t)) cap d × (n ≤ cap) × (left ≤ 32) ⌝ }
+    ensures { λ r. ⌜ (r ≤ cap) × (r ≡ rowFind (now (now (t .entry))) cap d u v left n) ⌝ }
 {
-    if leaf_row(t, cap, d, n) {
+    if plain::leaf(*t, cap, d, n) {
         return n;
-    }
-    if n == 0 {
-        return 0;
     }
     if left == 0 {
         return 0;
     }
     let l = left - 1;
-    let k = toward(t, cap, n, l, u, v);
+    let k = toward(*t, cap, d, n, l, u, v);
     find_row(t, cap, d, l, k, u, v)
 }
 
 // The leaf that holds a point, from the root on, or 0.
 pub fn lookup_row(t: &[i32], cap: usize, d: u32, u: u32, v: u32) -> usize
-    requires { ⌜ (cap * rowWords + rowWords ≤ length (now t)) × (cap ≤ 4095) × (1 ≤ cap) × (d ≤ 19) ⌝ }
+    requires { ⌜ Plain (now t) cap d × (1 ≤ cap) × (d ≤ 19) ⌝ }
     ensures { λ r. ⌜ (r ≤ cap) × (r ≡ rowLookup (now (t .entry)) cap d u v) ⌝ }
 {
     let e = d + 12;
@@ -61,5 +60,5 @@ pub fn lookup_row(t: &[i32], cap: usize, d: u32, u: u32, v: u32) -> usize
     if v >> e != 0 {
         return 0;
     }
-    find_row(t, cap, d, e, 1, u, v)
+    find_row(&t, cap, d, e, 1, u, v)
 }

@@ -48,10 +48,11 @@ module _ (s : State) (v : Valid s) where
           let i : placeOf (entry (s .entries) n) ≡ some p = rw h in
           omega (arith, depth-of s v n p i, patch-high (gridOf s) (cells (s .entries)) (v .mesh) p (v .each n p i))
 
-  pub plain-picture : capacity s ≤ 4095 → Plain (table s) (capacity s) (base (gridOf s))
-  plain-picture small = record {
+  pub plain-picture : Plain (table s) (capacity s) (base (gridOf s))
+  plain-picture = record {
     words = omega (arith, table-length s, in-list (s .entries) 1 _ (v .first-root));
-    small = small;
+    small = v .sizes .1;
+    nil = λ w l. nil-words s 0 w (v .zeroth) (omega (arith, l));
     kids = λ n w _ l. rw (word-link s n w (omega (arith, l))) (number-le s (getD (around (gridOf s) (placeOf (entry (s .entries) n))) w none));
     signs = λ n _. no-sign n;
     levels = λ n _. level-there n;

@@ -3,7 +3,7 @@
 use borrow.Author.Needs.{needs}
 use native.Mathlib.Omega.{arith}
 use mathlib.Core.Path.{sym, _∙_}
-use Rattle.grid.proofs.First.{sizes, shallow, lookup-first, lookup-done}
+use Rattle.grid.proofs.First.{sizes, shallow, lent-plain, lookup-first, lookup-done}
 use Rattle.grid.proofs.lookup.Statement.{statement}
 use Rattle.grid.proofs.lookup.Tie as tie
 use Rattle.grid.proofs.lookup.Reads as reads
@@ -23,10 +23,10 @@ ground-depth-requires c κs = search needs
 
 lookup-out-requires : tie.Need-lookup-out-requires
 lookup-out-requires c κs =
-    let s = sizes _ _ (sym (c .before .before .check .ensures) ∙ c .before .if1 .left) in
-    let d = shallow _ _ s in
+    let ok = sym (c .before .before .check .ensures) ∙ c .before .if1 .left in
+    let s = sizes _ _ ok in
     let e = c .ground-depth .ensures in
-    (omega (arith, s .words), omega (arith, s .values), s .high, omega (arith, s .low), omega (arith, d, e))
+    (lent-plain _ _ _ ok e, omega (arith, s .values), omega (arith, s .low), omega (arith, shallow _ _ s, e))
 
 returns-2 : tie.Need-returns-2
 returns-2 c = lookup-done _ _ _ _ _ _ (sym (c .before .before .before .check .ensures) ∙ c .before .before .if1 .left) (c .before .ground-depth .ensures) (c .lookup-out .ensures)

@@ -25,8 +25,8 @@ find-row-requires c κs = search needs
 
 returns-3 : tie.Need-returns-3
 returns-3 c =
-    let a = c .before .before .before .args in
-    (search needs, lookup-inside _ _ (a .d) (a .u) (a .v) (c .before .before .if1 .left) (c .before .if2 .left) (c .find-row .ensures .1))
+    let a = c .before .before .before .before .args in
+    (search needs, lookup-inside _ _ (a .d) (a .u) (a .v) (c .before .before .before .if1 .left) (c .before .before .if2 .left) (c .find-row .ensures .1))
 
 pub lookup-row-spec : {M : Type 1} → statement M
 lookup-row-spec =

@@ -5,24 +5,27 @@ use Rattle.walk.proofs.Answers.{as-measured, as-carried, as-blank}
 use Rattle.walk.proofs.calls.value_of.Statement.{statement}
 use Rattle.walk.proofs.calls.value_of.Tie as tie
 
-word-requires : tie.Need-word-requires
-word-requires c κs = search needs
+says-requires : tie.Need-says-requires
+says-requires c κs = search needs
 
 value-requires : tie.Need-value-requires
 value-requires c κs = search needs
 
 returns : tie.Need-returns
-returns c = as-measured _ _ _ _ (c .before .before .word .ensures) _ (c .value .ensures) (c .before .if1 .taken)
+returns c = as-measured _ _ _ (c .before .before .says .ensures) (c .value .ensures) (c .before .if1 .taken)
+
+says-requires-2 : tie.Need-says-requires-2
+says-requires-2 c κs = search needs
 
 value-requires-2 : tie.Need-value-requires-2
 value-requires-2 c κs = search needs
 
 returns-2 : tie.Need-returns-2
-returns-2 c = as-carried _ _ _ _ (c .before .before .before .word .ensures) _ (c .value2 .ensures) (c .before .before .if1 .left) (c .before .if2 .taken)
+returns-2 c = as-carried _ _ _ (c .before .before .before .before .says .ensures) (c .value2 .ensures) (c .before .before .before .if1 .left) (c .before .before .says2 .ensures) (c .before .if2 .taken)
 
 returns-3 : tie.Need-returns-3
-returns-3 c = as-blank _ _ _ _ (c .before .before .word .ensures) (c .before .if1 .left) (c .if2 .left)
+returns-3 c = as-blank _ _ _ (c .before .before .before .says .ensures) (c .before .before .if1 .left) (c .before .says2 .ensures) (c .if2 .left)
 
 pub value-of-spec : {M : Type 1} → statement M
 value-of-spec =
-    tie.close (tie.spec word-requires value-requires returns value-requires-2 returns-2 returns-3)
+    tie.close (tie.spec says-requires value-requires returns says-requires-2 value-requires-2 returns-2 returns-3)

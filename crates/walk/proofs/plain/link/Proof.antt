@@ -3,7 +3,7 @@
 use Prim.Native.Nat.{_≤_}
 use native.Mathlib.Omega.{arith}
 use mir.Facts.{toZ-ofZ}
-use borrow.Author.Needs.{needs, sfits-of}
+use borrow.Author.Needs.{sfits-of}
 use Rattle.table.specs.Words.{code, wordOf, linkOf}
 use Rattle.walk.proofs.Signs.{word-there, small-word, link-as-is}
 use Rattle.walk.proofs.plain.link.Statement.{statement}
