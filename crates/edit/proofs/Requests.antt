@@ -1,19 +1,22 @@
 -- A refinement and a removal whole: each table is the one before with what a step does, and the places are those of the table at the start.
 -- Assumes nothing.
-use mathlib.Core.Path.{_≡_, sym, ap, _∙_}
+use mathlib.Core.Path.{_≡_, sym, ap, subst, _∙_}
 use mathlib.Core.Logic.{_≢_}
 use mathlib.Core.List.{List}
-use Prim.Native.Nat.{ℕ}
+use Prim.Native.Nat.{ℕ, _+_, _*_, _≤_}
 use native.Mathlib.Omega.{arith}
 use borrow.Author.Tests.{eq-eqb, ne-eqb}
 use lib.IntN.{ℤ}
-use lib.ListN.{getD}
+use lib.ListN.{length, getD}
 use lib.Ieee.{Float}
 use Rattle.mesh.specs.State.{plusZero}
+use Rattle.mesh.specs.Picture.{rowWords}
 use Rattle.table.specs.Words.{wordOf, linkOf}
 use Rattle.editing.specs.Tables.{Lowers, kidSpots, wantedSpots, suppliedAll, putCells, putValues, refreshNear, dropAt, kidStatus, refineTable, refineValues, removeTable}
 use Rattle.editing.proofs.Lowering.{lowers-nothing, lowers-then, lowers-none, frees-cells, frees-near}
 use Rattle.edit.specs.Lent.{lending, cornerSpots}
+use Rattle.edit.specs.Plain.{Plain}
+use Rattle.edit.proofs.PlainRows.{no-spot, and-spot, plain-supply, plain-cells, plain-dropped}
 use Rattle.edit.proofs.Nearby.{wanted-is, supply-append, drop-append}
 
 module _ (t : List ℤ) (cap d n low : ℕ) where
@@ -32,6 +35,18 @@ module _ (t : List ℤ) (cap d n low : ℕ) where
   refined {north} {east} {both} {b = b} {t₂ = t₂} h1 h2 h3 h4 h5 h6 h7 h8 h9 =
       let all : suppliedAll cap d (wantedSpots t cap n) (lending t low) ≡ lending t₂ b = ap (λ xs. suppliedAll cap d xs (lending t low)) (wanted-is t cap n h1 h2 h3) ∙ supply-append cap d (kidSpots t cap n) (cornerSpots north east both) (lending t low) ∙ ap (suppliedAll cap d (cornerSpots north east both)) (sym h6) ∙ sym h7 in
       rw (all, ← h4, ← h5, ← h8, h9)
+
+  -- its links and flags are read as they stand before the flags are worked out
+  pub refined-plain : (north east both st : ℕ) {a b : ℕ} {t₁ t₂ t₃ : List ℤ} → Plain t cap →
+      lending t₁ a ≡ suppliedAll cap d (kidSpots t cap n) (lending t low) →
+      lending t₂ b ≡ suppliedAll cap d (cornerSpots north east both) (lending t₁ a) →
+      t₃ ≡ putCells (kidSpots t₂ cap n) t₂ cap 1 st →
+      (n ≤ cap) × (north ≤ cap) × (east ≤ cap) × (both ≤ cap) × (low ≤ cap + 1) × (a ≤ cap + 1) →
+      Plain t₃ cap
+  refined-plain north east both st {a} {b} {t₁} {t₂} p e f g (h1, h2, h3, h4, l1, l2) =
+      let q : Plain t₁ cap = subst (λ r. Plain (r .words) cap) (sym e) (plain-supply cap d (and-spot h1 (omega arith) (and-spot h1 (omega arith) (and-spot h1 (omega arith) (and-spot h1 (omega arith) no-spot)))) (lending t low) l1 p) in
+      let r : Plain t₂ cap = subst (λ r. Plain (r .words) cap) (sym f) (plain-supply cap d (and-spot h2 (omega arith) (and-spot h2 (omega arith) (and-spot h3 (omega arith) (and-spot h3 (omega arith) (and-spot h4 (omega arith) no-spot))))) (lending t₁ a) l2 q) in
+      subst (λ u. Plain u cap) (sym g) (plain-cells cap 1 st (omega arith) (kidSpots t₂ cap n) r)
 
 module _ (t : List ℤ) (cap n : ℕ) (v : List Float) where
   pub values-blank : {w : ℕ} → w ≡ wordOf t n 13 → w ≡ 0 → v ≡ refineValues t cap n v
@@ -56,6 +71,16 @@ module _ (t : List ℤ) (cap d n : ℕ) where
   removed {north} {east} {both} {t₁} {t₂} {t₃} h1 h2 h3 h4 h5 h6 h7 =
       let gone : dropAt (wantedSpots t₁ cap n) t₁ cap d ≡ t₃ = ap (λ xs. dropAt xs t₁ cap d) (wanted-is t₁ cap n h2 h3 h4) ∙ drop-append cap d (kidSpots t₁ cap n) (cornerSpots north east both) t₁ ∙ ap (λ u. dropAt (cornerSpots north east both) u cap d) (sym h5) ∙ sym h6 in
       rw (← h1, gone, h7)
+
+  pub removed-plain : (north east both : ℕ) {t₁ t₂ t₃ : List ℤ} → Plain t cap → cap * rowWords + rowWords ≤ length t₁ → cap * rowWords + rowWords ≤ length t₂ →
+      t₁ ≡ putCells (kidSpots t cap n) t cap 0 0 →
+      t₂ ≡ dropAt (kidSpots t₁ cap n) t₁ cap d →
+      t₃ ≡ dropAt (cornerSpots north east both) t₂ cap d →
+      Plain t₃ cap
+  removed-plain north east both {t₁} {t₂} p l1 l2 e f g =
+      let q : Plain t₁ cap = subst (λ u. Plain u cap) (sym e) (plain-cells cap 0 0 (omega arith) (kidSpots t cap n) p) in
+      let r : Plain t₂ cap = subst (λ u. Plain u cap) (sym f) (plain-dropped cap d (kidSpots t₁ cap n) q l1) in
+      subst (λ u. Plain u cap) (sym g) (plain-dropped cap d (cornerSpots north east both) r l2)
 
   -- the numbers that are freed are those of the kids and the corners that go
   pub removed-lowers : {low a b : ℕ} {t₁ t₂ t₃ t₄ : List ℤ} →

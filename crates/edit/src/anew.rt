@@ -9,16 +9,14 @@ ghost use Rattle.table.specs.Words.{linkOf, flagOf};
 ghost use Rattle.table.specs.Worked.{edgeH, edgeV, innerH, innerV};
 ghost use Rattle.editing.specs.Anew.{flagsAnew, refreshed, wallsAnew, marksAnew, wallRow, markRow};
 ghost use Rattle.editing.specs.Tables.{refreshUnlessNil};
+ghost use Rattle.edit.specs.Plain.{Plain};
 use table::words::flag;
 use table::words::link;
 use table::worked::digits_of_four;
-use table::worked::edge;
 use table::worked::edge_h;
 use table::worked::edge_v;
 use table::worked::inner_h;
 use table::worked::inner_v;
-use table::worked::meets;
-use table::worked::meets_far;
 use table::worked::weigh;
 use table::writes::put;
 
@@ -85,14 +83,14 @@ pub fn refresh_unless_nil(t: &mut [i32], cap: usize, d: u32, n: usize)
 
 // The walls of a row anew, without the points and the cell that the walls around it make.
 fn walls_anew(t: &[i32], cap: usize, d: u32, n: usize, sentenced: bool) -> u32
-    requires { ⌜ (cap * rowWords + rowWords ≤ length (now t)) × (cap ≤ 4095) × (n ≤ cap) × (d ≤ 32) ⌝ }
+    requires { ⌜ (cap * rowWords + rowWords ≤ length (now t)) × (cap ≤ 4095) × (n ≤ cap) × (d ≤ 32) × Plain (now t) cap ⌝ }
     ensures { λ r. ⌜ (r < 8192) × (r ≡ digits (wallsAnew (now (t .entry)) cap d n sentenced)) ⌝ }
 {
-    let c = flag(t, 0, n);
-    let a = flag(t, 0, link(t, cap, n, 7));
-    let b = flag(t, 0, link(t, cap, n, 8));
-    let h = edge(t, cap, d, n, c != a, 11, 4);
-    let v = edge(t, cap, d, n, c != b, 10, 5);
+    let c = crate::plain::flag(t, cap, 0, n);
+    let a = crate::plain::flag(t, cap, 0, crate::plain::link(t, cap, n, 7));
+    let b = crate::plain::flag(t, cap, 0, crate::plain::link(t, cap, n, 8));
+    let h = crate::plain::edge(t, cap, d, n, c != a, 11, 4);
+    let v = crate::plain::edge(t, cap, d, n, c != b, 10, 5);
     digits_of_four(c, c | a, c | b, false)
         + 16 * digits_of_four(h, v, false, false)
         + 256 * digits_of_four((c != a) & !h, (c != b) & !v, false, false)
@@ -101,41 +99,46 @@ fn walls_anew(t: &[i32], cap: usize, d: u32, n: usize, sentenced: bool) -> u32
 
 // All flags of a row, off its own walls and those around it as their flags say them.
 fn marks_anew(t: &[i32], cap: usize, n: usize) -> u32
-    requires { ⌜ (cap * rowWords + rowWords ≤ length (now t)) × (cap ≤ 4095) × (n ≤ cap) ⌝ }
+    requires { ⌜ (cap * rowWords + rowWords ≤ length (now t)) × (cap ≤ 4095) × (n ≤ cap) × Plain (now t) cap ⌝ }
     ensures { λ r. ⌜ (r < 8192) × (r ≡ digits (marksAnew (now (t .entry)) cap n)) ⌝ }
 {
-    let c = flag(t, 0, n);
-    let h = flag(t, 4, n);
-    let v = flag(t, 5, n);
-    let i = flag(t, 8, n);
-    let j = flag(t, 9, n);
-    let edges = meets(t, cap, 4, n, h, v);
-    let inners = meets(t, cap, 8, n, i, j);
-    let edged = c & meets_far(t, cap, 4, n, h, v);
-    let fenced = c & meets_far(t, cap, 8, n, i, j);
-    digits_of_four(c, flag(t, 1, n), flag(t, 2, n), edges)
+    let c = crate::plain::flag(t, cap, 0, n);
+    let h = crate::plain::flag(t, cap, 4, n);
+    let v = crate::plain::flag(t, cap, 5, n);
+    let i = crate::plain::flag(t, cap, 8, n);
+    let j = crate::plain::flag(t, cap, 9, n);
+    let edges = crate::plain::meets(t, cap, 4, n, 8, 7, h, v);
+    let inners = crate::plain::meets(t, cap, 8, n, 8, 7, i, j);
+    let edged = c & crate::plain::meets(t, cap, 4, n, 5, 6, h, v);
+    let fenced = c & crate::plain::meets(t, cap, 8, n, 5, 6, i, j);
+    digits_of_four(
+        c,
+        crate::plain::flag(t, cap, 1, n),
+        crate::plain::flag(t, cap, 2, n),
+        edges,
+    )
         + 16 * digits_of_four(h, v, edged, inners)
         + 256 * digits_of_four(i, j, fenced, false)
-        + weigh(flag(t, 12, n), 4096)
+        + weigh(crate::plain::flag(t, cap, 12, n), 4096)
 }
 
 // The row n with its walls anew, unless n is 0; its own mark Sentenced stays.
 pub fn wall_row(t: &mut [i32], cap: usize, d: u32, n: usize)
-    requires { ⌜ (cap * rowWords + rowWords ≤ length (now t)) × (cap ≤ 4095) × (n ≤ cap) × (d ≤ 32) ⌝ }
-    ensures { λ _. ⌜ now (t .exit) ≡ wallRow cap d (now (t .entry)) n ⌝ }
+    requires { ⌜ (cap * rowWords + rowWords ≤ length (now t)) × (cap ≤ 4095) × (n ≤ cap) × (d ≤ 32) × Plain (now t) cap ⌝ }
+    ensures { λ _. ⌜ (now (t .exit) ≡ wallRow cap d (now (t .entry)) n) × Plain (now (t .exit)) cap ⌝ }
 {
     if n == 0 {
         return;
     }
-    let sentenced = flag(t, 12, n);
+    let sentenced = crate::plain::flag(t, cap, 12, n);
     let x = walls_anew(t, cap, d, n, sentenced);
     put(t, n, 12, x);
 }
 
 // And then with its points and its cell.
 pub fn mark_row(t: &mut [i32], cap: usize, n: usize)
-    requires { ⌜ (cap * rowWords + rowWords ≤ length (now t)) × (cap ≤ 4095) × (n ≤ cap) ⌝ }
-    ensures { λ _. ⌜ now (t .exit) ≡ markRow cap (now (t .entry)) n ⌝ }
+    requires { ⌜ (cap * rowWords + rowWords ≤ length (now t)) × (cap ≤ 4095) × (n ≤ cap) × Plain (now t) cap ⌝ }
+    ensures { λ _. ⌜ (now (t .exit) ≡ markRow cap (now (t .entry)) n) × Plain (now (t .exit)) cap ⌝ }
 {
     if n == 0 {
         return;

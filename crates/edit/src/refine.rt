@@ -6,6 +6,7 @@ ghost use Rattle.mesh.specs.Picture.{rowWords};
 ghost use Rattle.editing.specs.Tables.{kidStatus, refineTable, refineValues};
 ghost use Rattle.edit.specs.Small.{AllSmall};
 ghost use Rattle.edit.specs.Lent.{lending};
+ghost use Rattle.edit.specs.Plain.{Plain};
 use crate::spots::put_cells;
 use crate::spots::put_values;
 use crate::spots::refresh_near;
@@ -24,7 +25,7 @@ fn kid_status(st: u32) -> u32
 
 // Refines the cell n; the next number to look for free ones from.
 pub fn refine_table(t: &mut [i32], cap: usize, d: u32, n: usize, low: usize) -> usize
-    requires { ⌜ (cap * rowWords + rowWords ≤ length (now t)) × (cap ≤ 4095) × (n ≤ cap) × (d ≤ 32) × (low ≤ cap + 1) × AllSmall 1048576 (now t) cap d ⌝ }
+    requires { ⌜ (cap * rowWords + rowWords ≤ length (now t)) × (cap ≤ 4095) × (n ≤ cap) × (d ≤ 32) × (low ≤ cap + 1) × AllSmall 1048576 (now t) cap d × Plain (now t) cap ⌝ }
     ensures { λ r. ⌜ (r ≤ cap + 1) × (lending (now (t .exit)) r ≡ refineTable cap d n (lending (now (t .entry)) low)) ⌝ }
 {
     let north = link(t, cap, n, 5);
@@ -52,7 +53,7 @@ pub fn refine_values(t: &[i32], cap: usize, n: usize, v: &mut [f64])
 
 // Refines the cell n, its values too.
 pub fn refine(t: &mut [i32], v: &mut [f64], cap: usize, d: u32, n: usize, low: usize) -> usize
-    requires { ⌜ (cap * rowWords + rowWords ≤ length (now t)) × (cap < length (now v)) × (cap ≤ 4095) × (n ≤ cap) × (d ≤ 32) × (low ≤ cap + 1) × AllSmall 1048576 (now t) cap d ⌝ }
+    requires { ⌜ (cap * rowWords + rowWords ≤ length (now t)) × (cap < length (now v)) × (cap ≤ 4095) × (n ≤ cap) × (d ≤ 32) × (low ≤ cap + 1) × AllSmall 1048576 (now t) cap d × Plain (now t) cap ⌝ }
     ensures { λ r. ⌜ (r ≤ cap + 1) × (lending (now (t .exit)) r ≡ refineTable cap d n (lending (now (t .entry)) low)) × (now (v .exit) ≡ refineValues (now (t .exit)) cap n (now (v .entry))) ⌝ }
 {
     let next = refine_table(t, cap, d, n, low);

@@ -5,6 +5,7 @@ ghost use lib.ListN.{length};
 ghost use Rattle.mesh.specs.Picture.{rowWords};
 ghost use Rattle.editing.specs.Tables.{spot, kidAt, kidSpots, touchedRow, dropUntouched, dropAt, Lowers, removeTable, removeValues};
 ghost use Rattle.edit.specs.Lent.{cornerSpots};
+ghost use Rattle.edit.specs.Plain.{Plain};
 use crate::spots::kid;
 use crate::spots::put_cells;
 use crate::spots::put_values;
@@ -77,7 +78,7 @@ fn drop_corners(
 
 // Removes the kids of the row n; the bound below which no number is free, after it.
 pub fn remove_table(t: &mut [i32], cap: usize, d: u32, n: usize, low: usize) -> usize
-    requires { ⌜ (cap * rowWords + rowWords ≤ length (now t)) × (cap ≤ 4095) × (n ≤ cap) × (d ≤ 32) ⌝ }
+    requires { ⌜ (cap * rowWords + rowWords ≤ length (now t)) × (cap ≤ 4095) × (n ≤ cap) × (d ≤ 32) × Plain (now t) cap ⌝ }
     ensures { λ r. ⌜ (now (t .exit) ≡ removeTable (now (t .entry)) cap d n) × Lowers (now (t .entry)) (now (t .exit)) low r ⌝ }
 {
     put_cells(t, cap, n, 0, 0);
@@ -100,7 +101,7 @@ pub fn remove_values(t: &[i32], cap: usize, n: usize, v: &mut [f64])
 
 // Removes the kids of the row n, their values too.
 pub fn remove(t: &mut [i32], v: &mut [f64], cap: usize, d: u32, n: usize, low: usize) -> usize
-    requires { ⌜ (cap * rowWords + rowWords ≤ length (now t)) × (cap ≤ 4095) × (cap < length (now v)) × (n ≤ cap) × (d ≤ 32) ⌝ }
+    requires { ⌜ (cap * rowWords + rowWords ≤ length (now t)) × (cap ≤ 4095) × (cap < length (now v)) × (n ≤ cap) × (d ≤ 32) × Plain (now t) cap ⌝ }
     ensures { λ r. ⌜ (now (t .exit) ≡ removeTable (now (t .entry)) cap d n) × (now (v .exit) ≡ removeValues (now (t .entry)) cap n (now (v .entry))) × Lowers (now (t .entry)) (now (t .exit)) low r ⌝ }
 {
     remove_values(t, cap, n, v);

@@ -7,6 +7,7 @@ ghost use Rattle.mesh.specs.Picture.{rowWords};
 ghost use Rattle.editing.specs.Anew.{wallRow, markRow};
 ghost use Rattle.editing.specs.Tables.{spot, kidAt, kidSpots, eachAt, refreshNear, putCells, putValues};
 ghost use Rattle.edit.specs.Lent.{cornerSpots, sideSpots};
+ghost use Rattle.edit.specs.Plain.{Plain};
 use crate::anew::mark_row;
 use crate::anew::wall_row;
 use crate::steps::put_unless_nil;
@@ -22,18 +23,25 @@ pub fn kid(t: &[i32], cap: usize, p: usize, l: u32, m: u32) -> usize
     link(t, cap, p, kid_word(l, m))
 }
 
+fn plain_kid(t: &[i32], cap: usize, p: usize, l: u32, m: u32) -> usize
+    requires { ⌜ (cap * rowWords + rowWords ≤ length (now t)) × (cap ≤ 4095) × (p ≤ cap) × (m < 2) × Plain (now t) cap ⌝ }
+    ensures { λ r. ⌜ (r ≤ cap) × (r ≡ kidAt (now (t .entry)) cap (spot p l m)) ⌝ }
+{
+    crate::plain::link(t, cap, p, kid_word(l, m))
+}
+
 // Walls anew.
 fn wall_kid(t: &mut [i32], cap: usize, d: u32, p: usize, l: u32, m: u32)
-    requires { ⌜ (cap * rowWords + rowWords ≤ length (now t)) × (cap ≤ 4095) × (p ≤ cap) × (m < 2) × (d ≤ 32) ⌝ }
-    ensures { λ _. ⌜ now (t .exit) ≡ wallRow cap d (now (t .entry)) (kidAt (now (t .entry)) cap (spot p l m)) ⌝ }
+    requires { ⌜ (cap * rowWords + rowWords ≤ length (now t)) × (cap ≤ 4095) × (p ≤ cap) × (m < 2) × (d ≤ 32) × Plain (now t) cap ⌝ }
+    ensures { λ _. ⌜ (now (t .exit) ≡ wallRow cap d (now (t .entry)) (kidAt (now (t .entry)) cap (spot p l m))) × Plain (now (t .exit)) cap ⌝ }
 {
-    let k = kid(t, cap, p, l, m);
+    let k = plain_kid(t, cap, p, l, m);
     wall_row(t, cap, d, k);
 }
 
 fn wall_kids(t: &mut [i32], cap: usize, d: u32, n: usize)
-    requires { ⌜ (cap * rowWords + rowWords ≤ length (now t)) × (cap ≤ 4095) × (n ≤ cap) × (d ≤ 32) ⌝ }
-    ensures { λ _. ⌜ now (t .exit) ≡ eachAt (wallRow cap d) cap (kidSpots (now (t .entry)) cap n) (now (t .entry)) ⌝ }
+    requires { ⌜ (cap * rowWords + rowWords ≤ length (now t)) × (cap ≤ 4095) × (n ≤ cap) × (d ≤ 32) × Plain (now t) cap ⌝ }
+    ensures { λ _. ⌜ (now (t .exit) ≡ eachAt (wallRow cap d) cap (kidSpots (now (t .entry)) cap n) (now (t .entry))) × Plain (now (t .exit)) cap ⌝ }
 {
     wall_kid(t, cap, d, n, 0, 0);
     wall_kid(t, cap, d, n, 1, 0);
@@ -42,8 +50,8 @@ fn wall_kids(t: &mut [i32], cap: usize, d: u32, n: usize)
 }
 
 fn wall_corners(t: &mut [i32], cap: usize, d: u32, north: usize, east: usize, both: usize)
-    requires { ⌜ (cap * rowWords + rowWords ≤ length (now t)) × (cap ≤ 4095) × (north ≤ cap) × (east ≤ cap) × (both ≤ cap) × (d ≤ 32) ⌝ }
-    ensures { λ _. ⌜ now (t .exit) ≡ eachAt (wallRow cap d) cap (cornerSpots north east both) (now (t .entry)) ⌝ }
+    requires { ⌜ (cap * rowWords + rowWords ≤ length (now t)) × (cap ≤ 4095) × (north ≤ cap) × (east ≤ cap) × (both ≤ cap) × (d ≤ 32) × Plain (now t) cap ⌝ }
+    ensures { λ _. ⌜ (now (t .exit) ≡ eachAt (wallRow cap d) cap (cornerSpots north east both) (now (t .entry))) × Plain (now (t .exit)) cap ⌝ }
 {
     wall_kid(t, cap, d, north, 0, 0);
     wall_kid(t, cap, d, north, 1, 0);
@@ -54,16 +62,16 @@ fn wall_corners(t: &mut [i32], cap: usize, d: u32, north: usize, east: usize, bo
 
 // Points and cells anew.
 fn mark_kid(t: &mut [i32], cap: usize, p: usize, l: u32, m: u32)
-    requires { ⌜ (cap * rowWords + rowWords ≤ length (now t)) × (cap ≤ 4095) × (p ≤ cap) × (m < 2) ⌝ }
-    ensures { λ _. ⌜ now (t .exit) ≡ markRow cap (now (t .entry)) (kidAt (now (t .entry)) cap (spot p l m)) ⌝ }
+    requires { ⌜ (cap * rowWords + rowWords ≤ length (now t)) × (cap ≤ 4095) × (p ≤ cap) × (m < 2) × Plain (now t) cap ⌝ }
+    ensures { λ _. ⌜ (now (t .exit) ≡ markRow cap (now (t .entry)) (kidAt (now (t .entry)) cap (spot p l m))) × Plain (now (t .exit)) cap ⌝ }
 {
-    let k = kid(t, cap, p, l, m);
+    let k = plain_kid(t, cap, p, l, m);
     mark_row(t, cap, k);
 }
 
 fn mark_kids(t: &mut [i32], cap: usize, n: usize)
-    requires { ⌜ (cap * rowWords + rowWords ≤ length (now t)) × (cap ≤ 4095) × (n ≤ cap) ⌝ }
-    ensures { λ _. ⌜ now (t .exit) ≡ eachAt (markRow cap) cap (kidSpots (now (t .entry)) cap n) (now (t .entry)) ⌝ }
+    requires { ⌜ (cap * rowWords + rowWords ≤ length (now t)) × (cap ≤ 4095) × (n ≤ cap) × Plain (now t) cap ⌝ }
+    ensures { λ _. ⌜ (now (t .exit) ≡ eachAt (markRow cap) cap (kidSpots (now (t .entry)) cap n) (now (t .entry))) × Plain (now (t .exit)) cap ⌝ }
 {
     mark_kid(t, cap, n, 0, 0);
     mark_kid(t, cap, n, 1, 0);
@@ -72,8 +80,8 @@ fn mark_kids(t: &mut [i32], cap: usize, n: usize)
 }
 
 fn mark_corners(t: &mut [i32], cap: usize, north: usize, east: usize, both: usize)
-    requires { ⌜ (cap * rowWords + rowWords ≤ length (now t)) × (cap ≤ 4095) × (north ≤ cap) × (east ≤ cap) × (both ≤ cap) ⌝ }
-    ensures { λ _. ⌜ now (t .exit) ≡ eachAt (markRow cap) cap (cornerSpots north east both) (now (t .entry)) ⌝ }
+    requires { ⌜ (cap * rowWords + rowWords ≤ length (now t)) × (cap ≤ 4095) × (north ≤ cap) × (east ≤ cap) × (both ≤ cap) × Plain (now t) cap ⌝ }
+    ensures { λ _. ⌜ (now (t .exit) ≡ eachAt (markRow cap) cap (cornerSpots north east both) (now (t .entry))) × Plain (now (t .exit)) cap ⌝ }
 {
     mark_kid(t, cap, north, 0, 0);
     mark_kid(t, cap, north, 1, 0);
@@ -83,8 +91,8 @@ fn mark_corners(t: &mut [i32], cap: usize, north: usize, east: usize, both: usiz
 }
 
 fn mark_sides(t: &mut [i32], cap: usize, south: usize, west: usize)
-    requires { ⌜ (cap * rowWords + rowWords ≤ length (now t)) × (cap ≤ 4095) × (south ≤ cap) × (west ≤ cap) ⌝ }
-    ensures { λ _. ⌜ now (t .exit) ≡ eachAt (markRow cap) cap (sideSpots south west) (now (t .entry)) ⌝ }
+    requires { ⌜ (cap * rowWords + rowWords ≤ length (now t)) × (cap ≤ 4095) × (south ≤ cap) × (west ≤ cap) × Plain (now t) cap ⌝ }
+    ensures { λ _. ⌜ (now (t .exit) ≡ eachAt (markRow cap) cap (sideSpots south west) (now (t .entry))) × Plain (now (t .exit)) cap ⌝ }
 {
     mark_kid(t, cap, south, 0, 1);
     mark_kid(t, cap, south, 1, 1);
@@ -94,8 +102,8 @@ fn mark_sides(t: &mut [i32], cap: usize, south: usize, west: usize)
 
 // Of the nine rows that the kids of the row n want, the walls.
 fn wall_near(t: &mut [i32], cap: usize, d: u32, n: usize, north: usize, east: usize, both: usize)
-    requires { ⌜ (cap * rowWords + rowWords ≤ length (now t)) × (cap ≤ 4095) × (n ≤ cap) × (north ≤ cap) × (east ≤ cap) × (both ≤ cap) × (d ≤ 32) ⌝ }
-    ensures { λ _. ⌜ now (t .exit) ≡ eachAt (wallRow cap d) cap (kidSpots (now (t .entry)) cap n ++ cornerSpots north east both) (now (t .entry)) ⌝ }
+    requires { ⌜ (cap * rowWords + rowWords ≤ length (now t)) × (cap ≤ 4095) × (n ≤ cap) × (north ≤ cap) × (east ≤ cap) × (both ≤ cap) × (d ≤ 32) × Plain (now t) cap ⌝ }
+    ensures { λ _. ⌜ (now (t .exit) ≡ eachAt (wallRow cap d) cap (kidSpots (now (t .entry)) cap n ++ cornerSpots north east both) (now (t .entry))) × Plain (now (t .exit)) cap ⌝ }
 {
     wall_kids(t, cap, d, n);
     wall_corners(t, cap, d, north, east, both);
@@ -103,8 +111,8 @@ fn wall_near(t: &mut [i32], cap: usize, d: u32, n: usize, north: usize, east: us
 
 // The points and cells.
 fn mark_near(t: &mut [i32], cap: usize, n: usize, north: usize, east: usize, both: usize)
-    requires { ⌜ (cap * rowWords + rowWords ≤ length (now t)) × (cap ≤ 4095) × (n ≤ cap) × (north ≤ cap) × (east ≤ cap) × (both ≤ cap) ⌝ }
-    ensures { λ _. ⌜ now (t .exit) ≡ eachAt (markRow cap) cap (kidSpots (now (t .entry)) cap n ++ cornerSpots north east both) (now (t .entry)) ⌝ }
+    requires { ⌜ (cap * rowWords + rowWords ≤ length (now t)) × (cap ≤ 4095) × (n ≤ cap) × (north ≤ cap) × (east ≤ cap) × (both ≤ cap) × Plain (now t) cap ⌝ }
+    ensures { λ _. ⌜ (now (t .exit) ≡ eachAt (markRow cap) cap (kidSpots (now (t .entry)) cap n ++ cornerSpots north east both) (now (t .entry))) × Plain (now (t .exit)) cap ⌝ }
 {
     mark_kids(t, cap, n);
     mark_corners(t, cap, north, east, both);
@@ -112,14 +120,14 @@ fn mark_near(t: &mut [i32], cap: usize, n: usize, north: usize, east: usize, bot
 
 // The flags of the thirteen rows whose flags a refinement or a removal can change.
 pub fn refresh_near(t: &mut [i32], cap: usize, d: u32, n: usize)
-    requires { ⌜ (cap * rowWords + rowWords ≤ length (now t)) × (cap ≤ 4095) × (n ≤ cap) × (d ≤ 32) ⌝ }
+    requires { ⌜ (cap * rowWords + rowWords ≤ length (now t)) × (cap ≤ 4095) × (n ≤ cap) × (d ≤ 32) × Plain (now t) cap ⌝ }
     ensures { λ _. ⌜ now (t .exit) ≡ refreshNear (now (t .entry)) cap d n ⌝ }
 {
-    let north = link(t, cap, n, 5);
-    let east = link(t, cap, n, 6);
-    let both = link(t, cap, east, 5);
-    let south = link(t, cap, n, 7);
-    let west = link(t, cap, n, 8);
+    let north = crate::plain::link(t, cap, n, 5);
+    let east = crate::plain::link(t, cap, n, 6);
+    let both = crate::plain::link(t, cap, east, 5);
+    let south = crate::plain::link(t, cap, n, 7);
+    let west = crate::plain::link(t, cap, n, 8);
     wall_near(t, cap, d, n, north, east, both);
     mark_near(t, cap, n, north, east, both);
     mark_sides(t, cap, south, west);

@@ -16,11 +16,12 @@ use Rattle.pictures.proofs.Rows.{table-length, amounts-length}
 use Rattle.deciding.specs.Decide.{NoneBelow}
 use Rattle.deciding.proofs.Marked.{flags-small}
 use Rattle.edit.proofs.Meeting.{picture-small}
+use Rattle.edit.proofs.PlainRows.{picture-links}
 use Rattle.tape.specs.Drawn.{Drawn, Bounded, Sized, Tame}
 use Rattle.tape.proofs.Drawing.{drawn-depth, from-picture, drawn-vacant}
 
 picture-tame : (s : State) → Valid s → Tame (table s) (capacity s) (base (gridOf s))
-picture-tame s v = record { indices = picture-small v; flags = flags-small s }
+picture-tame s v = record { indices = picture-small v; flags = flags-small s; plain = record { links = λ n w h l. picture-links s n w l; flags = λ n h. omega (arith, flags-small s n) } }
 
 module _ {s : State} {columns rows mark cap d : ℕ} {t : List ℤ} {v : List Float} (p : Drawn s columns rows mark cap t v) (e : base (rectangle columns rows) ≡ d) where
   pub drawn-tame : Tame t cap d

@@ -14,6 +14,7 @@ use Rattle.mesh.specs.Picture.{rowWords, table, amounts}
 use Rattle.table.specs.Words.{wordOf}
 use Rattle.deciding.specs.Decide.{NoneBelow}
 use Rattle.edit.specs.Small.{AllSmall}
+use Rattle.edit.specs.Plain.{Plain}
 
 -- the header, the words and the values are those of the state
 pub record Drawn (s : State) (columns rows mark cap : ℕ) (t : List ℤ) (v : List Float) : Type 0 where
@@ -41,10 +42,11 @@ pub record Sized (t : List ℤ) (v : List Float) (cap d low : ℕ) : Type 0 wher
   pub low-to : low ≤ cap + 1
   pub none-below : NoneBelow t low
 
--- the words of every row are small enough for sums with them to fit; those of a picture are
+-- the words of every row are small enough for sums with them to fit, and its links and flags are read as they stand; those of a picture are
 pub record Tame (t : List ℤ) (cap d : ℕ) : Type 0 where
   pub indices : AllSmall 1048576 t cap d
   pub flags : (n : ℕ) → wordOf t n 12 < 16384
+  pub plain : Plain t cap
 
 -- some state is pictured, whose level 0 is at depth d
 pub record Pictured (mark cap d : ℕ) (t : List ℤ) (v : List Float) : Type 0 where

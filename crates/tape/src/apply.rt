@@ -44,7 +44,7 @@ pub fn sentence(t: &mut [i32], v: &mut [f64], cap: usize, d: u32, n: usize, low:
 }
 
 pub fn remove(t: &mut [i32], v: &mut [f64], cap: usize, d: u32, n: usize, low: usize) -> Step
-    requires { ⌜ Sized (now t) (now v) cap d low ⌝ }
+    requires { ⌜ Sized (now t) (now v) cap d low × Tame (now t) cap d ⌝ }
     ensures { λ r. ⌜ Applied (remove n) cap d low (now (t .entry)) (now (v .entry)) (now (t .exit)) (now (v .exit)) (r .why) (r .low) ⌝ }
 {
     let why = remove_refusal(t, cap, n);

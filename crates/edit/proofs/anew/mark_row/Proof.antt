@@ -1,12 +1,14 @@
 -- `edit::anew::mark_row` meets its contract.
 -- Assumes nothing.
+use native.Mathlib.Omega.{arith}
 use borrow.Author.Needs.{needs}
+use Rattle.edit.proofs.PlainRows.{plain-put}
 use Rattle.edit.proofs.Flags.{row-marked, nil-marked}
 use Rattle.edit.proofs.anew.mark_row.Statement.{statement}
 use Rattle.edit.proofs.anew.mark_row.Tie as tie
 
 returns : tie.Need-returns
-returns c = nil-marked _ _ 0 _ (c .if1 .taken)
+returns c = (nil-marked _ _ 0 _ (c .if1 .taken), c .before .pre .3)
 
 marks-anew-requires : tie.Need-marks-anew-requires
 marks-anew-requires c κs = search needs
@@ -22,7 +24,7 @@ returns-2 c =
     let b₁ = c .before in
     let b₂ = b₁ .before .before in
     let b₃ = b₂ .before .before in
-    row-marked _ _ 0 _ (b₃ .if1 .left) (b₂ .marks-anew .ensures .1) (b₁ .put .ensures)
+    (row-marked _ _ 0 _ (b₃ .if1 .left) (b₂ .marks-anew .ensures .1) (b₁ .put .ensures), plain-put (b₃ .before .args .n) (b₂ .marks-anew .result) (b₃ .before .pre .3) (b₁ .put .ensures) (omega arith))
 
 pub mark-row-spec : {M : Type 1} → statement M
 mark-row-spec = tie.close (tie.spec returns marks-anew-requires put-requires same-length returns-2)

@@ -27,11 +27,11 @@ meets-requires c κs = search needs
 meets-requires-2 : tie.Need-meets-requires-2
 meets-requires-2 c κs = search needs
 
-meets-far-requires : tie.Need-meets-far-requires
-meets-far-requires c κs = search needs
+meets-requires-3 : tie.Need-meets-requires-3
+meets-requires-3 c κs = search needs
 
-meets-far-requires-2 : tie.Need-meets-far-requires-2
-meets-far-requires-2 c κs = search needs
+meets-requires-4 : tie.Need-meets-requires-4
+meets-requires-4 c κs = search needs
 
 flag-requires-6 : tie.Need-flag-requires-6
 flag-requires-6 c κs = search needs
@@ -61,7 +61,7 @@ add-result-2 : tie.Need-add-result-2
 add-result-2 c = search needs
 
 flag-requires-8 : tie.Need-flag-requires-8
-flag-requires-8 c κs = omega (arith, c .before .before .before .before .before .before .before .before .before .before .before .before .before .before .pre)
+flag-requires-8 c κs = let p = c .before .before .before .before .before .before .before .before .before .before .before .before .before .before .pre in (omega (arith, p .0), omega (arith, p .2), omega arith, p .3)
 
 weigh-requires : tie.Need-weigh-requires
 weigh-requires c κs = search needs
@@ -87,7 +87,7 @@ returns c = (
       let b₁₃ = b₁₂ .before in
       let b₁₄ = b₁₃ .before in
       let b₁₅ = b₁₄ .before in
-      marks-sum _ _ 0 _ (b₁₅ .flag .ensures) (b₁₄ .flag2 .ensures) (b₁₃ .flag3 .ensures) (b₁₂ .flag4 .ensures) (b₁₁ .flag5 .ensures) (b₁₀ .meets .ensures) (b₉ .meets2 .ensures) (b₈ .meets-far .ensures) (b₇ .meets-far2 .ensures) (b₆ .flag6 .ensures) (b₅ .flag7 .ensures) (b₄ .digits-of-four .ensures .1) (b₃ .digits-of-four2 .ensures .1) (b₂ .digits-of-four3 .ensures .1) (b₁ .flag8 .ensures) (c .weigh .ensures .1),
+      marks-sum _ _ 0 _ (b₁₅ .flag .ensures) (b₁₄ .flag2 .ensures) (b₁₃ .flag3 .ensures) (b₁₂ .flag4 .ensures) (b₁₁ .flag5 .ensures) (b₁₀ .meets .ensures) (b₉ .meets2 .ensures) (b₈ .meets3 .ensures) (b₇ .meets4 .ensures) (b₆ .flag6 .ensures) (b₅ .flag7 .ensures) (b₄ .digits-of-four .ensures .1) (b₃ .digits-of-four2 .ensures .1) (b₂ .digits-of-four3 .ensures .1) (b₁ .flag8 .ensures) (c .weigh .ensures .1),
 )
 
 pub marks-anew-spec : {M : Type 1} → statement M
@@ -101,8 +101,8 @@ marks-anew-spec =
     flag-requires-5
     meets-requires
     meets-requires-2
-    meets-far-requires
-    meets-far-requires-2
+    meets-requires-3
+    meets-requires-4
     flag-requires-6
     flag-requires-7
     digits-of-four-requires

@@ -1,12 +1,14 @@
 -- `edit::anew::wall_row` meets its contract.
 -- Assumes nothing.
+use native.Mathlib.Omega.{arith}
 use borrow.Author.Needs.{needs}
+use Rattle.edit.proofs.PlainRows.{plain-put}
 use Rattle.edit.proofs.Flags.{row-walled, nil-walled}
 use Rattle.edit.proofs.anew.wall_row.Statement.{statement}
 use Rattle.edit.proofs.anew.wall_row.Tie as tie
 
 returns : tie.Need-returns
-returns c = nil-walled _ _ _ _ (c .if1 .taken)
+returns c = (nil-walled _ _ _ _ (c .if1 .taken), c .before .pre .4)
 
 flag-requires : tie.Need-flag-requires
 flag-requires c κs = search needs
@@ -26,7 +28,7 @@ returns-2 c =
     let b₂ = b₁ .before .before in
     let b₃ = b₂ .before .before in
     let b₄ = b₃ .before .before in
-    row-walled _ _ _ _ (b₄ .if1 .left) (b₃ .flag .ensures) (b₂ .walls-anew .ensures .1) (b₁ .put .ensures)
+    (row-walled _ _ _ _ (b₄ .if1 .left) (b₃ .flag .ensures) (b₂ .walls-anew .ensures .1) (b₁ .put .ensures), plain-put (b₄ .before .args .n) (b₂ .walls-anew .result) (b₄ .before .pre .4) (b₁ .put .ensures) (omega arith))
 
 pub wall-row-spec : {M : Type 1} → statement M
 wall-row-spec =

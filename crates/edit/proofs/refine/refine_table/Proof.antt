@@ -2,7 +2,7 @@
 -- Assumes nothing.
 use native.Mathlib.Omega.{arith}
 use borrow.Author.Needs.{needs}
-use Rattle.edit.proofs.Requests.{refined}
+use Rattle.edit.proofs.Requests.{refined, refined-plain}
 use Rattle.edit.proofs.Small.{small-kids}
 use Rattle.edit.proofs.refine.refine_table.Statement.{statement}
 use Rattle.edit.proofs.refine.refine_table.Tie as tie
@@ -43,7 +43,16 @@ put-cells-requires : tie.Need-put-cells-requires
 put-cells-requires c κs = search needs
 
 refresh-near-requires : tie.Need-refresh-near-requires
-refresh-near-requires c κs = search needs
+refresh-near-requires c κs =
+    let b₁ = c .before .before in
+    let b₂ = b₁ .before .before .before in
+    let b₃ = b₂ .before .before .before in
+    let b₄ = b₃ .before .before .before .before .before in
+    let b₅ = b₄ .before .before in
+    let b₆ = b₅ .before .before in
+    let b₇ = b₆ .before .before in
+    let k = refined-plain _ _ _ _ _ _ _ _ _ (b₇ .pre .6) (b₃ .supply-kids .ensures .1) (b₂ .supply-corners .ensures .1) (b₁ .put-cells .ensures) (omega (arith, b₇ .pre), omega (arith, b₆ .link .ensures), omega (arith, b₅ .link2 .ensures), omega (arith, b₄ .link3 .ensures), omega (arith, b₇ .pre), omega (arith, b₃ .supply-kids .ensures)) in
+    (omega arith, omega arith, omega arith, omega arith, k)
 
 same-length : tie.Need-same-length
 same-length c = search needs

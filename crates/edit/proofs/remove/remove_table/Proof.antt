@@ -1,7 +1,8 @@
 -- `edit::remove::remove_table` meets its contract.
 -- Assumes nothing.
+use native.Mathlib.Omega.{arith}
 use borrow.Author.Needs.{needs}
-use Rattle.edit.proofs.Requests.{removed, removed-lowers}
+use Rattle.edit.proofs.Requests.{removed, removed-plain, removed-lowers}
 use Rattle.edit.proofs.remove.remove_table.Statement.{statement}
 use Rattle.edit.proofs.remove.remove_table.Tie as tie
 
@@ -24,7 +25,13 @@ drop-corners-requires : tie.Need-drop-corners-requires
 drop-corners-requires c κs = search needs
 
 refresh-near-requires : tie.Need-refresh-near-requires
-refresh-near-requires c κs = search needs
+refresh-near-requires c κs =
+    let b₁ = c .before .before in
+    let b₂ = b₁ .before .before .before in
+    let b₃ = b₂ .before .before .before .before .before .before .before .before .before in
+    let b₄ = b₃ .before .before in
+    let k = removed-plain _ _ _ _ _ _ _ (b₄ .pre .4) (omega arith) (omega arith) (b₃ .put-cells .ensures) (b₂ .drop-kids .ensures .0) (b₁ .drop-corners .ensures .0) in
+    (omega arith, omega arith, omega arith, omega arith, k)
 
 same-length : tie.Need-same-length
 same-length c = search needs

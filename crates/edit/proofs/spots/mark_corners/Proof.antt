@@ -31,7 +31,7 @@ returns c =
     let b₃ = b₂ .before .before .before in
     let b₄ = b₃ .before .before .before in
     let b₅ = b₄ .before .before .before in
-    each-more _ _ _ (markRow _) _ (b₅ .mark-kid .ensures) (each-more _ _ _ (markRow _) _ (b₄ .mark-kid2 .ensures) (each-more _ _ _ (markRow _) _ (b₃ .mark-kid3 .ensures) (each-more _ _ _ (markRow _) _ (b₂ .mark-kid4 .ensures) (each-more _ _ _ (markRow _) _ (b₁ .mark-kid5 .ensures) (each-none _ _ _)))))
+    (each-more _ _ _ (markRow _) _ (b₅ .mark-kid .ensures .0) (each-more _ _ _ (markRow _) _ (b₄ .mark-kid2 .ensures .0) (each-more _ _ _ (markRow _) _ (b₃ .mark-kid3 .ensures .0) (each-more _ _ _ (markRow _) _ (b₂ .mark-kid4 .ensures .0) (each-more _ _ _ (markRow _) _ (b₁ .mark-kid5 .ensures .0) (each-none _ _ _))))), b₁ .mark-kid5 .ensures .1)
 
 pub mark-corners-spec : {M : Type 1} → statement M
 mark-corners-spec =

@@ -19,7 +19,7 @@ returns : tie.Need-returns
 returns c =
     let b₁ = c .before in
     let b₂ = b₁ .before .before .before in
-    each-both _ (markRow _) _ _ _ (b₂ .mark-kids .ensures) (b₁ .mark-corners .ensures)
+    (each-both _ (markRow _) _ _ _ (b₂ .mark-kids .ensures .0) (b₁ .mark-corners .ensures .0), b₁ .mark-corners .ensures .1)
 
 pub mark-near-spec : {M : Type 1} → statement M
 mark-near-spec = tie.close (tie.spec mark-kids-requires mark-corners-requires same-length returns)

@@ -27,7 +27,7 @@ returns c =
     let b₂ = b₁ .before .before .before in
     let b₃ = b₂ .before .before .before in
     let b₄ = b₃ .before .before .before in
-    each-more _ _ _ (markRow _) _ (b₄ .mark-kid .ensures) (each-more _ _ _ (markRow _) _ (b₃ .mark-kid2 .ensures) (each-more _ _ _ (markRow _) _ (b₂ .mark-kid3 .ensures) (each-more _ _ _ (markRow _) _ (b₁ .mark-kid4 .ensures) (each-none _ _ _))))
+    (each-more _ _ _ (markRow _) _ (b₄ .mark-kid .ensures .0) (each-more _ _ _ (markRow _) _ (b₃ .mark-kid2 .ensures .0) (each-more _ _ _ (markRow _) _ (b₂ .mark-kid3 .ensures .0) (each-more _ _ _ (markRow _) _ (b₁ .mark-kid4 .ensures .0) (each-none _ _ _)))), b₁ .mark-kid4 .ensures .1)
 
 pub mark-sides-spec : {M : Type 1} → statement M
 mark-sides-spec =

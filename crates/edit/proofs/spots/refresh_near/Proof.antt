@@ -1,5 +1,6 @@
 -- `edit::spots::refresh_near` meets its contract.
 -- Assumes nothing.
+use native.Mathlib.Omega.{arith}
 use borrow.Author.Needs.{needs}
 use Rattle.edit.proofs.Nearby.{near-refreshed}
 use Rattle.edit.proofs.spots.refresh_near.Statement.{statement}
@@ -24,10 +25,10 @@ wall-near-requires : tie.Need-wall-near-requires
 wall-near-requires c κs = search needs
 
 mark-near-requires : tie.Need-mark-near-requires
-mark-near-requires c κs = search needs
+mark-near-requires c κs = (omega arith, omega arith, omega arith, omega arith, omega arith, omega arith, c .before .before .wall-near .ensures .1)
 
 mark-sides-requires : tie.Need-mark-sides-requires
-mark-sides-requires c κs = search needs
+mark-sides-requires c κs = (omega arith, omega arith, omega arith, omega arith, c .before .before .mark-near .ensures .1)
 
 same-length : tie.Need-same-length
 same-length c = search needs
@@ -42,7 +43,7 @@ returns c =
     let b₆ = b₅ .before .before in
     let b₇ = b₆ .before .before in
     let b₈ = b₇ .before .before in
-    near-refreshed _ _ _ _ (b₈ .link .ensures .1) (b₇ .link2 .ensures .1) (b₆ .link3 .ensures .1) (b₅ .link4 .ensures .1) (b₄ .link5 .ensures .1) (b₃ .wall-near .ensures) (b₂ .mark-near .ensures) (b₁ .mark-sides .ensures)
+    near-refreshed _ _ _ _ (b₈ .link .ensures .1) (b₇ .link2 .ensures .1) (b₆ .link3 .ensures .1) (b₅ .link4 .ensures .1) (b₄ .link5 .ensures .1) (b₃ .wall-near .ensures .0) (b₂ .mark-near .ensures .0) (b₁ .mark-sides .ensures .0)
 
 pub refresh-near-spec : {M : Type 1} → statement M
 refresh-near-spec =

@@ -31,7 +31,7 @@ returns c =
     let b₃ = b₂ .before .before .before in
     let b₄ = b₃ .before .before .before in
     let b₅ = b₄ .before .before .before in
-    each-more _ _ _ (wallRow _ _) _ (b₅ .wall-kid .ensures) (each-more _ _ _ (wallRow _ _) _ (b₄ .wall-kid2 .ensures) (each-more _ _ _ (wallRow _ _) _ (b₃ .wall-kid3 .ensures) (each-more _ _ _ (wallRow _ _) _ (b₂ .wall-kid4 .ensures) (each-more _ _ _ (wallRow _ _) _ (b₁ .wall-kid5 .ensures) (each-none _ _ _)))))
+    (each-more _ _ _ (wallRow _ _) _ (b₅ .wall-kid .ensures .0) (each-more _ _ _ (wallRow _ _) _ (b₄ .wall-kid2 .ensures .0) (each-more _ _ _ (wallRow _ _) _ (b₃ .wall-kid3 .ensures .0) (each-more _ _ _ (wallRow _ _) _ (b₂ .wall-kid4 .ensures .0) (each-more _ _ _ (wallRow _ _) _ (b₁ .wall-kid5 .ensures .0) (each-none _ _ _))))), b₁ .wall-kid5 .ensures .1)
 
 pub wall-corners-spec : {M : Type 1} → statement M
 wall-corners-spec =

@@ -19,7 +19,7 @@ returns : tie.Need-returns
 returns c =
     let b₁ = c .before in
     let b₂ = b₁ .before .before .before in
-    each-both _ (wallRow _ _) _ _ _ (b₂ .wall-kids .ensures) (b₁ .wall-corners .ensures)
+    (each-both _ (wallRow _ _) _ _ _ (b₂ .wall-kids .ensures .0) (b₁ .wall-corners .ensures .0), b₁ .wall-corners .ensures .1)
 
 pub wall-near-spec : {M : Type 1} → statement M
 wall-near-spec = tie.close (tie.spec wall-kids-requires wall-corners-requires same-length returns)

@@ -17,7 +17,7 @@ returns : tie.Need-returns
 returns c = refused-applied _ _ _ _ _ _ _ (refine-decides _ _ _ _ _ (c .before .refine-refusal .ensures)) (c .if1 .taken) (omega arith)
 
 refine-requires : tie.Need-refine-requires
-refine-requires c κs = (omega arith, omega arith, omega arith, refine-within _ _ _ _ (c .before .before .before .refine-refusal .ensures) (c .before .before .if1 .left), omega arith, omega arith, c .before .before .before .before .before .before .pre .1 .indices)
+refine-requires c κs = (omega arith, omega arith, omega arith, refine-within _ _ _ _ (c .before .before .before .refine-refusal .ensures) (c .before .before .if1 .left), omega arith, omega arith, c .before .before .before .before .before .before .pre .1 .indices, c .before .before .before .before .before .before .pre .1 .plain)
 
 same-length-2 : tie.Need-same-length-2
 same-length-2 c = search needs

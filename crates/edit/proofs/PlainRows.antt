@@ -1,0 +1,185 @@
+-- Links that name rows or none and flags without a sign stay so: a step writes numbers of rows and 0 as links, and flags below 2 ^ 31.
+-- Assumes nothing.
+use mathlib.Core.Path.{_≡_, refl}
+use mathlib.Core.Logic.{_≢_}
+use mathlib.Core.Bool.{Bool, true, false, _||_, cond}
+use mathlib.Core.Option.{none}
+use mathlib.Core.List.{List, [], _∷_}
+use Prim.Native.Nat.{ℕ, zero, suc, _+_, _-_, _*_, _%_, _≤_, _<_}
+use native.Mathlib.Omega.{arith}
+use native.Mathlib.Decide.{ℕ-discrete}
+use lib.Dec.{eqb}
+use lib.ListN.{length, getD, set}
+use lib.IntN.{ℤ, pos, subℕ}
+use Rattle.mesh.specs.Place.{Wind, N, E, S, W, compass, around}
+use Rattle.mesh.specs.Winds.{wordOfWind}
+use Rattle.mesh.specs.Picture.{rowWords, table}
+use Rattle.mesh.specs.State.{State, placeOf, entry, gridOf, capacity}
+use Rattle.table.specs.Words.{code, wordOf, linkOf, depthOf}
+use Rattle.table.specs.Worked.{kidWord, sideOf}
+use Rattle.table.specs.Writes.{putRow, freeRow}
+use Rattle.table.proofs.Links.{link-within}
+use Rattle.pictures.proofs.Linked.{kid-word-lt}
+use Rattle.pictures.proofs.Pictured.{word-link, number-le}
+use Rattle.editing.specs.Steps.{putWord, putUnlessNil, linkSide, placeIn, linkIn, dropSide, takeOut}
+use Rattle.editing.specs.Tables.{Spot, Lending, kidAt, freeFrom, supplied, suppliedAll, putCells, touchedRow, dropAt}
+use Rattle.editing.proofs.Spots.{put-same, put-other}
+use Rattle.editing.proofs.Written.{word-other, word-either, wind-word}
+use Rattle.editing.proofs.Lengths.{length-unnamed, length-takeOut}
+use Rattle.edit.specs.Plain.{Plain}
+
+-- ---- one word
+
+module _ {t : List ℤ} {cap : ℕ} (p : Plain t cap) where
+  plain-set : (n w : ℕ) (z : ℤ) → w < 14 → (w < 9 → code z ≤ cap) → (w ≡ 12 → code z < 2147483648) → Plain (set t (n * rowWords + w) z) cap
+  plain-set n w z l a b = record { links = λ m i h k. link m i h k (ℕ-discrete w i); flags = λ m h. flag m h (ℕ-discrete w 12) }
+    where
+      link : (m i : ℕ) → m ≤ cap → i < 9 → Dec (w ≡ i) → wordOf (set t (n * rowWords + w) z) m i ≤ cap
+      link m i h k (yes e) = word-either t n w z m i (λ x. x ≤ cap) (a (omega arith)) (p .links m i h k)
+      link m i h k (no e) = rw (word-other t n w z m i l (omega arith) e) (p .links m i h k)
+
+      flag : (m : ℕ) → m ≤ cap → Dec (w ≡ 12) → wordOf (set t (n * rowWords + w) z) m 12 < 2147483648
+      flag m h (yes e) = word-either t n w z m 12 (λ x. x < 2147483648) (b e) (p .flags m h)
+      flag m h (no e) = rw (word-other t n w z m 12 l (omega arith) e) (p .flags m h)
+
+  plain-link : (n w x : ℕ) → w < 9 → x ≤ cap → Plain (putWord t n w x) cap
+  plain-link n w x l h = plain-set n w (pos x) (omega arith) (λ k. h) (λ e. absurd (omega arith))
+
+  plain-flags : (n x : ℕ) → x < 2147483648 → Plain (putWord t n 12 x) cap
+  plain-flags n x h = plain-set n 12 (pos x) (omega arith) (λ k. absurd (omega arith)) (λ e. h)
+
+  plain-else : (n w : ℕ) (z : ℤ) → 8 < w → w ≢ 12 → w < 14 → Plain (set t (n * rowWords + w) z) cap
+  plain-else n w z a b l = plain-set n w z l (λ k. absurd (omega arith)) (λ e. absurd (b e))
+
+  plain-either : (b : Bool) {u : List ℤ} → Plain u cap → Plain (cond b t u) cap
+  plain-either true q = p
+  plain-either false q = q
+
+pub plain-put : {t u : List ℤ} {cap : ℕ} (n x : ℕ) → Plain t cap → u ≡ putWord t n 12 x → x < 2147483648 → Plain u cap
+plain-put {cap = cap} n x p e h = rw e (plain-flags p n x h)
+
+-- ---- cells
+
+module _ (cap : ℕ) where
+  pub plain-cells : (f st : ℕ) → f < 2147483648 → (xs : List Spot) {t : List ℤ} → Plain t cap → Plain (putCells xs t cap f st) cap
+  unfolding putCells
+  plain-cells f st h [] p = p
+  plain-cells f st h (x ∷ xs) {t} p =
+      let k = kidAt t cap x in
+      let q : Plain (putUnlessNil t k 12 f) cap = plain-either p (eqb k 0) (plain-flags p k f h) in
+      plain-cells f st h xs (plain-either q (eqb k 0) (plain-else q k 13 (pos st) (omega arith) (λ e. omega arith) (omega arith)))
+
+-- ---- a patch that comes
+
+module _ {t : List ℤ} {cap : ℕ} (p : Plain t cap) where
+  plain-side : (k : ℕ) (w : Wind) → k ≤ cap → Plain (linkSide t cap k w) cap
+  unfolding linkSide sideOf
+  plain-side k w h =
+      let x = sideOf t cap k w in
+      let q : Plain (putWord t k (wordOfWind w) x) cap = plain-link p k (wordOfWind w) x (wind-word w) (link-within t cap _ _) in
+      plain-either q (eqb x 0) (plain-link q x (wordOfWind (compass w .opposite)) k (wind-word (compass w .opposite)) h)
+
+  plain-placed : (d r l m k : ℕ) → r ≤ cap → k ≤ cap → m < 2 → Plain (placeIn t d r l m k) cap
+  unfolding placeIn
+  plain-placed d r l m k a b c =
+      plain-link (plain-flags (plain-else (plain-else (plain-else (plain-link p k 0 r (omega arith) a)
+      k 9 (subℕ (depthOf t d r + 1) d) (omega arith) (λ e. omega arith) (omega arith))
+      k 10 _ (omega arith) (λ e. omega arith) (omega arith))
+      k 11 _ (omega arith) (λ e. omega arith) (omega arith))
+      k 0 (omega arith))
+      r (kidWord l m) k (kid-word-lt l m (omega arith)) b
+
+plain-linked : {t : List ℤ} {cap : ℕ} → Plain t cap → (d r l m k : ℕ) → r ≤ cap → k ≤ cap → m < 2 → Plain (linkIn t cap d r l m k) cap
+unfolding linkIn
+plain-linked p d r l m k a b c = plain-side (plain-side (plain-side (plain-side (plain-placed p d r l m k a b c) k N b) k E b) k S b) k W b
+
+free-within : (t : List ℤ) (cap n k : ℕ) → k + n ≤ cap + 1 → freeFrom t n k ≤ cap
+unfolding freeFrom
+free-within t cap zero k h = omega arith
+free-within t cap (suc n) k h = go (eqb (wordOf t k 12) 8192) (free-within t cap n (k + 1) (omega arith))
+  where
+    go : (b : Bool) → freeFrom t n (k + 1) ≤ cap → cond b k (freeFrom t n (k + 1)) ≤ cap
+    go true i = omega arith
+    go false i = i
+
+-- the spots are kids of rows of the table
+pub data Inside (cap : ℕ) : List Spot → Type 0 where
+  no-spot : Inside cap []
+  and-spot : {x : Spot} {xs : List Spot} → x .row ≤ cap → x .m < 2 → Inside cap xs → Inside cap (x ∷ xs)
+
+module _ (cap d : ℕ) where
+  plain-supplied : (x : Spot) (r : Lending) → x .row ≤ cap → x .m < 2 → r .low ≤ cap + 1 → Plain (r .words) cap → Plain (supplied cap d x r .words) cap
+  unfolding supplied
+  plain-supplied x r a b l p = go (eqb (kidAt (r .words) cap x) 0)
+    where
+      go : (b : Bool) → Plain (cond b (record { words = linkIn (r .words) cap d (x .row) (x .l) (x .m) (freeFrom (r .words) (cap + 1 - r .low) (r .low)); low = freeFrom (r .words) (cap + 1 - r .low) (r .low) + 1 }) r .words) cap
+      go true = plain-linked p d (x .row) (x .l) (x .m) _ a (free-within (r .words) cap (cap + 1 - r .low) (r .low) (omega arith)) b
+      go false = p
+
+  low-supplied : (x : Spot) (r : Lending) → r .low ≤ cap + 1 → supplied cap d x r .low ≤ cap + 1
+  unfolding supplied
+  low-supplied x r l = go (eqb (kidAt (r .words) cap x) 0)
+    where
+      go : (b : Bool) → cond b (record { words = linkIn (r .words) cap d (x .row) (x .l) (x .m) (freeFrom (r .words) (cap + 1 - r .low) (r .low)); low = freeFrom (r .words) (cap + 1 - r .low) (r .low) + 1 }) r .low ≤ cap + 1
+      go true = omega (arith, free-within (r .words) cap (cap + 1 - r .low) (r .low) (omega arith))
+      go false = l
+
+  pub plain-supply : {xs : List Spot} → Inside cap xs → (r : Lending) → r .low ≤ cap + 1 → Plain (r .words) cap → Plain (suppliedAll cap d xs r .words) cap
+  unfolding suppliedAll
+  plain-supply no-spot r l p = p
+  plain-supply (and-spot {x} {xs} a b s) r l p = plain-supply s (supplied cap d x r) (low-supplied x r l) (plain-supplied x r a b l p)
+
+-- ---- a patch that goes
+
+free-link : (w : ℕ) → w < 9 → code (getD freeRow w (pos 0)) ≡ 0
+free-link zero h = refl
+free-link (suc zero) h = refl
+free-link (suc (suc zero)) h = refl
+free-link (suc (suc (suc zero))) h = refl
+free-link (suc (suc (suc (suc zero)))) h = refl
+free-link (suc (suc (suc (suc (suc zero))))) h = refl
+free-link (suc (suc (suc (suc (suc (suc zero)))))) h = refl
+free-link (suc (suc (suc (suc (suc (suc (suc zero))))))) h = refl
+free-link (suc (suc (suc (suc (suc (suc (suc (suc zero)))))))) h = refl
+free-link (suc (suc (suc (suc (suc (suc (suc (suc (suc w))))))))) h = let no : ⊥ = omega arith in absurd no
+
+plain-freed : {t : List ℤ} {cap : ℕ} → Plain t cap → (k : ℕ) → k * rowWords + rowWords ≤ length t → Plain (putRow t k freeRow) cap
+unfolding wordOf
+plain-freed {t} {cap} p k fits = record { links = λ m i h l. link m i h l (ℕ-discrete m k); flags = λ m h. flag m h (ℕ-discrete m k) }
+  where
+    link : (m i : ℕ) → m ≤ cap → i < 9 → Dec (m ≡ k) → wordOf (putRow t k freeRow) m i ≤ cap
+    link m i h l (yes e) = rw (e, put-same t freeRow k refl fits i (omega arith), free-link i l) (omega arith)
+    link m i h l (no e) = rw (put-other t freeRow k refl fits m i (omega arith) e) (p .links m i h l)
+
+    flag : (m : ℕ) → m ≤ cap → Dec (m ≡ k) → wordOf (putRow t k freeRow) m 12 < 2147483648
+    flag m h (yes e) = rw (e, put-same t freeRow k refl fits 12 (omega arith)) (omega arith)
+    flag m h (no e) = rw (put-other t freeRow k refl fits m 12 (omega arith) e) (p .flags m h)
+
+plain-drop : {t : List ℤ} {cap : ℕ} → Plain t cap → (k : ℕ) (w : Wind) → Plain (dropSide t cap k w) cap
+unfolding dropSide
+plain-drop {t} {cap} p k w = plain-either p (eqb (linkOf t cap k (wordOfWind w)) 0) (plain-link p _ (wordOfWind (compass w .opposite)) 0 (wind-word (compass w .opposite)) (omega arith))
+
+plain-out : {t : List ℤ} {cap : ℕ} → Plain t cap → (k : ℕ) → k ≤ cap → cap * rowWords + rowWords ≤ length t → Plain (takeOut t cap k) cap
+unfolding takeOut
+plain-out {t} {cap} p k h fits =
+    plain-freed (plain-drop (plain-drop (plain-drop (plain-drop
+    (plain-link p (linkOf t cap k 0) (kidWord (wordOf t k 10 % 2) (wordOf t k 11 % 2)) 0 (kid-word-lt (wordOf t k 10 % 2) (wordOf t k 11 % 2) (omega arith)) (omega arith))
+    k N) k E) k S) k W) k (omega (arith, length-unnamed t cap k))
+
+module _ (cap d : ℕ) where
+  pub plain-dropped : (xs : List Spot) {t : List ℤ} → Plain t cap → cap * rowWords + rowWords ≤ length t → Plain (dropAt xs t cap d) cap
+  unfolding dropAt
+  plain-dropped [] p fits = p
+  plain-dropped (x ∷ xs) {t} p fits =
+      let k = kidAt t cap x in
+      let (q, l) = one (eqb k 0 || touchedRow t cap d k) in
+      plain-dropped xs q l
+    where
+      one : (b : Bool) → Plain (cond b t (takeOut t cap (kidAt t cap x))) cap × (cap * rowWords + rowWords ≤ length (cond b t (takeOut t cap (kidAt t cap x))))
+      one true = (p, fits)
+      one false = (plain-out p (kidAt t cap x) (link-within t cap _ _) fits, omega (arith, length-takeOut t cap fits (kidAt t cap x) (link-within t cap _ _)))
+
+-- ---- a picture
+
+pub picture-links : (s : State) (n w : ℕ) → w < 9 → wordOf (table s) n w ≤ capacity s
+picture-links s n w h = rw (word-link s n w h) (number-le s (getD (around (gridOf s) (placeOf (entry (s .entries) n))) w none))
