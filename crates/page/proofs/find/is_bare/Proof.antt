@@ -1,7 +1,8 @@
 -- `page::is_bare` meets its contract, word by word.
 -- Assumes nothing.
+use mathlib.Core.Path.{ap₂}
+use mathlib.Core.Bool.{_&&_}
 use borrow.Author.Needs.{needs}
-use Rattle.walk.proofs.Steps.{both}
 use Rattle.page.specs.Rows.{bareRow}
 use Rattle.page.proofs.find.is_bare.Tie as tie
 use Rattle.page.proofs.find.is_bare.Statement.{statement}
@@ -20,7 +21,7 @@ says-requires-4 c κs = search needs
 
 returns : tie.Need-returns
 unfolding bareRow
-returns c = both (c .before .before .before .says .ensures) (both (c .before .before .says2 .ensures) (both (c .before .says3 .ensures) (c .says4 .ensures)))
+returns c = ap₂ _&&_ (c .before .before .before .says .ensures) (ap₂ _&&_ (c .before .before .says2 .ensures) (ap₂ _&&_ (c .before .says3 .ensures) (c .says4 .ensures)))
 
 pub is-bare-spec : {M : Type 1} → statement M
 is-bare-spec =
