@@ -8,6 +8,7 @@ use mathlib.Core.Bool.{Bool, true, false, cond}
 use mathlib.Core.List.{List, [], _∷_, _++_, append-assoc, append-nil}
 use lib.Dec.{T, eqb, leb, eqb→eq}
 use lib.ListN.{length, getD, take, drop, length-append, take-append-drop}
+use lib.Seq.{drop-cons}
 use lib.IntN.{ℤ}
 use lib.Ieee.{Float}
 use Rattle.mesh.specs.State.{plusZero}
@@ -213,6 +214,12 @@ module _ (t : List ℤ) (cap : ℕ) where
   pub leaves-within : (l n : ℕ) → n ≤ cap → (i : ℕ) → getD (leavesFrom t cap l n) i 0 ≤ cap
   leaves-within l n b = within-levels l l n (omega arith) b
 
+-- a part that is one element
+alone : (ns : List ℕ) (i : ℕ) → i < length ns → take (i + 1 - i) (drop i ns) ≡ getD ns i 0 ∷ []
+alone ns i h =
+    let e : i + 1 - i ≡ 1 = omega arith in
+    ap (λ (k : ℕ). take k (drop i ns)) e ∙ ap (take 1) (drop-cons ns i 0 h)
+
 -- ---- their lines
 
 module _ (t : List ℤ) (v : List Float) where
@@ -242,3 +249,20 @@ module _ (t : List ℤ) (v : List Float) where
       let e : linesOf t v ns ≡ linesOf t v (take (i + 1) ns) ++ linesOf t v (drop (i + 1) ns) =
       sym (sym (lines-append (take (i + 1) ns) (drop (i + 1) ns)) ∙ ap (linesOf t v) (take-append-drop (i + 1) ns)) in
       omega (arith, ap length e, length-append (linesOf t v (take (i + 1) ns)) (linesOf t v (drop (i + 1) ns)), lines-longer ns i h)
+
+  -- one leaf alone
+  pub lines-alone : (ns : List ℕ) (i : ℕ) → i < length ns → linesOf t v (take (i + 1 - i) (drop i ns)) ≡ rowLine t v (getD ns i 0)
+  lines-alone ns i h = ap (linesOf t v) (alone ns i h) ∙ lines-one (getD ns i 0)
+
+  pub alone-short : (ns : List ℕ) (i : ℕ) → i < length ns → length (linesOf t v (take (i + 1 - i) (drop i ns))) ≤ 103
+  alone-short ns i h = omega (arith, ap length (lines-alone ns i h), line-short t v (getD ns i 0))
+
+pub alone-few : (ns : List ℕ) (i : ℕ) → i < length ns → length (take (i + 1 - i) (drop i ns)) ≤ 4096
+alone-few ns i h = omega (arith, ap length (alone ns i h))
+
+pub alone-within : (cap : ℕ) (ns : List ℕ) (i : ℕ) → i < length ns → ((k : ℕ) → getD ns k 0 ≤ cap) → (k : ℕ) → getD (take (i + 1 - i) (drop i ns)) k 0 ≤ cap
+alone-within cap ns i h f k = rw (alone ns i h) (go k)
+  where
+    go : (k : ℕ) → getD (getD ns i 0 ∷ []) k 0 ≤ cap
+    go zero = f i
+    go (suc k) = omega arith

@@ -2,7 +2,7 @@
 ghost use mathlib.Core.List.{List, [], _∷_};
 ghost use mathlib.Core.Path.{_≡_};
 ghost use Prim.Native.Nat.{_+_, _*_, _%_, _^_, _<_, _≤_};
-ghost use lib.ListN.{length};
+ghost use lib.ListN.{length, getD};
 ghost use lib.Ieee.{Float};
 ghost use Rattle.mesh.specs.Picture.{rowWords};
 ghost use Rattle.mesh.specs.Page.{letter, hexIn, line, total};
@@ -123,13 +123,14 @@ pub fn sum_of(s: &[u8]) -> u32
     sum
 }
 
-// The sum of the bytes of a line.
-fn line_sum(t: &[i32], v: &[f64], n: usize) -> u32
-    requires { ⌜ (n * rowWords + rowWords ≤ length (now t)) × (n < length (now v)) × (n ≤ 4095) ⌝ }
-    ensures { λ r. ⌜ r ≡ total (rowLine (now (t .entry)) (now (v .entry)) n) % 2 ^ 32 ⌝ }
+// The sum of the bytes of the line of the leaf at i.
+fn line_sum(t: &[i32], v: &[f64], cap: usize, leaves: &[u16], i: usize) -> u32
+    requires { ⌜ Listed (now t) (now v) cap (now leaves) × (i < length (now leaves)) ⌝ }
+    ensures { λ r. ⌜ r ≡ total (rowLine (now (t .entry)) (now (v .entry)) (getD (now (leaves .entry)) i 0)) % 2 ^ 32 ⌝ }
 {
+    let end = i + 1;
     let mut line = [0u8; 103];
-    let k = put_line(t, v, n, &mut line, 0);
+    let k = put_lines(t, v, cap, &leaves[i..end], &mut line, 0);
     sum_of(&line[..k])
 }
 
@@ -141,7 +142,7 @@ pub fn lines_sum(t: &[i32], v: &[f64], cap: usize, leaves: &[u16], s: u32) -> u3
     let mut sum = s;
     let mut i = 0;
     while i < leaves.len() {
-        sum = std::num::wrapping_add_u32(sum, line_sum(t, v, leaves[i] as usize));
+        sum = std::num::wrapping_add_u32(sum, line_sum(t, v, cap, leaves, i));
         i += 1;
     }
     sum

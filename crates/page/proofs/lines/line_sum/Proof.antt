@@ -7,34 +7,56 @@ use lib.Seq.{length-take-le}
 use borrow.Author.Needs.{needs}
 use Rattle.mesh.specs.Page.{total}
 use Rattle.page.proofs.Puts.{text-put, put-front}
-use Rattle.page.proofs.Worded.{line-short}
+use Rattle.page.proofs.Worded.{lines-alone, alone-short, alone-few, alone-within}
 use Rattle.page.proofs.lines.line_sum.Tie as tie
 use Rattle.page.proofs.lines.line_sum.Statement.{statement}
 
-slice-aggregate-put-line : tie.Need-slice-aggregate-put-line
-slice-aggregate-put-line c = search needs
+add-end : tie.Need-add-end
+add-end c = search needs
 
-put-line-requires : tie.Need-put-line-requires
-put-line-requires c κs = omega (arith, c .before .before .pre, line-short (c .before .before .args .t .now) (c .before .before .args .v .now) (c .before .before .args .n))
+mul-put-lines : tie.Need-mul-put-lines
+mul-put-lines c = search needs
+
+sub-put-lines : tie.Need-sub-put-lines
+sub-put-lines c = search needs
+
+part-put-lines-start : tie.Need-part-put-lines-start
+part-put-lines-start c = search needs
+
+part-put-lines-end : tie.Need-part-put-lines-end
+part-put-lines-end c = search needs
+
+slice-aggregate-put-lines : tie.Need-slice-aggregate-put-lines
+slice-aggregate-put-lines c = search needs
+
+put-lines-requires : tie.Need-put-lines-requires
+put-lines-requires c κs = ((c .before .before .before .before .pre .0 .0, c .before .before .before .before .pre .0 .1, c .before .before .before .before .pre .0 .2, alone-few (c .before .before .before .before .args .leaves .now) (c .before .before .before .before .args .i) (c .before .before .before .before .pre .1), alone-within _ (c .before .before .before .before .args .leaves .now) (c .before .before .before .before .args .i) (c .before .before .before .before .pre .1) (c .before .before .before .before .pre .0 .4)), omega (arith, alone-short (c .before .before .before .before .args .t .now) (c .before .before .before .before .args .v .now) (c .before .before .before .before .args .leaves .now) (c .before .before .before .before .args .i) (c .before .before .before .before .pre .1)))
 
 array-share-prefix-line : tie.Need-array-share-prefix-line
-array-share-prefix-line c = omega (arith, text-put (c .before .put-line .ensures), line-short (c .before .before .before .before .args .t .now) (c .before .before .before .before .args .v .now) (c .before .before .before .before .args .n))
+array-share-prefix-line c = omega (arith, text-put (c .before .put-lines .ensures), alone-short (c .before .before .before .before .before .before .args .t .now) (c .before .before .before .before .before .before .args .v .now) (c .before .before .before .before .before .before .args .leaves .now) (c .before .before .before .before .before .before .args .i) (c .before .before .before .before .before .before .pre .1))
 
 slice-aggregate-sum-of : tie.Need-slice-aggregate-sum-of
-slice-aggregate-sum-of c = sym (length-take-le _ _ (omega (arith, text-put (c .before .before .put-line .ensures), line-short (c .before .before .before .before .before .args .t .now) (c .before .before .before .before .before .args .v .now) (c .before .before .before .before .before .args .n))))
+slice-aggregate-sum-of c = sym (length-take-le _ _ (omega (arith, text-put (c .before .before .put-lines .ensures), alone-short (c .before .before .before .before .before .before .before .args .t .now) (c .before .before .before .before .before .before .before .args .v .now) (c .before .before .before .before .before .before .before .args .leaves .now) (c .before .before .before .before .before .before .before .args .i) (c .before .before .before .before .before .before .before .pre .1))))
 
 sum-of-requires : tie.Need-sum-of-requires
 sum-of-requires c κs = search needs
 
 returns : tie.Need-returns
-returns c = c .sum-of .ensures ∙ ap (λ z. total z % 2 ^ 32) (put-front (c .before .before .before .put-line .ensures) (omega (arith, line-short (c .before .before .before .before .before .before .args .t .now) (c .before .before .before .before .before .before .args .v .now) (c .before .before .before .before .before .before .args .n))))
+returns c =
+    c .sum-of .ensures
+    ∙ ap (λ z. total z % 2 ^ 32) (put-front (c .before .before .before .put-lines .ensures) (omega (arith, alone-short (c .before .before .before .before .before .before .before .before .args .t .now) (c .before .before .before .before .before .before .before .before .args .v .now) (c .before .before .before .before .before .before .before .before .args .leaves .now) (c .before .before .before .before .before .before .before .before .args .i) (c .before .before .before .before .before .before .before .before .pre .1))) ∙ lines-alone (c .before .before .before .before .before .before .before .before .args .t .now) (c .before .before .before .before .before .before .before .before .args .v .now) (c .before .before .before .before .before .before .before .before .args .leaves .now) (c .before .before .before .before .before .before .before .before .args .i) (c .before .before .before .before .before .before .before .before .pre .1))
 
 pub line-sum-spec : {M : Type 1} → statement M
 line-sum-spec =
     tie.close
     (tie.spec
-    slice-aggregate-put-line
-    put-line-requires
+    add-end
+    mul-put-lines
+    sub-put-lines
+    part-put-lines-start
+    part-put-lines-end
+    slice-aggregate-put-lines
+    put-lines-requires
     array-share-prefix-line
     slice-aggregate-sum-of
     sum-of-requires

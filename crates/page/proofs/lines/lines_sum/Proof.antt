@@ -22,17 +22,8 @@ loop-holds : tie.Need-loop-holds Inv-loop μ-loop
 unfolding linesOf
 loop-holds c = (omega arith, omega arith)
 
-mul-line-sum : tie.Need-mul-line-sum Inv-loop μ-loop
-mul-line-sum c = search needs
-
-shared-slice-read-line-sum : tie.Need-shared-slice-read-line-sum Inv-loop μ-loop
-shared-slice-read-line-sum c = search needs
-
-cast-line-sum : tie.Need-cast-line-sum Inv-loop μ-loop
-cast-line-sum c = omega (arith, c .shared-slice-known3 .given (c .before .before .loop .i))
-
 line-sum-requires : tie.Need-line-sum-requires Inv-loop μ-loop
-line-sum-requires c κs = omega (arith, c .before .before .before .before .before .pre .4 (c .before .before .loop .i))
+line-sum-requires c κs = (c .before .before .before .before .pre, c .loop-test .taken)
 
 wrapping-add-u32-requires : tie.Need-wrapping-add-u32-requires Inv-loop μ-loop
 wrapping-add-u32-requires c κs = search needs
@@ -45,7 +36,7 @@ loop-less c = search needs
 
 loop-again : tie.Need-loop-again Inv-loop μ-loop
 loop-again c =
-    (omega arith, omega (arith, c .before .before .before .before .loop .inv .1, c .wrapping-add-u32 .ensures, c .before .line-sum .ensures, lines-total (c .before .before .before .before .before .before .before .args .t .now) (c .before .before .before .before .before .before .before .args .v .now) (c .before .before .before .before .before .before .before .args .leaves .now) (c .before .before .before .before .loop .i) (c .before .before .before .loop-test .taken)))
+    (omega arith, omega (arith, c .before .before .before .loop .inv .1, c .wrapping-add-u32 .ensures, c .before .line-sum .ensures, lines-total (c .before .before .before .before .before .before .args .t .now) (c .before .before .before .before .before .before .args .v .now) (c .before .before .before .before .before .before .args .leaves .now) (c .before .before .before .loop .i) (c .before .before .loop-test .taken)))
 
 returns : tie.Need-returns Inv-loop μ-loop
 returns c = c .before .loop .inv .1 ∙ ap (λ z. (c .before .before .before .before .args .s + total (linesOf (c .before .before .before .before .args .t .now) (c .before .before .before .before .args .v .now) z)) % 2 ^ 32) (take-all _ _ (c .loop-test .left))
@@ -57,9 +48,6 @@ lines-sum-spec =
     Inv-loop
     μ-loop
     loop-holds
-    mul-line-sum
-    shared-slice-read-line-sum
-    cast-line-sum
     line-sum-requires
     wrapping-add-u32-requires
     add-i
