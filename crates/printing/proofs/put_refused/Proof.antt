@@ -22,15 +22,19 @@ slice-aggregate-put-text-2 : tie.Need-slice-aggregate-put-text-2
 slice-aggregate-put-text-2 c = search needs
 
 put-text-requires-2 : tie.Need-put-text-requires-2
-put-text-requires-2 c κs = omega (arith, c .before .before .before .before .before .before .before .before .before .before .before .before .pre, text-put (c .before .before .before .before .before .before .before .before .put-text .ensures), number-put (c .before .before .before .before .before .before .before .before .before .before .before .before .args .n) (c .before .before .before .before .put-number .ensures), refused-size (c .before .before .before .before .before .before .before .before .before .before .before .before .args .n) (c .before .before .before .before .before .before .before .before .before .before .before .before .args .o))
+put-text-requires-2 c κs =
+    let a = c .before .before .before .before .before .before .before .before .before .before .before .before .args in
+    omega (arith, c .before .before .before .before .before .before .before .before .before .before .before .before .pre, text-put (c .before .before .before .before .before .before .before .before .put-text .ensures), number-put (a .n) (c .before .before .before .before .put-number .ensures), refused-size (a .n) (a .o))
 
 put-decimal-requires : tie.Need-put-decimal-requires
 put-decimal-requires c κs =
-    omega (arith, c .before .before .before .before .before .before .before .before .before .before .before .before .before .before .before .before .pre, text-put (c .before .before .before .before .before .before .before .before .before .before .before .before .put-text .ensures), number-put (c .before .before .before .before .before .before .before .before .before .before .before .before .before .before .before .before .args .n) (c .before .before .before .before .before .before .before .before .put-number .ensures), text-put (c .before .before .before .put-text2 .ensures), refused-size (c .before .before .before .before .before .before .before .before .before .before .before .before .before .before .before .before .args .n) (c .before .before .before .before .before .before .before .before .before .before .before .before .before .before .before .before .args .o))
+    let a = c .before .before .before .before .before .before .before .before .before .before .before .before .before .before .before .before .args in
+    omega (arith, c .before .before .before .before .before .before .before .before .before .before .before .before .before .before .before .before .pre, text-put (c .before .before .before .before .before .before .before .before .before .before .before .before .put-text .ensures), number-put (a .n) (c .before .before .before .before .before .before .before .before .put-number .ensures), text-put (c .before .before .before .put-text2 .ensures), refused-size (a .n) (a .o))
 
 put-byte-requires : tie.Need-put-byte-requires
 put-byte-requires c κs =
-    omega (arith, c .before .before .before .before .before .before .before .before .before .before .before .before .before .before .before .before .before .before .before .before .pre, text-put (c .before .before .before .before .before .before .before .before .before .before .before .before .before .before .before .before .put-text .ensures), number-put (c .before .before .before .before .before .before .before .before .before .before .before .before .before .before .before .before .before .before .before .before .args .n) (c .before .before .before .before .before .before .before .before .before .before .before .before .put-number .ensures), text-put (c .before .before .before .before .before .before .before .put-text2 .ensures), text-put (c .before .before .before .put-decimal .ensures), refused-size (c .before .before .before .before .before .before .before .before .before .before .before .before .before .before .before .before .before .before .before .before .args .n) (c .before .before .before .before .before .before .before .before .before .before .before .before .before .before .before .before .before .before .before .before .args .o))
+    let a = c .before .before .before .before .before .before .before .before .before .before .before .before .before .before .before .before .before .before .before .before .args in
+    omega (arith, c .before .before .before .before .before .before .before .before .before .before .before .before .before .before .before .before .before .before .before .before .pre, text-put (c .before .before .before .before .before .before .before .before .before .before .before .before .before .before .before .before .put-text .ensures), number-put (a .n) (c .before .before .before .before .before .before .before .before .before .before .before .before .put-number .ensures), text-put (c .before .before .before .before .before .before .before .put-text2 .ensures), text-put (c .before .before .before .put-decimal .ensures), refused-size (a .n) (a .o))
 
 same-length : tie.Need-same-length
 same-length c = search needs

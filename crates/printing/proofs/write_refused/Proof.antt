@@ -24,7 +24,9 @@ add-if1-2 : tie.Need-add-if1-2
 add-if1-2 c = search needs
 
 returns : tie.Need-returns
-returns c = page-refused (refusedLine (c .before .before .before .before .args .n) (c .before .before .before .before .args .o)) _ (omega (arith, c .before .before .digits .ensures, c .before .digits2 .ensures, c .if1 .taken, refused-size (c .before .before .before .before .args .n) (c .before .before .before .before .args .o)))
+returns c =
+    let a = c .before .before .before .before .args in
+    page-refused (refusedLine (a .n) (a .o)) _ (omega (arith, c .before .before .digits .ensures, c .before .digits2 .ensures, c .if1 .taken, refused-size (a .n) (a .o)))
 
 put-refused-requires : tie.Need-put-refused-requires
 put-refused-requires c κs = omega (arith, c .before .before .before .digits .ensures, c .before .before .digits2 .ensures, c .before .if1 .left, refused-size (c .before .before .before .before .before .args .n) (c .before .before .before .before .before .args .o))
@@ -33,7 +35,9 @@ same-length : tie.Need-same-length
 same-length c = search needs
 
 returns-2 : tie.Need-returns-2
-returns-2 c = page-written (refusedLine (c .before .before .before .before .before .before .before .before .args .n) (c .before .before .before .before .before .before .before .before .args .o)) _ (omega (arith, c .before .before .before .before .before .before .digits .ensures, c .before .before .before .before .before .digits2 .ensures, c .before .before .before .before .if1 .left, refused-size (c .before .before .before .before .before .before .before .before .args .n) (c .before .before .before .before .before .before .before .before .args .o))) (c .before .before .put-refused .ensures)
+returns-2 c =
+    let a = c .before .before .before .before .before .before .before .before .args in
+    page-written (refusedLine (a .n) (a .o)) _ (omega (arith, c .before .before .before .before .before .before .digits .ensures, c .before .before .before .before .before .digits2 .ensures, c .before .before .before .before .if1 .left, refused-size (a .n) (a .o))) (c .before .before .put-refused .ensures)
 
 pub write-refused-spec : {M : Type 1} → statement M
 write-refused-spec =

@@ -34,7 +34,9 @@ find-leaves-returns : (t : ℕ) → find-leaves-lts.Need-returns (callees t) (fi
 find-leaves-returns t c = put-as (leaves-none _ _ (c .before .before .args .l) _ (c .if1 .taken)) (put-none _ _)
 
 find-leaves-put-own-requires : (t : ℕ) → find-leaves-lts.Need-put-own-requires (callees t) (find-leaves-at t) find-leaves.Post
-find-leaves-put-own-requires t c κs = omega (arith, own-few (c .before .before .before .args .t .now) (c .before .before .before .args .cap) (c .before .before .before .args .l) (c .before .before .before .args .n) (c .before .if1 .left))
+find-leaves-put-own-requires t c κs =
+    let a = c .before .before .before .args in
+    omega (arith, own-few (a .t .now) (a .cap) (a .l) (a .n) (c .before .if1 .left))
 
 find-leaves-same-length : (t : ℕ) → find-leaves-lts.Need-same-length (callees t) (find-leaves-at t) find-leaves.Post
 find-leaves-same-length t c = c .before .before .before .put-own .kept .1 .1 .1 .0
@@ -68,32 +70,38 @@ find-leaves-link-requires-4 t c κs = omega (arith, c .before .before .before .b
 
 find-leaves-find-leaves-requires : (t : ℕ) → find-leaves-lts.Need-find-leaves-requires (callees t) (find-leaves-at t) find-leaves.Post
 find-leaves-find-leaves-requires t c κs =
-    omega (arith, c .before .before .before .before .before .before .before .before .before .before .before .before .before .before .pre, c .before .before .before .before .before .before .before .if2 .left, c .before .before .before .before .link .ensures .0, text-put (c .before .before .before .before .before .before .before .before .before .before .put-own .ensures), leaves-count _ _ (c .before .before .before .before .before .before .before .before .before .before .before .before .before .before .args .l) _ _ _ _ _ (c .before .before .before .before .before .before .before .if2 .left) (c .before .before .before .before .before .before .before .before .before .before .before .before .if1 .left) (c .before .before .before .before .link .ensures .1) (c .before .before .before .link2 .ensures .1) (c .before .before .link3 .ensures .1) (c .before .link4 .ensures .1))
+    let s = c .before .before .before .before .before .before .before in
+    omega (arith, s .before .before .before .before .before .before .before .pre, s .if2 .left, c .before .before .before .before .link .ensures .0, text-put (s .before .before .before .put-own .ensures), leaves-count _ _ (s .before .before .before .before .before .before .before .args .l) _ _ _ _ _ (s .if2 .left) (s .before .before .before .before .before .if1 .left) (c .before .before .before .before .link .ensures .1) (c .before .before .before .link2 .ensures .1) (c .before .before .link3 .ensures .1) (c .before .link4 .ensures .1))
 
 find-leaves-find-leaves-requires-2 : (t : ℕ) → find-leaves-lts.Need-find-leaves-requires-2 (callees t) (find-leaves-at t) find-leaves.Post
 find-leaves-find-leaves-requires-2 t c κs =
-    omega (arith, c .before .before .before .before .before .before .before .before .before .before .before .before .before .before .before .before .before .before .pre, c .before .before .before .before .before .before .before .before .before .before .before .if2 .left, c .before .before .before .before .before .before .before .link2 .ensures .0, text-put (c .before .before .before .before .before .before .before .before .before .before .before .before .before .before .put-own .ensures), text-put (c .before .before .before .find-leaves .ensures), leaves-count _ _ (c .before .before .before .before .before .before .before .before .before .before .before .before .before .before .before .before .before .before .args .l) _ _ _ _ _ (c .before .before .before .before .before .before .before .before .before .before .before .if2 .left) (c .before .before .before .before .before .before .before .before .before .before .before .before .before .before .before .before .if1 .left) (c .before .before .before .before .before .before .before .before .link .ensures .1) (c .before .before .before .before .before .before .before .link2 .ensures .1) (c .before .before .before .before .before .before .link3 .ensures .1) (c .before .before .before .before .before .link4 .ensures .1))
+    let s = c .before .before .before .before .before .before .before in
+    omega (arith, s .before .before .before .before .before .before .before .before .before .before .before .pre, s .before .before .before .before .if2 .left, s .link2 .ensures .0, text-put (s .before .before .before .before .before .before .before .put-own .ensures), text-put (c .before .before .before .find-leaves .ensures), leaves-count _ _ (s .before .before .before .before .before .before .before .before .before .before .before .args .l) _ _ _ _ _ (s .before .before .before .before .if2 .left) (s .before .before .before .before .before .before .before .before .before .if1 .left) (s .before .link .ensures .1) (s .link2 .ensures .1) (c .before .before .before .before .before .before .link3 .ensures .1) (c .before .before .before .before .before .link4 .ensures .1))
 
 find-leaves-find-leaves-requires-3 : (t : ℕ) → find-leaves-lts.Need-find-leaves-requires-3 (callees t) (find-leaves-at t) find-leaves.Post
 find-leaves-find-leaves-requires-3 t c κs =
-    omega (arith, c .before .before .before .before .before .before .before .before .before .before .before .before .before .before .before .before .before .before .before .before .before .before .pre, c .before .before .before .before .before .before .before .before .before .before .before .before .before .before .before .if2 .left, c .before .before .before .before .before .before .before .before .before .before .link3 .ensures .0, text-put (c .before .before .before .before .before .before .before .before .before .before .before .before .before .before .before .before .before .before .put-own .ensures), text-put (c .before .before .before .before .before .before .before .find-leaves .ensures), text-put (c .before .before .before .find-leaves2 .ensures), leaves-count _ _ (c .before .before .before .before .before .before .before .before .before .before .before .before .before .before .before .before .before .before .before .before .before .before .args .l) _ _ _ _ _ (c .before .before .before .before .before .before .before .before .before .before .before .before .before .before .before .if2 .left) (c .before .before .before .before .before .before .before .before .before .before .before .before .before .before .before .before .before .before .before .before .if1 .left) (c .before .before .before .before .before .before .before .before .before .before .before .before .link .ensures .1) (c .before .before .before .before .before .before .before .before .before .before .before .link2 .ensures .1) (c .before .before .before .before .before .before .before .before .before .before .link3 .ensures .1) (c .before .before .before .before .before .before .before .before .before .link4 .ensures .1))
+    let s = c .before .before .before .before .before .before .before .before .before in
+    omega (arith, s .before .before .before .before .before .before .before .before .before .before .before .before .before .pre, s .before .before .before .before .before .before .if2 .left, s .before .link3 .ensures .0, text-put (s .before .before .before .before .before .before .before .before .before .put-own .ensures), text-put (c .before .before .before .before .before .before .before .find-leaves .ensures), text-put (c .before .before .before .find-leaves2 .ensures), leaves-count _ _ (s .before .before .before .before .before .before .before .before .before .before .before .before .before .args .l) _ _ _ _ _ (s .before .before .before .before .before .before .if2 .left) (s .before .before .before .before .before .before .before .before .before .before .before .if1 .left) (s .before .before .before .link .ensures .1) (s .before .before .link2 .ensures .1) (s .before .link3 .ensures .1) (s .link4 .ensures .1))
 
 find-leaves-find-leaves-requires-4 : (t : ℕ) → find-leaves-lts.Need-find-leaves-requires-4 (callees t) (find-leaves-at t) find-leaves.Post
 find-leaves-find-leaves-requires-4 t c κs =
-    omega (arith, c .before .before .before .before .before .before .before .before .before .before .before .before .before .before .before .before .before .before .before .before .before .before .before .before .before .before .pre, c .before .before .before .before .before .before .before .before .before .before .before .before .before .before .before .before .before .before .before .if2 .left, c .before .before .before .before .before .before .before .before .before .before .before .before .before .link4 .ensures .0, text-put (c .before .before .before .before .before .before .before .before .before .before .before .before .before .before .before .before .before .before .before .before .before .before .put-own .ensures), text-put (c .before .before .before .before .before .before .before .before .before .before .before .find-leaves .ensures), text-put (c .before .before .before .before .before .before .before .find-leaves2 .ensures), text-put (c .before .before .before .find-leaves3 .ensures), leaves-count _ _ (c .before .before .before .before .before .before .before .before .before .before .before .before .before .before .before .before .before .before .before .before .before .before .before .before .before .before .args .l) _ _ _ _ _ (c .before .before .before .before .before .before .before .before .before .before .before .before .before .before .before .before .before .before .before .if2 .left) (c .before .before .before .before .before .before .before .before .before .before .before .before .before .before .before .before .before .before .before .before .before .before .before .before .if1 .left) (c .before .before .before .before .before .before .before .before .before .before .before .before .before .before .before .before .link .ensures .1) (c .before .before .before .before .before .before .before .before .before .before .before .before .before .before .before .link2 .ensures .1) (c .before .before .before .before .before .before .before .before .before .before .before .before .before .before .link3 .ensures .1) (c .before .before .before .before .before .before .before .before .before .before .before .before .before .link4 .ensures .1))
+    let s = c .before .before .before .before .before .before .before .before .before .before .before .before .before in
+    omega (arith, s .before .before .before .before .before .before .before .before .before .before .before .before .before .pre, s .before .before .before .before .before .before .if2 .left, s .link4 .ensures .0, text-put (s .before .before .before .before .before .before .before .before .before .put-own .ensures), text-put (c .before .before .before .before .before .before .before .before .before .before .before .find-leaves .ensures), text-put (c .before .before .before .before .before .before .before .find-leaves2 .ensures), text-put (c .before .before .before .find-leaves3 .ensures), leaves-count _ _ (s .before .before .before .before .before .before .before .before .before .before .before .before .before .args .l) _ _ _ _ _ (s .before .before .before .before .before .before .if2 .left) (s .before .before .before .before .before .before .before .before .before .before .before .if1 .left) (s .before .before .before .link .ensures .1) (s .before .before .link2 .ensures .1) (s .before .link3 .ensures .1) (s .link4 .ensures .1))
 
 find-leaves-same-length-3 : (t : ℕ) → find-leaves-lts.Need-same-length-3 (callees t) (find-leaves-at t) find-leaves.Post
 find-leaves-same-length-3 t c =
+    let s = c .before .before .before .before .before .before .before .before .before .before in
     c .before .before .find-leaves4 .kept .1 .1 .1 .1 .0
     ∙ c .before .before .before .before .before .before .find-leaves3 .kept .1 .1 .1 .1 .0
-    ∙ c .before .before .before .before .before .before .before .before .before .before .find-leaves2 .kept .1 .1 .1 .1 .0
-    ∙ c .before .before .before .before .before .before .before .before .before .before .before .before .before .before .find-leaves .kept .1 .1 .1 .1 .0
-    ∙ c .before .before .before .before .before .before .before .before .before .before .before .before .before .before .before .before .before .before .before .before .before .before .before .before .before .put-own .kept .1 .1 .1 .0
+    ∙ s .find-leaves2 .kept .1 .1 .1 .1 .0
+    ∙ s .before .before .before .before .find-leaves .kept .1 .1 .1 .1 .0
+    ∙ s .before .before .before .before .before .before .before .before .before .before .before .before .before .before .before .put-own .kept .1 .1 .1 .0
 
 find-leaves-returns-4 : (t : ℕ) → find-leaves-lts.Need-returns-4 (callees t) (find-leaves-at t) find-leaves.Post
 find-leaves-returns-4 t c =
-    put-row _ _ (c .before .before .before .before .before .before .before .before .before .before .before .before .before .before .before .before .before .before .before .before .before .before .before .before .before .before .before .before .before .args .l) _ _ _ _ _ (c .before .before .before .before .before .before .before .before .before .before .before .before .before .before .before .before .before .before .before .before .before .before .if2 .left) (c .before .before .before .before .before .before .before .before .before .before .before .before .before .before .before .before .before .before .before .before .before .before .before .before .before .before .before .if1 .left) (c .before .before .before .before .before .before .before .before .before .before .before .before .before .before .before .before .before .before .before .link .ensures .1) (c .before .before .before .before .before .before .before .before .before .before .before .before .before .before .before .before .before .before .link2 .ensures .1) (c .before .before .before .before .before .before .before .before .before .before .before .before .before .before .before .before .before .link3 .ensures .1) (c .before .before .before .before .before .before .before .before .before .before .before .before .before .before .before .before .link4 .ensures .1)
-    (c .before .before .before .before .before .before .before .before .before .before .before .before .before .before .before .before .before .before .before .before .before .before .before .before .before .put-own .ensures) (c .before .before .before .before .before .before .before .before .before .before .before .before .before .before .find-leaves .ensures) (c .before .before .before .before .before .before .before .before .before .before .find-leaves2 .ensures) (c .before .before .before .before .before .before .find-leaves3 .ensures) (c .before .before .find-leaves4 .ensures)
+    let s = c .before .before .before .before .before .before .before .before .before .before .before .before .before .before in
+    put-row _ _ (s .before .before .before .before .before .before .before .before .before .before .before .before .before .before .before .args .l) _ _ _ _ _ (s .before .before .before .before .before .before .before .before .if2 .left) (s .before .before .before .before .before .before .before .before .before .before .before .before .before .if1 .left) (s .before .before .before .before .before .link .ensures .1) (s .before .before .before .before .link2 .ensures .1) (s .before .before .before .link3 .ensures .1) (s .before .before .link4 .ensures .1)
+    (s .before .before .before .before .before .before .before .before .before .before .before .put-own .ensures) (s .find-leaves .ensures) (c .before .before .before .before .before .before .before .before .before .before .find-leaves2 .ensures) (c .before .before .before .before .before .before .find-leaves3 .ensures) (c .before .before .find-leaves4 .ensures)
 
 pub +find-leaves-spec : {M : Type 1} → statement M
 +find-leaves-spec = close μ-find-leaves λ t. find-leaves-lts.spec (callees t)

@@ -30,21 +30,28 @@ slice-aggregate-put-lines : tie.Need-slice-aggregate-put-lines
 slice-aggregate-put-lines c = search needs
 
 put-lines-requires : tie.Need-put-lines-requires
-put-lines-requires c κs = ((c .before .before .before .before .pre .0 .0, c .before .before .before .before .pre .0 .1, c .before .before .before .before .pre .0 .2, alone-few (c .before .before .before .before .args .leaves .now) (c .before .before .before .before .args .i) (c .before .before .before .before .pre .1), alone-within _ (c .before .before .before .before .args .leaves .now) (c .before .before .before .before .args .i) (c .before .before .before .before .pre .1) (c .before .before .before .before .pre .0 .4)), omega (arith, alone-short (c .before .before .before .before .args .t .now) (c .before .before .before .before .args .v .now) (c .before .before .before .before .args .leaves .now) (c .before .before .before .before .args .i) (c .before .before .before .before .pre .1)))
+put-lines-requires c κs =
+    let a = c .before .before .before .before .args in
+    ((c .before .before .before .before .pre .0 .0, c .before .before .before .before .pre .0 .1, c .before .before .before .before .pre .0 .2, alone-few (a .leaves .now) (a .i) (c .before .before .before .before .pre .1), alone-within _ (a .leaves .now) (a .i) (c .before .before .before .before .pre .1) (c .before .before .before .before .pre .0 .4)), omega (arith, alone-short (a .t .now) (a .v .now) (a .leaves .now) (a .i) (c .before .before .before .before .pre .1)))
 
 array-share-prefix-line : tie.Need-array-share-prefix-line
-array-share-prefix-line c = omega (arith, text-put (c .before .put-lines .ensures), alone-short (c .before .before .before .before .before .before .args .t .now) (c .before .before .before .before .before .before .args .v .now) (c .before .before .before .before .before .before .args .leaves .now) (c .before .before .before .before .before .before .args .i) (c .before .before .before .before .before .before .pre .1))
+array-share-prefix-line c =
+    let a = c .before .before .before .before .before .before .args in
+    omega (arith, text-put (c .before .put-lines .ensures), alone-short (a .t .now) (a .v .now) (a .leaves .now) (a .i) (c .before .before .before .before .before .before .pre .1))
 
 slice-aggregate-sum-of : tie.Need-slice-aggregate-sum-of
-slice-aggregate-sum-of c = sym (length-take-le _ _ (omega (arith, text-put (c .before .before .put-lines .ensures), alone-short (c .before .before .before .before .before .before .before .args .t .now) (c .before .before .before .before .before .before .before .args .v .now) (c .before .before .before .before .before .before .before .args .leaves .now) (c .before .before .before .before .before .before .before .args .i) (c .before .before .before .before .before .before .before .pre .1))))
+slice-aggregate-sum-of c =
+    let a = c .before .before .before .before .before .before .before .args in
+    sym (length-take-le _ _ (omega (arith, text-put (c .before .before .put-lines .ensures), alone-short (a .t .now) (a .v .now) (a .leaves .now) (a .i) (c .before .before .before .before .before .before .before .pre .1))))
 
 sum-of-requires : tie.Need-sum-of-requires
 sum-of-requires c κs = search needs
 
 returns : tie.Need-returns
 returns c =
+    let a = c .before .before .before .before .before .before .before .before .args in
     c .sum-of .ensures
-    ∙ ap (λ z. total z % 2 ^ 32) (put-front (c .before .before .before .put-lines .ensures) (omega (arith, alone-short (c .before .before .before .before .before .before .before .before .args .t .now) (c .before .before .before .before .before .before .before .before .args .v .now) (c .before .before .before .before .before .before .before .before .args .leaves .now) (c .before .before .before .before .before .before .before .before .args .i) (c .before .before .before .before .before .before .before .before .pre .1))) ∙ lines-alone (c .before .before .before .before .before .before .before .before .args .t .now) (c .before .before .before .before .before .before .before .before .args .v .now) (c .before .before .before .before .before .before .before .before .args .leaves .now) (c .before .before .before .before .before .before .before .before .args .i) (c .before .before .before .before .before .before .before .before .pre .1))
+    ∙ ap (λ z. total z % 2 ^ 32) (put-front (c .before .before .before .put-lines .ensures) (omega (arith, alone-short (a .t .now) (a .v .now) (a .leaves .now) (a .i) (c .before .before .before .before .before .before .before .before .pre .1))) ∙ lines-alone (a .t .now) (a .v .now) (a .leaves .now) (a .i) (c .before .before .before .before .before .before .before .before .pre .1))
 
 pub line-sum-spec : {M : Type 1} → statement M
 line-sum-spec =

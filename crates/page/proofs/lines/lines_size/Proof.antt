@@ -44,8 +44,9 @@ loop-less c = search needs
 
 loop-again : tie.Need-loop-again Inv-loop μ-loop
 loop-again c =
+    let a = c .before .before .before .before .before .before .args in
     let l = c .before .before .before .loop in
-    (omega arith, omega (arith, c .line-size .ensures .0), omega (arith, l .inv .2, c .line-size .ensures .1 (c .before .before .before .before .before .before .args .v .now), lines-longer (c .before .before .before .before .before .before .args .t .now) (c .before .before .before .before .before .before .args .v .now) (c .before .before .before .before .before .before .args .leaves .now) (l .i) (c .before .before .loop-test .taken)))
+    (omega arith, omega (arith, c .line-size .ensures .0), omega (arith, l .inv .2, c .line-size .ensures .1 (a .v .now), lines-longer (a .t .now) (a .v .now) (a .leaves .now) (l .i) (c .before .before .loop-test .taken)))
 
 returns : tie.Need-returns Inv-loop μ-loop
 returns c = (omega arith, c .before .loop .inv .2 ∙ ap (λ z. length (linesOf (c .before .before .before .before .args .t .now) (c .before .before .before .before .args .v .now) z)) (take-all _ _ (c .loop-test .left)))

@@ -36,10 +36,13 @@ loop-less c = search needs
 
 loop-again : tie.Need-loop-again Inv-loop μ-loop
 loop-again c =
-    (omega arith, omega (arith, c .before .before .before .loop .inv .1, c .wrapping-add-u32 .ensures, c .before .line-sum .ensures, lines-total (c .before .before .before .before .before .before .args .t .now) (c .before .before .before .before .before .before .args .v .now) (c .before .before .before .before .before .before .args .leaves .now) (c .before .before .before .loop .i) (c .before .before .loop-test .taken)))
+    let a = c .before .before .before .before .before .before .args in
+    (omega arith, omega (arith, c .before .before .before .loop .inv .1, c .wrapping-add-u32 .ensures, c .before .line-sum .ensures, lines-total (a .t .now) (a .v .now) (a .leaves .now) (c .before .before .before .loop .i) (c .before .before .loop-test .taken)))
 
 returns : tie.Need-returns Inv-loop μ-loop
-returns c = c .before .loop .inv .1 ∙ ap (λ z. (c .before .before .before .before .args .s + total (linesOf (c .before .before .before .before .args .t .now) (c .before .before .before .before .args .v .now) z)) % 2 ^ 32) (take-all _ _ (c .loop-test .left))
+returns c =
+    let a = c .before .before .before .before .args in
+    c .before .loop .inv .1 ∙ ap (λ z. (a .s + total (linesOf (a .t .now) (a .v .now) z)) % 2 ^ 32) (take-all _ _ (c .loop-test .left))
 
 pub lines-sum-spec : {M : Type 1} → statement M
 lines-sum-spec =

@@ -33,7 +33,9 @@ cast-put-line : tie.Need-cast-put-line Inv-loop μ-loop
 cast-put-line c = omega (arith, c .shared-slice-known3 .given (c .before .before .loop .i))
 
 put-line-requires : tie.Need-put-line-requires Inv-loop μ-loop
-put-line-requires c κs = omega (arith, c .before .before .before .before .before .before .before .pre, c .before .before .before .before .before .before .before .pre .0 .4 (c .before .before .before .loop .i), text-put (c .before .before .before .loop .inv .2), lines-room (c .before .before .before .before .before .before .before .args .t .now) (c .before .before .before .before .before .before .before .args .v .now) (c .before .before .before .before .before .before .before .args .leaves .now) (c .before .before .before .loop .i) (c .before .before .loop-test .taken))
+put-line-requires c κs =
+    let a = c .before .before .before .before .before .before .before .args in
+    omega (arith, c .before .before .before .before .before .before .before .pre, c .before .before .before .before .before .before .before .pre .0 .4 (c .before .before .before .loop .i), text-put (c .before .before .before .loop .inv .2), lines-room (a .t .now) (a .v .now) (a .leaves .now) (c .before .before .before .loop .i) (c .before .before .loop-test .taken))
 
 add-i : tie.Need-add-i Inv-loop μ-loop
 add-i c = search needs

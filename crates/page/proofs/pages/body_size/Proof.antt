@@ -31,7 +31,9 @@ add-result : tie.Need-add-result
 add-result c = omega (arith, c .before .before .before .digits .ensures, c .before .before .digits2 .ensures, c .before .digits3 .ensures, c .lines-size .ensures)
 
 returns : tie.Need-returns
-returns c = omega (arith, c .before .before .before .digits .ensures, c .before .before .digits2 .ensures, c .before .digits3 .ensures, c .lines-size .ensures, body-size (c .before .before .before .before .before .before .args .columns) (c .before .before .before .before .before .before .args .rows) (c .before .before .before .before .before .before .args .mark) (c .before .before .before .before .before .before .args .t .now) (c .before .before .before .before .before .before .args .v .now) (c .before .before .before .before .before .before .args .leaves .now))
+returns c =
+    let a = c .before .before .before .before .before .before .args in
+    omega (arith, c .before .before .before .digits .ensures, c .before .before .digits2 .ensures, c .before .digits3 .ensures, c .lines-size .ensures, body-size (a .columns) (a .rows) (a .mark) (a .t .now) (a .v .now) (a .leaves .now))
 
 pub body-size-spec : {M : Type 1} → statement M
 body-size-spec =

@@ -15,13 +15,19 @@ slice-aggregate-put-head : tie.Need-slice-aggregate-put-head
 slice-aggregate-put-head c = search needs
 
 put-head-requires : tie.Need-put-head-requires
-put-head-requires c κs = omega (arith, head-short (c .before .before .before .args .columns) (c .before .before .before .args .rows) (c .before .before .before .args .mark))
+put-head-requires c κs =
+    let a = c .before .before .before .args in
+    omega (arith, head-short (a .columns) (a .rows) (a .mark))
 
 array-share-prefix-line : tie.Need-array-share-prefix-line
-array-share-prefix-line c = omega (arith, text-put (c .before .put-head .ensures), head-short (c .before .before .before .before .before .args .columns) (c .before .before .before .before .before .args .rows) (c .before .before .before .before .before .args .mark))
+array-share-prefix-line c =
+    let a = c .before .before .before .before .before .args in
+    omega (arith, text-put (c .before .put-head .ensures), head-short (a .columns) (a .rows) (a .mark))
 
 slice-aggregate-sum-of : tie.Need-slice-aggregate-sum-of
-slice-aggregate-sum-of c = sym (length-take-le _ _ (omega (arith, text-put (c .before .before .put-head .ensures), head-short (c .before .before .before .before .before .before .args .columns) (c .before .before .before .before .before .before .args .rows) (c .before .before .before .before .before .before .args .mark))))
+slice-aggregate-sum-of c =
+    let a = c .before .before .before .before .before .before .args in
+    sym (length-take-le _ _ (omega (arith, text-put (c .before .before .put-head .ensures), head-short (a .columns) (a .rows) (a .mark))))
 
 sum-of-requires : tie.Need-sum-of-requires
 sum-of-requires c κs = search needs
@@ -30,7 +36,9 @@ lines-sum-requires : tie.Need-lines-sum-requires
 lines-sum-requires c κs = search needs
 
 returns : tie.Need-returns
-returns c = omega (arith, c .lines-sum .ensures, c .before .sum-of .ensures, ap total (put-front (c .before .before .before .before .put-head .ensures) (omega (arith, head-short (c .before .before .before .before .before .before .before .before .args .columns) (c .before .before .before .before .before .before .before .before .args .rows) (c .before .before .before .before .before .before .before .before .args .mark)))), body-total (c .before .before .before .before .before .before .before .before .args .columns) (c .before .before .before .before .before .before .before .before .args .rows) (c .before .before .before .before .before .before .before .before .args .mark) (c .before .before .before .before .before .before .before .before .args .t .now) (c .before .before .before .before .before .before .before .before .args .v .now) (c .before .before .before .before .before .before .before .before .args .leaves .now))
+returns c =
+    let a = c .before .before .before .before .before .before .before .before .args in
+    omega (arith, c .lines-sum .ensures, c .before .sum-of .ensures, ap total (put-front (c .before .before .before .before .put-head .ensures) (omega (arith, head-short (a .columns) (a .rows) (a .mark)))), body-total (a .columns) (a .rows) (a .mark) (a .t .now) (a .v .now) (a .leaves .now))
 
 pub body-sum-spec : {M : Type 1} → statement M
 body-sum-spec =

@@ -16,7 +16,9 @@ add-if1 : tie.Need-add-if1
 add-if1 c = search needs
 
 returns : tie.Need-returns
-returns c = sym (le-leb _ (c .before .before .before .before .args .room) (omega (arith, c .before .body-size .ensures, page-short (c .before .before .before .before .args .columns) (c .before .before .before .before .args .rows) (c .before .before .before .before .args .mark) (c .before .before .before .before .args .t .now) (c .before .before .before .before .args .v .now) (c .before .before .before .before .args .leaves .now))))
+returns c =
+    let a = c .before .before .before .before .args in
+    sym (le-leb _ (a .room) (omega (arith, c .before .body-size .ensures, page-short (a .columns) (a .rows) (a .mark) (a .t .now) (a .v .now) (a .leaves .now))))
 
 body-sum-requires : tie.Need-body-sum-requires
 body-sum-requires c κs = search needs
@@ -41,8 +43,9 @@ add-result-3 c = search needs
 
 returns-2 : tie.Need-returns-2
 returns-2 c =
-    ap (λ n. leb n (c .before .before .before .before .before .before .before .args .room))
-    (omega (arith, c .before .before .before .before .body-size .ensures, c .before .digits .ensures, c .digits2 .ensures, page-size (c .before .before .before .before .before .before .before .args .columns) (c .before .before .before .before .before .before .before .args .rows) (c .before .before .before .before .before .before .before .args .mark) (c .before .before .before .before .before .before .before .args .t .now) (c .before .before .before .before .before .before .before .args .v .now) (c .before .before .before .before .before .before .before .args .leaves .now) _ _ refl (c .before .before .body-sum .ensures)))
+    let a = c .before .before .before .before .before .before .before .args in
+    ap (λ n. leb n (a .room))
+    (omega (arith, c .before .before .before .before .body-size .ensures, c .before .digits .ensures, c .digits2 .ensures, page-size (a .columns) (a .rows) (a .mark) (a .t .now) (a .v .now) (a .leaves .now) _ _ refl (c .before .before .body-sum .ensures)))
 
 pub fits-spec : {M : Type 1} → statement M
 fits-spec =

@@ -11,29 +11,41 @@ slice-aggregate-put-text : tie.Need-slice-aggregate-put-text
 slice-aggregate-put-text c = search needs
 
 put-text-requires : tie.Need-put-text-requires
-put-text-requires c κs = omega (arith, c .before .before .before .pre, head-size (c .before .before .before .args .columns) (c .before .before .before .args .rows) (c .before .before .before .args .mark))
+put-text-requires c κs =
+    let a = c .before .before .before .args in
+    omega (arith, c .before .before .before .pre, head-size (a .columns) (a .rows) (a .mark))
 
 put-number-requires : tie.Need-put-number-requires
-put-number-requires c κs = omega (arith, c .before .before .before .before .before .before .before .pre, text-put (c .before .before .before .put-text .ensures), head-size (c .before .before .before .before .before .before .before .args .columns) (c .before .before .before .before .before .before .before .args .rows) (c .before .before .before .before .before .before .before .args .mark))
+put-number-requires c κs =
+    let a = c .before .before .before .before .before .before .before .args in
+    omega (arith, c .before .before .before .before .before .before .before .pre, text-put (c .before .before .before .put-text .ensures), head-size (a .columns) (a .rows) (a .mark))
 
 put-number-requires-2 : tie.Need-put-number-requires-2
-put-number-requires-2 c κs = omega (arith, c .before .before .before .before .before .before .before .before .before .before .before .pre, text-put (c .before .before .before .before .before .before .before .put-text .ensures), number-put (c .before .before .before .before .before .before .before .before .before .before .before .args .columns) (c .before .before .before .put-number .ensures), head-size (c .before .before .before .before .before .before .before .before .before .before .before .args .columns) (c .before .before .before .before .before .before .before .before .before .before .before .args .rows) (c .before .before .before .before .before .before .before .before .before .before .before .args .mark))
+put-number-requires-2 c κs =
+    let s = c .before .before .before .before .before .before .before in
+    let a = s .before .before .before .before .args in
+    omega (arith, s .before .before .before .before .pre, text-put (s .put-text .ensures), number-put (a .columns) (c .before .before .before .put-number .ensures), head-size (a .columns) (a .rows) (a .mark))
 
 put-decimal-requires : tie.Need-put-decimal-requires
 put-decimal-requires c κs =
-    omega (arith, c .before .before .before .before .before .before .before .before .before .before .before .before .before .before .before .pre, text-put (c .before .before .before .before .before .before .before .before .before .before .before .put-text .ensures), number-put (c .before .before .before .before .before .before .before .before .before .before .before .before .before .before .before .args .columns) (c .before .before .before .before .before .before .before .put-number .ensures), number-put (c .before .before .before .before .before .before .before .before .before .before .before .before .before .before .before .args .rows) (c .before .before .before .put-number2 .ensures), head-size (c .before .before .before .before .before .before .before .before .before .before .before .before .before .before .before .args .columns) (c .before .before .before .before .before .before .before .before .before .before .before .before .before .before .before .args .rows) (c .before .before .before .before .before .before .before .before .before .before .before .before .before .before .before .args .mark))
+    let s = c .before .before .before .before .before .before .before .before .before .before .before in
+    let a = s .before .before .before .before .args in
+    omega (arith, s .before .before .before .before .pre, text-put (s .put-text .ensures), number-put (a .columns) (c .before .before .before .before .before .before .before .put-number .ensures), number-put (a .rows) (c .before .before .before .put-number2 .ensures), head-size (a .columns) (a .rows) (a .mark))
 
 put-byte-requires : tie.Need-put-byte-requires
 put-byte-requires c κs =
-    omega (arith, c .before .before .before .before .before .before .before .before .before .before .before .before .before .before .before .before .before .before .before .pre, text-put (c .before .before .before .before .before .before .before .before .before .before .before .before .before .before .before .put-text .ensures), number-put (c .before .before .before .before .before .before .before .before .before .before .before .before .before .before .before .before .before .before .before .args .columns) (c .before .before .before .before .before .before .before .before .before .before .before .put-number .ensures), number-put (c .before .before .before .before .before .before .before .before .before .before .before .before .before .before .before .before .before .before .before .args .rows) (c .before .before .before .before .before .before .before .put-number2 .ensures), text-put (c .before .before .before .put-decimal .ensures), head-size (c .before .before .before .before .before .before .before .before .before .before .before .before .before .before .before .before .before .before .before .args .columns) (c .before .before .before .before .before .before .before .before .before .before .before .before .before .before .before .before .before .before .before .args .rows) (c .before .before .before .before .before .before .before .before .before .before .before .before .before .before .before .before .before .before .before .args .mark))
+    let s = c .before .before .before .before .before .before .before .before .before .before .before in
+    let a = s .before .before .before .before .before .before .before .before .args in
+    omega (arith, s .before .before .before .before .before .before .before .before .pre, text-put (s .before .before .before .before .put-text .ensures), number-put (a .columns) (s .put-number .ensures), number-put (a .rows) (c .before .before .before .before .before .before .before .put-number2 .ensures), text-put (c .before .before .before .put-decimal .ensures), head-size (a .columns) (a .rows) (a .mark))
 
 same-length : tie.Need-same-length
 same-length c = search needs
 
 returns : tie.Need-returns
 returns c =
+    let s = c .before .before .before .before .before .before .before .before .before .before in
     put-as (head-line _ _ _)
-    (put-more (put-more (put-more (put-more (c .before .before .before .before .before .before .before .before .before .before .before .before .before .before .before .before .before .before .put-text .ensures) (c .before .before .before .before .before .before .before .before .before .before .before .before .before .before .put-number .ensures)) (c .before .before .before .before .before .before .before .before .before .before .put-number2 .ensures)) (c .before .before .before .before .before .before .put-decimal .ensures)) (c .before .before .put-byte .ensures))
+    (put-more (put-more (put-more (put-more (s .before .before .before .before .before .before .before .before .put-text .ensures) (s .before .before .before .before .put-number .ensures)) (s .put-number2 .ensures)) (c .before .before .before .before .before .before .put-decimal .ensures)) (c .before .before .put-byte .ensures))
 
 pub put-head-spec : {M : Type 1} → statement M
 put-head-spec =

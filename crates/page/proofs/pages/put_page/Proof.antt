@@ -11,16 +11,27 @@ use Rattle.page.proofs.pages.put_page.Tie as tie
 use Rattle.page.proofs.pages.put_page.Statement.{statement}
 
 put-head-requires : tie.Need-put-head-requires
-put-head-requires c κs = omega (arith, c .before .before .before .before .pre .1, page-long (c .before .before .before .before .args .columns) (c .before .before .before .before .args .rows) (c .before .before .before .before .args .mark) (c .before .before .before .before .args .t .now) (c .before .before .before .before .args .v .now) (c .before .before .before .before .args .leaves .now))
+put-head-requires c κs =
+    let a = c .before .before .before .before .args in
+    omega (arith, c .before .before .before .before .pre .1, page-long (a .columns) (a .rows) (a .mark) (a .t .now) (a .v .now) (a .leaves .now))
 
 put-lines-requires : tie.Need-put-lines-requires
-put-lines-requires c κs = (c .before .before .before .before .before .before .before .before .pre .0, omega (arith, c .before .before .before .before .before .before .before .before .pre .1, text-put (c .before .before .before .put-head .ensures), page-long (c .before .before .before .before .before .before .before .before .args .columns) (c .before .before .before .before .before .before .before .before .args .rows) (c .before .before .before .before .before .before .before .before .args .mark) (c .before .before .before .before .before .before .before .before .args .t .now) (c .before .before .before .before .before .before .before .before .args .v .now) (c .before .before .before .before .before .before .before .before .args .leaves .now)))
+put-lines-requires c κs =
+    let s = c .before .before .before .before .before .before .before .before in
+    let a = s .args in
+    (s .pre .0, omega (arith, s .pre .1, text-put (c .before .before .before .put-head .ensures), page-long (a .columns) (a .rows) (a .mark) (a .t .now) (a .v .now) (a .leaves .now)))
 
 slice-reshare-prefix-sum-of : tie.Need-slice-reshare-prefix-sum-of
-slice-reshare-prefix-sum-of c = omega (arith, c .before .before .before .before .before .before .before .before .before .before .before .pre .1, text-put (c .before .before .before .before .before .before .put-head .ensures), text-put (c .before .before .put-lines .ensures), page-long (c .before .before .before .before .before .before .before .before .before .before .before .args .columns) (c .before .before .before .before .before .before .before .before .before .before .before .args .rows) (c .before .before .before .before .before .before .before .before .before .before .before .args .mark) (c .before .before .before .before .before .before .before .before .before .before .before .args .t .now) (c .before .before .before .before .before .before .before .before .before .before .before .args .v .now) (c .before .before .before .before .before .before .before .before .before .before .before .args .leaves .now))
+slice-reshare-prefix-sum-of c =
+    let s = c .before .before .before .before .before .before in
+    let a = s .before .before .before .before .before .args in
+    omega (arith, s .before .before .before .before .before .pre .1, text-put (s .put-head .ensures), text-put (c .before .before .put-lines .ensures), page-long (a .columns) (a .rows) (a .mark) (a .t .now) (a .v .now) (a .leaves .now))
 
 slice-aggregate-sum-of : tie.Need-slice-aggregate-sum-of
-slice-aggregate-sum-of c = sym (length-take-le _ _ (omega (arith, c .before .before .before .before .before .before .before .before .before .before .before .before .pre .1, text-put (c .before .before .before .before .before .before .before .put-head .ensures), text-put (c .before .before .before .put-lines .ensures), page-long (c .before .before .before .before .before .before .before .before .before .before .before .before .args .columns) (c .before .before .before .before .before .before .before .before .before .before .before .before .args .rows) (c .before .before .before .before .before .before .before .before .before .before .before .before .args .mark) (c .before .before .before .before .before .before .before .before .before .before .before .before .args .t .now) (c .before .before .before .before .before .before .before .before .before .before .before .before .args .v .now) (c .before .before .before .before .before .before .before .before .before .before .before .before .args .leaves .now))))
+slice-aggregate-sum-of c =
+    let s = c .before .before .before .before .before .before .before in
+    let a = s .before .before .before .before .before .args in
+    sym (length-take-le _ _ (omega (arith, s .before .before .before .before .before .pre .1, text-put (s .put-head .ensures), text-put (c .before .before .before .put-lines .ensures), page-long (a .columns) (a .rows) (a .mark) (a .t .now) (a .v .now) (a .leaves .now))))
 
 sum-of-requires : tie.Need-sum-of-requires
 sum-of-requires c κs = search needs
@@ -30,14 +41,18 @@ cast-put-foot c = search needs
 
 put-foot-requires : tie.Need-put-foot-requires
 put-foot-requires c κs =
-    omega (arith, c .before .before .before .before .before .before .before .before .before .before .before .before .before .before .pre .1, text-put (c .before .before .before .before .before .before .before .before .before .put-head .ensures), text-put (c .before .before .before .before .before .put-lines .ensures), page-lines (c .before .before .before .before .before .before .before .before .before .before .before .before .before .before .args .columns) (c .before .before .before .before .before .before .before .before .before .before .before .before .before .before .args .rows) (c .before .before .before .before .before .before .before .before .before .before .before .before .before .before .args .mark) (c .before .before .before .before .before .before .before .before .before .before .before .before .before .before .args .t .now) (c .before .before .before .before .before .before .before .before .before .before .before .before .before .before .args .v .now) (c .before .before .before .before .before .before .before .before .before .before .before .before .before .before .args .leaves .now) _ _ refl (c .before .sum-of .ensures ∙ ap (λ z. z % 2 ^ 32) (body-sum (c .before .before .before .before .before .before .before .before .before .before .before .before .before .before .args .columns) (c .before .before .before .before .before .before .before .before .before .before .before .before .before .before .args .rows) (c .before .before .before .before .before .before .before .before .before .before .before .before .before .before .args .mark) (c .before .before .before .before .before .before .before .before .before .before .before .before .before .before .args .t .now) (c .before .before .before .before .before .before .before .before .before .before .before .before .before .before .args .v .now) (c .before .before .before .before .before .before .before .before .before .before .before .before .before .before .args .leaves .now) (c .before .before .before .before .before .before .before .before .before .put-head .ensures) (c .before .before .before .before .before .put-lines .ensures) (c .before .before .before .before .before .before .before .before .before .before .before .before .before .before .pre .1))))
+    let s = c .before .before .before .before .before .before .before .before .before in
+    let a = s .before .before .before .before .before .args in
+    omega (arith, s .before .before .before .before .before .pre .1, text-put (s .put-head .ensures), text-put (c .before .before .before .before .before .put-lines .ensures), page-lines (a .columns) (a .rows) (a .mark) (a .t .now) (a .v .now) (a .leaves .now) _ _ refl (c .before .sum-of .ensures ∙ ap (λ z. z % 2 ^ 32) (body-sum (a .columns) (a .rows) (a .mark) (a .t .now) (a .v .now) (a .leaves .now) (s .put-head .ensures) (c .before .before .before .before .before .put-lines .ensures) (s .before .before .before .before .before .pre .1))))
 
 same-length : tie.Need-same-length
 same-length c = search needs
 
 returns : tie.Need-returns
 returns c =
-    page-put (c .before .before .before .before .before .before .before .before .before .before .before .before .before .before .before .before .before .args .columns) (c .before .before .before .before .before .before .before .before .before .before .before .before .before .before .before .before .before .args .rows) (c .before .before .before .before .before .before .before .before .before .before .before .before .before .before .before .before .before .args .mark) (c .before .before .before .before .before .before .before .before .before .before .before .before .before .before .before .before .before .args .t .now) (c .before .before .before .before .before .before .before .before .before .before .before .before .before .before .before .before .before .args .v .now) (c .before .before .before .before .before .before .before .before .before .before .before .before .before .before .before .before .before .args .leaves .now) _ _ refl (c .before .before .before .before .sum-of .ensures ∙ ap (λ z. z % 2 ^ 32) (body-sum (c .before .before .before .before .before .before .before .before .before .before .before .before .before .before .before .before .before .args .columns) (c .before .before .before .before .before .before .before .before .before .before .before .before .before .before .before .before .before .args .rows) (c .before .before .before .before .before .before .before .before .before .before .before .before .before .before .before .before .before .args .mark) (c .before .before .before .before .before .before .before .before .before .before .before .before .before .before .before .before .before .args .t .now) (c .before .before .before .before .before .before .before .before .before .before .before .before .before .before .before .before .before .args .v .now) (c .before .before .before .before .before .before .before .before .before .before .before .before .before .before .before .before .before .args .leaves .now) (c .before .before .before .before .before .before .before .before .before .before .before .before .put-head .ensures) (c .before .before .before .before .before .before .before .before .put-lines .ensures) (c .before .before .before .before .before .before .before .before .before .before .before .before .before .before .before .before .before .pre .1))) (c .before .before .before .before .before .before .before .before .before .before .before .before .put-head .ensures) (c .before .before .before .before .before .before .before .before .put-lines .ensures) (c .before .before .put-foot .ensures)
+    let s = c .before .before .before .before .before .before .before .before in
+    let a = s .before .before .before .before .before .before .before .before .before .args in
+    page-put (a .columns) (a .rows) (a .mark) (a .t .now) (a .v .now) (a .leaves .now) _ _ refl (c .before .before .before .before .sum-of .ensures ∙ ap (λ z. z % 2 ^ 32) (body-sum (a .columns) (a .rows) (a .mark) (a .t .now) (a .v .now) (a .leaves .now) (s .before .before .before .before .put-head .ensures) (s .put-lines .ensures) (s .before .before .before .before .before .before .before .before .before .pre .1))) (s .before .before .before .before .put-head .ensures) (s .put-lines .ensures) (c .before .before .put-foot .ensures)
 
 pub put-page-spec : {M : Type 1} → statement M
 put-page-spec =

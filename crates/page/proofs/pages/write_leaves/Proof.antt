@@ -11,20 +11,24 @@ fits-requires c κs = search needs
 
 returns : tie.Need-returns
 returns c =
-    let xs = pageOf (c .before .before .before .before .before .args .columns) (c .before .before .before .before .before .args .rows) (c .before .before .before .before .before .args .mark) (c .before .before .before .before .before .args .t .now) (c .before .before .before .before .before .args .v .now) (c .before .before .before .before .before .args .leaves .now) in
-    page-refused xs (c .before .before .before .before .before .args .out .now) (page-over xs (c .before .before .before .before .before .args .out .now) (c .if1 .taken) (c .before .fits2 .ensures))
+    let a = c .before .before .before .before .before .args in
+    let xs = pageOf (a .columns) (a .rows) (a .mark) (a .t .now) (a .v .now) (a .leaves .now) in
+    page-refused xs (a .out .now) (page-over xs (a .out .now) (c .if1 .taken) (c .before .fits2 .ensures))
 
 put-page-requires : tie.Need-put-page-requires
-put-page-requires c κs = (c .before .before .before .before .before .before .pre, page-room (pageOf (c .before .before .before .before .before .before .args .columns) (c .before .before .before .before .before .before .args .rows) (c .before .before .before .before .before .before .args .mark) (c .before .before .before .before .before .before .args .t .now) (c .before .before .before .before .before .before .args .v .now) (c .before .before .before .before .before .before .args .leaves .now)) (c .before .before .before .before .before .before .args .out .now) (c .before .if1 .left) (c .before .before .fits2 .ensures))
+put-page-requires c κs =
+    let a = c .before .before .before .before .before .before .args in
+    (c .before .before .before .before .before .before .pre, page-room (pageOf (a .columns) (a .rows) (a .mark) (a .t .now) (a .v .now) (a .leaves .now)) (a .out .now) (c .before .if1 .left) (c .before .before .fits2 .ensures))
 
 same-length : tie.Need-same-length
 same-length c = search needs
 
 returns-2 : tie.Need-returns-2
 returns-2 c =
-    let xs = pageOf (c .before .before .before .before .before .before .before .before .before .args .columns) (c .before .before .before .before .before .before .before .before .before .args .rows) (c .before .before .before .before .before .before .before .before .before .args .mark) (c .before .before .before .before .before .before .before .before .before .args .t .now) (c .before .before .before .before .before .before .before .before .before .args .v .now) (c .before .before .before .before .before .before .before .before .before .args .leaves .now) in
-    let room = page-room xs (c .before .before .before .before .before .before .before .before .before .args .out .now) (c .before .before .before .before .if1 .left) (c .before .before .before .before .before .fits2 .ensures) in
-    page-written xs (c .before .before .before .before .before .before .before .before .before .args .out .now) room (c .before .before .put-page .ensures)
+    let a = c .before .before .before .before .before .before .before .before .before .args in
+    let xs = pageOf (a .columns) (a .rows) (a .mark) (a .t .now) (a .v .now) (a .leaves .now) in
+    let room = page-room xs (a .out .now) (c .before .before .before .before .if1 .left) (c .before .before .before .before .before .fits2 .ensures) in
+    page-written xs (a .out .now) room (c .before .before .put-page .ensures)
 
 pub write-leaves-spec : {M : Type 1} → statement M
 write-leaves-spec =

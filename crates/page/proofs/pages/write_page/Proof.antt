@@ -36,8 +36,9 @@ same-length c = search needs
 returns : tie.Need-returns
 unfolding rowOut rowPage
 returns c =
+    let a = c .before .before .before .before .before .before .before .before .before .before .args in
     c .before .before .write-leaves .ensures
-    ∙ ap (λ ns. pageOut (pageOf (c .before .before .before .before .before .before .before .before .before .before .args .columns) (c .before .before .before .before .before .before .before .before .before .before .args .rows) (c .before .before .before .before .before .before .before .before .before .before .args .mark) (c .before .before .before .before .before .before .before .before .before .before .args .t .now) (c .before .before .before .before .before .before .before .before .before .before .args .v .now) ns) (c .before .before .before .before .before .before .before .before .before .before .args .out .now)) (put-front (c .before .before .before .before .before .before .find-leaves .ensures) (c .before .before .before .before .before .before .before .before .before .before .pre .4))
+    ∙ ap (λ ns. pageOut (pageOf (a .columns) (a .rows) (a .mark) (a .t .now) (a .v .now) ns) (a .out .now)) (put-front (c .before .before .before .before .before .before .find-leaves .ensures) (c .before .before .before .before .before .before .before .before .before .before .pre .4))
 
 pub write-page-spec : {M : Type 1} → statement M
 write-page-spec =
