@@ -92,6 +92,14 @@ module _ (t : List ℤ) where
       let b : 1 + (low - 1) ≡ low = omega arith in
       ap (λ (x : ℕ). enoughFrom t m x 1) (sym a) ∙ search-past (low - 1) m (cap + 1 - low) 1 (λ i x. h .none i (omega arith)) ∙ ap (enoughFrom t m (cap + 1 - low)) b
 
+  -- one more row that is not free
+  pub none-more : (k : ℕ) {x : Bool} → NoneBelow t k → x ≡ vacant t k → x ≡ false → NoneBelow t (k + 1)
+  none-more k h e z = record { from = omega (arith, h .from); none = λ i l. go i l (ℕ-discrete i k) }
+    where
+      go : (i : ℕ) → i < k + 1 → Dec (i ≡ k) → vacant t i ≡ false
+      go i l (yes d) = ap (vacant t) d ∙ sym e ∙ z
+      go i l (no d) = h .none i (omega (arith, d))
+
   pub search-over : (m l k : ℕ) → l ≡ 0 → eqb m 0 ≡ enoughFrom t m l k
   unfolding enoughFrom
   search-over m zero k e = refl

@@ -61,6 +61,21 @@ pub fn lack_count(t: &[i32], cap: usize, n: usize) -> usize
     own + above + beside + lacks(t, cap, far, 3)
 }
 
+// The first free number from low on, or the one past the last: none below it is free either.
+pub fn first_free(t: &[i32], cap: usize, low: usize) -> usize
+    requires { ⌜ (cap * rowWords + rowWords ≤ length (now t)) × (cap ≤ 4095) × (low ≤ cap + 1) × NoneBelow (now t) low ⌝ }
+    ensures { λ r. ⌜ (r ≤ cap + 1) × NoneBelow (now (t .entry)) r ⌝ }
+{
+    let mut k = low;
+    while k <= cap {
+        if is_vacant(t, k) {
+            return k;
+        }
+        k += 1;
+    }
+    k
+}
+
 // How many free numbers are still to be found past the row k, of m with it.
 fn left_past(t: &[i32], k: usize, m: usize) -> usize
     requires { ⌜ (k * rowWords + rowWords ≤ length (now t)) × (0 < m) ⌝ }

@@ -15,7 +15,7 @@ use Rattle.mesh.specs.Picture.{table, amounts}
 use Rattle.mesh.specs.Refusal.{refusal}
 use Rattle.mesh.specs.Request.{Request, refine, sentence, remove, kill, setValue, checks, fill, effect, marked, newCell, sentencedCell, measuredCell}
 use Rattle.numbering.proofs.Filling.{filled-free, fill-entry}
-use Rattle.deciding.specs.Decide.{refineRefusal, sentenceRefusal, removeRefusal, killRefusal, setRefusal}
+use Rattle.deciding.specs.Decide.{NoneBelow, refineRefusal, sentenceRefusal, removeRefusal, killRefusal, setRefusal}
 use Rattle.deciding.specs.Marks.{sentenceTable, measureTable}
 use Rattle.deciding.proofs.Marked.{sentence-table, sentence-amounts, set-table, set-amounts}
 use Rattle.editing.specs.Tables.{Lending, Lowers, refineTable, refineValues, removeTable, removeValues, killTable, killValues}
@@ -26,7 +26,7 @@ use Rattle.editing.proofs.Killing.{kill-table, kill-values}
 use Rattle.edit.specs.Lent.{lending}
 use Rattle.tape.specs.Drawn.{Drawn, Bounded}
 use Rattle.tape.specs.Applied.{Applied}
-use Rattle.tape.proofs.Drawing.{from-picture, to-picture, marked-drawn, lowered-bounded}
+use Rattle.tape.proofs.Drawing.{from-picture, to-picture, marked-drawn, lowered-bounded, drawn-vacant}
 use Rattle.tape.proofs.Deciding.{Decides, refine-decides, sentence-decides, remove-decides, kill-decides, set-decides}
 
 module _ (q : Request) (cap d low : ℕ) (t : List ℤ) (v : List Float) where
@@ -53,6 +53,16 @@ module _ (q : Request) (cap d low : ℕ) (t : List ℤ) (v : List Float) where
   -- the bound with the numbers that the words free
   lowered-bounds : {t′ : List ℤ} {v′ : List Float} {low′ : ℕ} → Makes t′ v′ → Lowers t t′ low low′ → Bounds low′
   lowered-bounds m f s columns rows mark p e u ok = let (a, c) = m s columns rows mark p e u ok in lowered-bounded p (marked-drawn q p ok a c) f u
+
+-- a higher bound serves as well
+pub applied-from : (q : Request) (cap d low from : ℕ) (t : List ℤ) (v : List Float) {t′ : List ℤ} {v′ : List Float} {low′ : ℕ}
+    → from ≤ cap + 1 → NoneBelow t from → Applied q cap d from t v t′ v′ 0 low′ → Applied q cap d low t v t′ v′ 0 low′
+applied-from q cap d low from t v l n a = record {
+  decided = a .decided;
+  done = λ s columns rows mark p e b z. a .done s columns rows mark p e (record { none-below = λ k i. sym (drawn-vacant p k) ∙ n .none k i; from = n .from; to = l }) z;
+  refused = λ z. absurd (z refl);
+  low-to = a .low-to;
+}
 
 -- cells that become others leave the free numbers as they are
 fill-bounded : (ps : List Place) (x : Option Cell) {es : List Entry} {cap low : ℕ} → Bounded es cap low → Bounded (fill ps x es) cap low

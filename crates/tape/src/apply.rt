@@ -5,6 +5,7 @@ ghost use Rattle.tape.specs.Drawn.{Sized, Tame};
 ghost use Rattle.tape.specs.Applied.{Applied};
 ghost use Rattle.tape.specs.Asked.{asked};
 use crate::bytes::value_of;
+use deciding::asks::first_free;
 use deciding::marks::sentence_at;
 use deciding::marks::set_at;
 use deciding::refusals::kill_refusal;
@@ -23,11 +24,12 @@ pub fn refine(t: &mut [i32], v: &mut [f64], cap: usize, d: u32, n: usize, low: u
     requires { ⌜ Sized (now t) (now v) cap d low × Tame (now t) cap d ⌝ }
     ensures { λ r. ⌜ Applied (refine n) cap d low (now (t .entry)) (now (v .entry)) (now (t .exit)) (now (v .exit)) (r .why) (r .low) ⌝ }
 {
-    let why = refine_refusal(t, cap, d, n, low);
+    let from = first_free(t, cap, low);
+    let why = refine_refusal(t, cap, d, n, from);
     if why != 0 {
         return Step { why, low };
     }
-    let next = edit::refine::refine(t, v, cap, d, n, low);
+    let next = edit::refine::refine(t, v, cap, d, n, from);
     Step { why: 0, low: next }
 }
 
