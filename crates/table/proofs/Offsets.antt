@@ -56,6 +56,3 @@ module _ (t : List ℤ) (cap p l m : ℕ) where
 pub side-digits : (t : List ℤ) (cap n : ℕ) (w : Wind) → sideOf t cap n w ≡ sideBy t cap (linkOf t cap n 0) (wordOf t n 10 % 2) (wordOf t n 11 % 2) w
 unfolding sideOf sideBy
 side-digits t cap n w = refl
-
-pub side-of : (t : List ℤ) (cap n i : ℕ) {p u w r : ℕ} → p ≡ linkOf t cap n 0 → u ≡ wordOf t n 10 → w ≡ wordOf t n 11 → r ≡ sideBy t cap p (u % 2) (w % 2) (getD winds i NE) → r ≡ sideOf t cap n (getD winds i NE)
-side-of t cap n i a b c e = rw (side-digits, ← a, ← b, ← c) e

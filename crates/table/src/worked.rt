@@ -11,7 +11,7 @@ ghost use Rattle.mesh.specs.Picture.{rowWords};
 ghost use Rattle.table.specs.Digits.{four};
 ghost use Rattle.table.specs.Words.{wordOf, linkOf, flagOf, depthOf};
 ghost use Rattle.table.specs.Sides.{sideBy};
-ghost use Rattle.table.specs.Worked.{kidWord, staysIn, sideOf, edgeH, edgeV, innerH, innerV, flagsFrom};
+ghost use Rattle.table.specs.Worked.{kidWord, staysIn, edgeH, edgeV, innerH, innerV, flagsFrom};
 use crate::words::depth;
 use crate::words::flag;
 use crate::words::link;
@@ -51,17 +51,6 @@ pub fn side_by(t: &[i32], cap: usize, p: usize, l: u32, m: u32, w: usize) -> usi
     let b = m + c.north;
     let q = hub(t, cap, p, w + 1, stays_in(a) & stays_in(b));
     link(t, cap, q, kid_word((a + 1) % 2, (b + 1) % 2))
-}
-
-// The row that is the neighbour of the row n.
-pub fn side(t: &[i32], cap: usize, n: usize, w: usize) -> usize
-    requires { ⌜ (cap * rowWords + rowWords ≤ length (now t)) × (cap ≤ 4095) × (n ≤ cap) × (w < 8) ⌝ }
-    ensures { λ r. ⌜ (r ≤ cap) × (r ≡ sideOf (now (t .entry)) cap n (getD winds w NE)) ⌝ }
-{
-    let p = link(t, cap, n, 0);
-    let l = word(t, n, 10) % 2;
-    let m = word(t, n, 11) % 2;
-    side_by(t, cap, p, l, m, w)
 }
 
 // Whether a wall is boundary, if it has one cell: on level 0, and above where the wall of the parent is, by its bit k, and the word w is even.
