@@ -17,8 +17,9 @@ use Rattle.mesh.specs.Refusal.{Check, _if_, refusal}
 use Rattle.table.specs.Words.{wordOf, linkOf, flagOf, vacant, taken}
 use Rattle.table.proofs.Taken.{taken-within}
 use Rattle.numbering.proofs.Checks.{passes}
+use Rattle.stock.proofs.Searching.{NoneFrom, Found}
 use Rattle.deciding.specs.Marks.{sentenceTable}
-use Rattle.deciding.specs.Decide.{NoneBelow, enoughFrom, enough, kidsDoomed, lacking, otherUnder, row6, row7}
+use Rattle.deciding.specs.Decide.{enoughFrom, enough, kidsDoomed, lacking, otherUnder, row6, row7}
 
 -- ---- tests
 
@@ -71,45 +72,52 @@ module _ (t : List ℤ) where
   search-found m (suc l) k e = rw e
 
   -- rows that are not free can be left out
-  search-past : (j m l k : ℕ) → ((i : ℕ) → i < k + j → vacant t i ≡ false) → enoughFrom t m (j + l) k ≡ enoughFrom t m l (k + j)
+  search-past : (j m l k : ℕ) → ((i : ℕ) → k ≤ i → i < k + j → vacant t i ≡ false) → enoughFrom t m (j + l) k ≡ enoughFrom t m l (k + j)
   unfolding enoughFrom
   search-past zero m l k h = let a : 0 + l ≡ l = omega arith in let e : k + 0 ≡ k = omega arith in rw (a, e)
   search-past (suc j) m l k h =
       let a : suc j + l ≡ suc (j + l) = omega arith in
       let z : m - 0 ≡ m = omega arith in
       let e : suc k + j ≡ k + suc j = omega arith in
-      rw (a, h k (omega arith), z) (ap (λ (b : Bool). eqb m 0 || b) (search-past j m l (suc k) (λ i x. h i (omega arith)) ∙ ap (enoughFrom t m l) e) ∙ found (ℕ-discrete m 0))
+      rw (a, h k (omega arith) (omega arith), z) (ap (λ (b : Bool). eqb m 0 || b) (search-past j m l (suc k) (λ i x y. h i (omega arith) (omega arith)) ∙ ap (enoughFrom t m l) e) ∙ found (ℕ-discrete m 0))
     where
       found : Dec (m ≡ 0) → (eqb m 0 || enoughFrom t m l (k + suc j)) ≡ enoughFrom t m l (k + suc j)
       found (yes e) = rw (← search-found m l (k + suc j) e) (rw e)
       found (no e) = rw (ne-eqb m 0 e)
 
-  pub search-start : (m cap low : ℕ) → low ≤ cap + 1 → NoneBelow t low → enough t cap m ≡ enoughFrom t m (cap + 1 - low) low
-  unfolding enough
-  search-start m cap low l h =
-      let f = h .from in
-      let a : low - 1 + (cap + 1 - low) ≡ cap = omega arith in
-      let b : 1 + (low - 1) ≡ low = omega arith in
-      ap (λ (x : ℕ). enoughFrom t m x 1) (sym a) ∙ search-past (low - 1) m (cap + 1 - low) 1 (λ i x. h .none i (omega arith)) ∙ ap (enoughFrom t m (cap + 1 - low)) b
-
-  -- one more row that is not free
-  pub none-more : (k : ℕ) {x : Bool} → NoneBelow t k → x ≡ vacant t k → x ≡ false → NoneBelow t (k + 1)
-  none-more k h e z = record { from = omega (arith, h .from); none = λ i l. go i l (ℕ-discrete i k) }
-    where
-      go : (i : ℕ) → i < k + 1 → Dec (i ≡ k) → vacant t i ≡ false
-      go i l (yes d) = ap (vacant t) d ∙ sym e ∙ z
-      go i l (no d) = h .none i (omega (arith, d))
-
-  pub search-over : (m l k : ℕ) → l ≡ 0 → eqb m 0 ≡ enoughFrom t m l k
+  search-on : (m l k : ℕ) → m ≢ 0 → vacant t k ≡ true → enoughFrom t m (suc l) k ≡ enoughFrom t (m - 1) l (suc k)
   unfolding enoughFrom
-  search-over m zero k e = refl
-  search-over m (suc l) k e = absurd (omega arith)
+  search-on m l k z v = rw (ne-eqb m 0 z, v)
 
-  pub search-on : (m l k m′ l′ k′ : ℕ) → m ≢ 0 → l ≡ suc l′ → k′ ≡ k + 1 → m′ ≡ m - cond (vacant t k) 1 0 → enoughFrom t m l k ≡ enoughFrom t m′ l′ k′
+  search-over : (m k : ℕ) → m ≢ 0 → enoughFrom t m 0 k ≡ false
   unfolding enoughFrom
-  search-on m l k m′ l′ k′ z a b c =
-      let e : k′ ≡ suc k = omega arith in
-      rw (a, ne-eqb m 0 z, c, e)
+  search-over m k z = ne-eqb m 0 z
+
+  module _ (cap : ℕ) where
+    -- the rows from low on up to the capacity
+    abbrev pub left : ℕ → ℕ → Bool
+    left m low = enoughFrom t m (cap + 1 - low) low
+
+    pub search-start : (m : ℕ) → enough t cap m ≡ left m 1
+    unfolding enough
+    search-start m = let e : cap + 1 - 1 ≡ cap = omega arith in rw e
+
+    -- the next free number is k, and one less is left to be found
+    pub search-next : {m low k m′ low′ : ℕ} → Found t cap low k → k ≢ 0 → m ≢ 0 → m′ ≡ m - 1 → low′ ≡ k + 1 → left m low ≡ left m′ low′
+    search-next {m} {low} {k} f z y e i =
+        let (a, b, v, n) = f .before z in
+        let c : cap + 1 - low ≡ k - low + suc (cap - k) = omega arith in
+        let g : low + (k - low) ≡ k = omega arith in
+        let h : cap + 1 - (k + 1) ≡ cap - k = omega arith in
+        let s : suc k ≡ k + 1 = omega arith in
+        ap (λ (x : ℕ). enoughFrom t m x low) c ∙ search-past (k - low) m (suc (cap - k)) low (λ j x w. n .none j x (omega arith)) ∙ ap (enoughFrom t m (suc (cap - k))) g ∙ search-on m (cap - k) k y v ∙ rw (e, i, h, s)
+
+    -- there is none
+    pub search-none : {m low k : ℕ} → Found t cap low k → k ≡ 0 → m ≢ 0 → left m low ≡ false
+    search-none {m} {low} f z y =
+        let n = f .nothing z in
+        let c : cap + 1 - low ≡ cap + 1 - low + 0 = omega arith in
+        ap (λ (x : ℕ). enoughFrom t m x low) c ∙ search-past (cap + 1 - low) m 0 low (λ j x w. n .none j x (omega arith)) ∙ search-over m (low + (cap + 1 - low)) y
 
 -- ---- the walk to another cell
 

@@ -12,11 +12,6 @@ use Rattle.mesh.specs.Valid.{finite}
 use Rattle.mesh.specs.Refusal.{Check, _if_, refusal}
 use Rattle.table.specs.Words.{linkOf, flagOf, vacant, taken, depthOf}
 
--- no row below low is free
-pub record NoneBelow (t : List ℤ) (low : ℕ) : Type 0 where
-  pub from : 1 ≤ low
-  pub none : (k : ℕ) → k < low → vacant t k ≡ false
-
 module _ (t : List ℤ) where
   -- whether m of the l numbers from k on are free: the search ends as soon as they are found
   unfoldable pub enoughFrom : ℕ → ℕ → ℕ → Bool

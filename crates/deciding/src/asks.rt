@@ -1,14 +1,16 @@
 // What the checks ask of the rows of a table.
 ghost use mathlib.Core.Path.{_≡_};
 ghost use mathlib.Core.Bool.{cond};
-ghost use Prim.Native.Nat.{_+_, _-_, _*_, _<_, _≤_};
+ghost use mathlib.Core.List.{[]};
+ghost use Prim.Native.Nat.{_+_, _*_, _<_, _≤_};
 ghost use lib.Dec.{eqb};
 ghost use lib.ListN.{length};
 ghost use Rattle.mesh.specs.Picture.{rowWords};
-ghost use Rattle.table.specs.Words.{linkOf, flagOf, vacant};
-ghost use Rattle.deciding.specs.Decide.{parental, kidsDoomed, lacking, NoneBelow, enough, otherUnder};
+ghost use Rattle.table.specs.Words.{linkOf, flagOf};
+ghost use Rattle.stock.specs.Stock.{Stocked};
+ghost use Rattle.deciding.specs.Decide.{parental, kidsDoomed, lacking, enough, otherUnder};
+use stock::find::next_free;
 use table::words::flag;
-use table::words::is_vacant;
 use table::words::link;
 
 // Whether the cell n has kids.
@@ -61,44 +63,22 @@ pub fn lack_count(t: &[i32], cap: usize, n: usize) -> usize
     own + above + beside + lacks(t, cap, far, 3)
 }
 
-// The first free number from low on, or the one past the last: none below it is free either.
-pub fn first_free(t: &[i32], cap: usize, low: usize) -> usize
-    requires { ⌜ (cap * rowWords + rowWords ≤ length (now t)) × (cap ≤ 4095) × (low ≤ cap + 1) × NoneBelow (now t) low ⌝ }
-    ensures { λ r. ⌜ (r ≤ cap + 1) × NoneBelow (now (t .entry)) r ⌝ }
-{
-    let mut k = low;
-    while k <= cap {
-        if is_vacant(t, k) {
-            return k;
-        }
-        k += 1;
-    }
-    k
-}
-
-// How many free numbers are still to be found past the row k, of m with it.
-fn left_past(t: &[i32], k: usize, m: usize) -> usize
-    requires { ⌜ (k * rowWords + rowWords ≤ length (now t)) × (0 < m) ⌝ }
-    ensures { λ r. ⌜ r ≡ m - cond (vacant (now (t .entry)) k) 1 0 ⌝ }
-{
-    if is_vacant(t, k) { m - 1 } else { m }
-}
-
-// Whether m numbers are free: the search starts at low, below which none is, and ends as soon as they are found.
-pub fn is_enough(t: &[i32], cap: usize, m: usize, low: usize) -> bool
-    requires { ⌜ (cap * rowWords + rowWords ≤ length (now t)) × (cap ≤ 4095) × (low ≤ cap + 1) × NoneBelow (now t) low ⌝ }
+// Whether m numbers are free.
+pub fn is_enough(t: &[i32], cap: usize, m: usize, stock: &[u16; 24]) -> bool
+    requires { ⌜ (cap * rowWords + rowWords ≤ length (now t)) × (cap ≤ 4095) × Stocked cap (now t) [] (now stock) ⌝ }
     ensures { λ r. ⌜ r ≡ enough (now (t .entry)) cap m ⌝ }
 {
     let mut left = m;
-    let mut k = low;
-    while k <= cap {
-        if left == 0 {
-            return true;
+    let mut low = 1;
+    while left > 0 {
+        let k = next_free(t, cap, low, stock);
+        if k == 0 {
+            return false;
         }
-        left = left_past(t, k, left);
-        k += 1;
+        low = k + 1;
+        left -= 1;
     }
-    left == 0
+    true
 }
 
 // Whether a cell other than n lies l levels under the row m: the walk ends at the first one.

@@ -5,7 +5,8 @@ ghost use Prim.Native.Nat.{_+_, _*_, _≤_};
 ghost use lib.ListN.{length};
 ghost use Rattle.mesh.specs.Picture.{rowWords};
 ghost use Rattle.mesh.specs.Refusal.{refusal};
-ghost use Rattle.deciding.specs.Decide.{NoneBelow, row6, row7, refineRefusal, sentenceRefusal, removeRefusal, killRefusal, setRefusal};
+ghost use Rattle.stock.specs.Stock.{Stocked};
+ghost use Rattle.deciding.specs.Decide.{row6, row7, refineRefusal, sentenceRefusal, removeRefusal, killRefusal, setRefusal};
 use crate::asks::has_kids;
 use crate::asks::is_enough;
 use crate::asks::kids_doomed;
@@ -27,9 +28,8 @@ fn cell_refusal(t: &[i32], cap: usize, n: usize) -> u32
     if flag(t, 0, n) { 0 } else { 7 }
 }
 
-// With low, a number below which none is free.
-pub fn refine_refusal(t: &[i32], cap: usize, d: u32, n: usize, low: usize) -> u32
-    requires { ⌜ (cap * rowWords + rowWords ≤ length (now t)) × (d ≤ 32) × (cap ≤ 4095) × (low ≤ cap + 1) × NoneBelow (now t) low ⌝ }
+pub fn refine_refusal(t: &[i32], cap: usize, d: u32, n: usize, stock: &[u16; 24]) -> u32
+    requires { ⌜ (cap * rowWords + rowWords ≤ length (now t)) × (d ≤ 32) × (cap ≤ 4095) × Stocked cap (now t) [] (now stock) ⌝ }
     ensures { λ r. ⌜ r ≡ refineRefusal (now (t .entry)) cap d n ⌝ }
 {
     let r = cell_refusal(t, cap, n);
@@ -45,7 +45,7 @@ pub fn refine_refusal(t: &[i32], cap: usize, d: u32, n: usize, low: usize) -> u3
     if flag(t, 12, n) {
         return 10;
     }
-    if is_enough(t, cap, lack_count(t, cap, n), low) {
+    if is_enough(t, cap, lack_count(t, cap, n), stock) {
         0
     } else {
         11

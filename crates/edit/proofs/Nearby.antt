@@ -1,7 +1,7 @@
 -- Steps over a list of kids' places, one after the other.
 -- Assumes nothing.
 use mathlib.Core.Path.{_≡_, refl, sym, ap, _∙_}
-use mathlib.Core.List.{List, [], _∷_, _++_}
+use mathlib.Core.List.{List, [], _∷_, _++_, map}
 use Prim.Native.Nat.{ℕ}
 use lib.ListN.{set}
 use lib.IntN.{ℤ}
@@ -9,7 +9,7 @@ use lib.Ieee.{Float}
 use Rattle.table.specs.Words.{linkOf}
 use Rattle.editing.specs.Steps.{putUnlessNil}
 use Rattle.editing.specs.Anew.{wallRow, markRow}
-use Rattle.editing.specs.Tables.{Spot, Lending, kidAt, kidSpots, wantedSpots, outsideSpots, eachAt, refreshNear, putCells, putValues, supplied, suppliedAll, dropUntouched, dropAt}
+use Rattle.editing.specs.Tables.{Spot, Lending, spot, kidAt, kidSpots, wantedSpots, outsideSpots, eachAt, refreshNear, putCells, putValues, supplied, suppliedAll, dropUntouched, dropAt}
 use Rattle.edit.specs.Lent.{cornerSpots, sideSpots}
 
 -- ---- one place more
@@ -106,3 +106,10 @@ module _ (t : List ℤ) (cap n : ℕ) where
   unfolding refreshNear
   near-refreshed d {a} {north = north} {east} {both} {south} {west} h1 h2 h3 h4 h5 e f g =
       rw (g, f, wanted-is h1 h2 h3, outside-is h4 h5, ← e) (sym (each-append cap (markRow cap) (kidSpots t cap n ++ cornerSpots north east both) (sideSpots south west) a))
+
+-- the nine rows
+pub near-nine : (t : List ℤ) (cap n : ℕ) {north east both a b c d e f g h i : ℕ} → north ≡ linkOf t cap n 5 → east ≡ linkOf t cap n 6 → both ≡ linkOf t cap east 5
+    → a ≡ kidAt t cap (spot n 0 0) → b ≡ kidAt t cap (spot n 1 0) → c ≡ kidAt t cap (spot n 0 1) → d ≡ kidAt t cap (spot n 1 1)
+    → e ≡ kidAt t cap (spot north 0 0) → f ≡ kidAt t cap (spot north 1 0) → g ≡ kidAt t cap (spot east 0 1) → h ≡ kidAt t cap (spot east 0 0) → i ≡ kidAt t cap (spot both 0 0)
+    → (a ∷ b ∷ c ∷ d ∷ e ∷ f ∷ g ∷ h ∷ i ∷ []) ≡ map (kidAt t cap) (wantedSpots t cap n)
+near-nine t cap n x y z α β γ δ ε ζ η θ ι = rw (wanted-is t cap n x y z, α, β, γ, δ, ε, ζ, η, θ, ι)

@@ -22,10 +22,12 @@ use Rattle.table.proofs.Links.{link-within}
 use Rattle.pictures.proofs.Linked.{kid-word-lt}
 use Rattle.pictures.proofs.Pictured.{word-link, number-le}
 use Rattle.editing.specs.Steps.{putWord, putUnlessNil, linkSide, placeIn, linkIn, dropSide, takeOut}
-use Rattle.editing.specs.Tables.{Spot, Lending, kidAt, freeFrom, supplied, suppliedAll, putCells, touchedRow, dropAt}
+use Rattle.stock.specs.Free.{freeFrom}
+use Rattle.editing.specs.Tables.{Spot, Lending, kidAt, supplied, suppliedAll, putCells, touchedRow, dropAt}
 use Rattle.editing.proofs.Spots.{put-same, put-other}
 use Rattle.editing.proofs.Written.{word-other, word-either, wind-word}
 use Rattle.editing.proofs.Lengths.{length-unnamed, length-takeOut}
+use Rattle.editing.proofs.Freeing.{free-link}
 use Rattle.edit.specs.Plain.{Plain}
 
 -- ---- one word
@@ -130,18 +132,6 @@ module _ (cap d : ℕ) where
   plain-supply (and-spot {x} {xs} a b s) r l p = plain-supply s (supplied cap d x r) (low-supplied x r l) (plain-supplied x r a b l p)
 
 -- ---- a patch that goes
-
-free-link : (w : ℕ) → w < 9 → code (getD freeRow w (pos 0)) ≡ 0
-free-link zero h = refl
-free-link (suc zero) h = refl
-free-link (suc (suc zero)) h = refl
-free-link (suc (suc (suc zero))) h = refl
-free-link (suc (suc (suc (suc zero)))) h = refl
-free-link (suc (suc (suc (suc (suc zero))))) h = refl
-free-link (suc (suc (suc (suc (suc (suc zero)))))) h = refl
-free-link (suc (suc (suc (suc (suc (suc (suc zero))))))) h = refl
-free-link (suc (suc (suc (suc (suc (suc (suc (suc zero)))))))) h = refl
-free-link (suc (suc (suc (suc (suc (suc (suc (suc (suc w))))))))) h = let no : ⊥ = omega arith in absurd no
 
 plain-freed : {t : List ℤ} {cap : ℕ} → Plain t cap → (k : ℕ) → k * rowWords + rowWords ≤ length t → Plain (putRow t k freeRow) cap
 unfolding wordOf

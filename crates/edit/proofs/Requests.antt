@@ -30,7 +30,7 @@ module _ (t : List ℤ) (cap d n low : ℕ) where
       lending t₂ b ≡ suppliedAll cap d (cornerSpots north east both) (lending t₁ a) →
       t₃ ≡ putCells (kidSpots t₂ cap n) t₂ cap 1 st →
       t₄ ≡ refreshNear t₃ cap d n →
-      lending t₄ b ≡ refineTable cap d n (lending t low)
+      t₄ ≡ refineTable cap d n (lending t low) .words
   unfolding refineTable
   refined {north} {east} {both} {b = b} {t₂ = t₂} h1 h2 h3 h4 h5 h6 h7 h8 h9 =
       let all : suppliedAll cap d (wantedSpots t cap n) (lending t low) ≡ lending t₂ b = ap (λ xs. suppliedAll cap d xs (lending t low)) (wanted-is t cap n h1 h2 h3) ∙ supply-append cap d (kidSpots t cap n) (cornerSpots north east both) (lending t low) ∙ ap (suppliedAll cap d (cornerSpots north east both)) (sym h6) ∙ sym h7 in

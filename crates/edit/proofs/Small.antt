@@ -16,7 +16,8 @@ use Rattle.table.specs.Worked.{kidWord, sideOf}
 use Rattle.table.proofs.Links.{depth-back}
 use Rattle.pictures.proofs.Linked.{kid-word-lt}
 use Rattle.editing.specs.Steps.{putWord, linkSide, placeIn, linkIn}
-use Rattle.editing.specs.Tables.{Lending, spot, kidAt, freeFrom, kidSpots, supplied, suppliedAll}
+use Rattle.stock.specs.Free.{freeFrom}
+use Rattle.editing.specs.Tables.{Lending, spot, kidAt, kidSpots, supplied, suppliedAll}
 use Rattle.editing.proofs.Written.{word-other, word-either, Keeps, keeps-put, keeps-unless, keeps-then, wind-word}
 use Rattle.edit.specs.Small.{Small, AllSmall}
 use Rattle.edit.specs.Lent.{lending}

@@ -1,6 +1,7 @@
 // What an accepted refinement, removal or kill does to a lent table and its values.
 pub mod anew;
 pub mod kill;
+pub mod near;
 pub mod plain;
 pub mod refine;
 pub mod remove;

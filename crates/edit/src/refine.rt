@@ -1,8 +1,10 @@
 // An accepted refinement.
 ghost use mathlib.Core.Path.{_≡_};
+ghost use mathlib.Core.List.{[]};
 ghost use Prim.Native.Nat.{_+_, _*_, _<_, _≤_};
 ghost use lib.ListN.{length};
 ghost use Rattle.mesh.specs.Picture.{rowWords};
+ghost use Rattle.stock.specs.Stock.{Stocked};
 ghost use Rattle.editing.specs.Tables.{kidStatus, refineTable, refineValues};
 ghost use Rattle.edit.specs.Small.{AllSmall};
 ghost use Rattle.edit.specs.Lent.{lending};
@@ -23,20 +25,19 @@ fn kid_status(st: u32) -> u32
     if st == 0 { 0 } else { 2 }
 }
 
-// Refines the cell n; the next number to look for free ones from.
-pub fn refine_table(t: &mut [i32], cap: usize, d: u32, n: usize, low: usize) -> usize
-    requires { ⌜ (cap * rowWords + rowWords ≤ length (now t)) × (cap ≤ 4095) × (n ≤ cap) × (d ≤ 32) × (low ≤ cap + 1) × AllSmall 1048576 (now t) cap d × Plain (now t) cap ⌝ }
-    ensures { λ r. ⌜ (r ≤ cap + 1) × (lending (now (t .exit)) r ≡ refineTable cap d n (lending (now (t .entry)) low)) ⌝ }
+// Refines the cell n, with free numbers that are in stock.
+pub fn refine_table(t: &mut [i32], cap: usize, d: u32, n: usize, stock: &[u16; 24])
+    requires { ⌜ (cap * rowWords + rowWords ≤ length (now t)) × (cap ≤ 4095) × (n ≤ cap) × (d ≤ 32) × AllSmall 1048576 (now t) cap d × Plain (now t) cap × Stocked cap (now t) [] (now stock) ⌝ }
+    ensures { λ _. ⌜ now (t .exit) ≡ refineTable cap d n (lending (now (t .entry)) 1) .words ⌝ }
 {
     let north = link(t, cap, n, 5);
     let east = link(t, cap, n, 6);
     let both = link(t, cap, east, 5);
     let st = kid_status(word(t, n, 13));
-    let a = supply_kids(t, cap, d, n, low);
-    let b = supply_corners(t, cap, d, north, east, both, a);
+    let a = supply_kids(t, cap, d, n, stock, 1);
+    supply_corners(t, cap, d, north, east, both, stock, a);
     put_cells(t, cap, n, 1, st);
     refresh_near(t, cap, d, n);
-    b
 }
 
 // The values, with the words after the refinement.
@@ -52,11 +53,10 @@ pub fn refine_values(t: &[i32], cap: usize, n: usize, v: &mut [f64])
 }
 
 // Refines the cell n, its values too.
-pub fn refine(t: &mut [i32], v: &mut [f64], cap: usize, d: u32, n: usize, low: usize) -> usize
-    requires { ⌜ (cap * rowWords + rowWords ≤ length (now t)) × (cap < length (now v)) × (cap ≤ 4095) × (n ≤ cap) × (d ≤ 32) × (low ≤ cap + 1) × AllSmall 1048576 (now t) cap d × Plain (now t) cap ⌝ }
-    ensures { λ r. ⌜ (r ≤ cap + 1) × (lending (now (t .exit)) r ≡ refineTable cap d n (lending (now (t .entry)) low)) × (now (v .exit) ≡ refineValues (now (t .exit)) cap n (now (v .entry))) ⌝ }
+pub fn refine(t: &mut [i32], v: &mut [f64], cap: usize, d: u32, n: usize, stock: &[u16; 24])
+    requires { ⌜ (cap * rowWords + rowWords ≤ length (now t)) × (cap < length (now v)) × (cap ≤ 4095) × (n ≤ cap) × (d ≤ 32) × AllSmall 1048576 (now t) cap d × Plain (now t) cap × Stocked cap (now t) [] (now stock) ⌝ }
+    ensures { λ _. ⌜ (now (t .exit) ≡ refineTable cap d n (lending (now (t .entry)) 1) .words) × (now (v .exit) ≡ refineValues (now (t .exit)) cap n (now (v .entry))) ⌝ }
 {
-    let next = refine_table(t, cap, d, n, low);
+    refine_table(t, cap, d, n, stock);
     refine_values(t, cap, n, v);
-    next
 }

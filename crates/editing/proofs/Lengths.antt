@@ -18,7 +18,8 @@ use Rattle.table.specs.Writes.{freeRow}
 use Rattle.table.proofs.Links.{link-within}
 use Rattle.editing.specs.Steps.{putWord, putUnlessNil, linkSide, placeIn, linkIn, dropSide, takeOut}
 use Rattle.editing.specs.Anew.{refreshed, wallRow, markRow}
-use Rattle.editing.specs.Tables.{Spot, Lending, Border, kidAt, kidSpots, refreshUnlessNil, eachAt, refreshNear, putCells, putValues, freeFrom, supplied, suppliedAll, refineTable, refineValues, touchedRow, dropUntouched, dropAt, removeTable, removeValues, kidless, dropUp, dropCorner, eachKid, refreshDown, refreshLevel, refreshLevels, killTable, killValues}
+use Rattle.stock.specs.Free.{freeFrom}
+use Rattle.editing.specs.Tables.{Spot, Lending, Border, kidAt, kidSpots, refreshUnlessNil, eachAt, refreshNear, putCells, putValues, supplied, suppliedAll, refineTable, refineValues, touchedRow, dropUntouched, dropAt, removeTable, removeValues, kidless, dropUp, dropCorner, eachKid, refreshDown, refreshLevel, refreshLevels, killTable, killValues}
 use Rattle.editing.proofs.Spots.{put-length}
 
 -- ---- words

@@ -44,3 +44,4 @@ pub mod Sprouts
 pub mod Blank
 pub mod Lengths
 pub mod Lowering
+pub mod Freeing

@@ -8,7 +8,7 @@ use mathlib.Core.Bool.{Bool, true, false, cond}
 use mathlib.Core.List.{List, [], _∷_}
 use lib.Dec.{eqb}
 use lib.IntN.{ℤ, pos}
-use lib.ListN.{length}
+use lib.ListN.{length, set}
 use borrow.Author.Tests.{eqb-true}
 use Rattle.mesh.specs.Place.{Wind, N, E, S, W, compass}
 use Rattle.mesh.specs.Winds.{wordOfWind}
@@ -44,19 +44,22 @@ pub record FreesNone (t u : List ℤ) : Type 0 where
 pub lowers-none : {t u v : List ℤ} {a b : ℕ} → Lowers t u a b → FreesNone u v → Lowers t v a b
 lowers-none f g = record { below = f .below; from = f .from; freed = λ k l e. f .freed k l (g .was k e) }
 
-nothing : {t : List ℤ} → FreesNone t t
+pub nothing : {t : List ℤ} → FreesNone t t
 nothing = record { was = λ k e. e }
 
-next : {t u v : List ℤ} → FreesNone t u → FreesNone u v → FreesNone t v
+pub next : {t u v : List ℤ} → FreesNone t u → FreesNone u v → FreesNone t v
 next f g = record { was = λ k e. f .was k (g .was k e) }
 
-either : (b : Bool) {t u v : List ℤ} → FreesNone t u → FreesNone t v → FreesNone t (cond b u v)
+pub either : (b : Bool) {t u v : List ℤ} → FreesNone t u → FreesNone t v → FreesNone t (cond b u v)
 either true f g = f
 either false f g = g
 
-pub frees-word : (t : List ℤ) (n w x : ℕ) → w < 14 → w ≢ 12 → FreesNone t (putWord t n w x)
+pub frees-set : (t : List ℤ) (n w : ℕ) (z : ℤ) → w < 14 → w ≢ 12 → FreesNone t (set t (n * rowWords + w) z)
 unfolding vacant
-frees-word t n w x l h = record { was = λ k e. ap (λ (y : ℕ). eqb y 8192) (sym (word-other t n w (pos x) k 12 l (omega arith) h)) ∙ e }
+frees-set t n w z l h = record { was = λ k e. ap (λ (y : ℕ). eqb y 8192) (sym (word-other t n w z k 12 l (omega arith) h)) ∙ e }
+
+pub frees-word : (t : List ℤ) (n w x : ℕ) → w < 14 → w ≢ 12 → FreesNone t (putWord t n w x)
+frees-word t n w x l h = frees-set t n w (pos x) l h
 
 pub frees-flags : (t : List ℤ) (n x : ℕ) → x ≢ 8192 → FreesNone t (putWord t n 12 x)
 unfolding vacant
@@ -139,7 +142,7 @@ keeps-unnamed t cap k =
 
 module _ (t : List ℤ) (cap k : ℕ) (fits : cap * rowWords + rowWords ≤ length t) (within : k ≤ cap) where
   -- the flags of the other rows stay
-  out-other : (m : ℕ) → m ≢ k → wordOf (takeOut t cap k) m 12 ≡ wordOf t m 12
+  pub out-other : (m : ℕ) → m ≢ k → wordOf (takeOut t cap k) m 12 ≡ wordOf t m 12
   unfolding takeOut wordOf
   out-other m h = ap code (put-other (unnamed t cap k) freeRow k refl (omega (arith, length-unnamed t cap k)) m 12 (omega arith) h) ∙ keeps-unnamed t cap k .same m 12 (omega arith) (omega arith)
 

@@ -26,7 +26,8 @@ use Rattle.numbering.proofs.Giving.{Next, next-free, lacking, lacking-append, l
 use Rattle.table.specs.Words.{code, wordOf}
 use Rattle.editing.specs.Linked.{Flags, fieldsWith, tableWith, withFlags}
 use Rattle.editing.specs.Steps.{linkIn}
-use Rattle.editing.specs.Tables.{Lending, Spot, freeFrom, kidAt, supplied, suppliedAll}
+use Rattle.stock.specs.Free.{freeFrom}
+use Rattle.editing.specs.Tables.{Lending, Spot, kidAt, supplied, suppliedAll}
 use Rattle.editing.proofs.Linked.{word-field}
 use Rattle.editing.proofs.Rooted.{Rooted}
 use Rattle.editing.proofs.Adding.{link-in, link-in-rooted}

@@ -11,15 +11,11 @@ use lib.Ieee.{Float}
 use Rattle.mesh.specs.State.{plusZero}
 use Rattle.table.specs.Words.{wordOf, linkOf, vacant}
 use Rattle.table.specs.Worked.{kidWord, cellIn}
+use Rattle.stock.specs.Free.{freeFrom}
 use Rattle.editing.specs.Steps.{putWord, putUnlessNil, linkIn, takeOut}
 use Rattle.editing.specs.Anew.{refreshed, wallRow, markRow}
 
 -- ---- free numbers
-
--- the smallest free number from k on, among the next n; 0 if there is none
-unfoldable pub freeFrom : List ℤ → ℕ → ℕ → ℕ
-freeFrom t zero k = 0
-freeFrom t (suc n) k = cond (eqb (wordOf t k 12) 8192) k (freeFrom t n (k + 1))
 
 -- a table, and a number below which none is free
 pub record Lending : Type 0 where

@@ -31,12 +31,11 @@ same-checks : (s : State) (n : ℕ) (x y : Float) → finite x ≡ finite y → 
 unfolding checks
 same-checks s n x y e = rw e
 
-pub standing-applied : {cap d n w low why low′ : ℕ} {x : Float} {t t′ : List ℤ} {v v′ : List Float} → StandsFor w x → Applied (setValue n x) cap d low t v t′ v′ why low′ → Applied (setValue n (ofBits binary64 w)) cap d low t v t′ v′ why low′
-standing-applied {cap} {d} {n} {w} {low} {why} {low′} {x} {t} {t′} {v} {v′} f a = record {
+pub standing-applied : {cap d n w why : ℕ} {x : Float} {t t′ : List ℤ} {v v′ : List Float} → StandsFor w x → Applied (setValue n x) cap d t v t′ v′ why → Applied (setValue n (ofBits binary64 w)) cap d t v t′ v′ why
+standing-applied {cap} {d} {n} {w} {why} {x} {t} {t′} {v} {v′} f a = record {
   decided = λ s columns rows mark p e. a .decided s columns rows mark p e ∙ ap refusal (same-checks s n x (ofBits binary64 w) (f .alike));
-  done = λ s columns rows mark p e b h. rw (← f .is (finite-then s n x (p .valid) (sym (a .decided s columns rows mark p e) ∙ h))) (a .done s columns rows mark p e b h);
+  done = λ s columns rows mark p e h. rw (← f .is (finite-then s n x (p .valid) (sym (a .decided s columns rows mark p e) ∙ h))) (a .done s columns rows mark p e h);
   refused = a .refused;
-  low-to = a .low-to;
 }
 
 -- ---- by the kind byte
@@ -62,5 +61,5 @@ module _ (k n w : ℕ) where
   unfolding asked
   asked-set e = rw e
 
-pub same-applied : {q q′ : Request} {cap d low why low′ : ℕ} {t t′ : List ℤ} {v v′ : List Float} → q ≡ q′ → Applied q cap d low t v t′ v′ why low′ → Applied q′ cap d low t v t′ v′ why low′
-same-applied {cap = cap} {d = d} {low = low} {why = why} {low′ = low′} {t = t} {t′ = t′} {v = v} {v′ = v′} e a = subst (λ (q : Request). Applied q cap d low t v t′ v′ why low′) e a
+pub same-applied : {q q′ : Request} {cap d why : ℕ} {t t′ : List ℤ} {v v′ : List Float} → q ≡ q′ → Applied q cap d t v t′ v′ why → Applied q′ cap d t v t′ v′ why
+same-applied {cap = cap} {d = d} {why = why} {t = t} {t′ = t′} {v = v} {v′ = v′} e a = subst (λ (q : Request). Applied q cap d t v t′ v′ why) e a

@@ -65,5 +65,5 @@ module _ (t : List ℤ) (cap n : ℕ) where
 
 -- ---- a refused request
 
-pub refused-applied : (q : Request) (cap d low : ℕ) (t : List ℤ) (v : List Float) (why : ℕ) → Decides q cap d t v why → why ≢ 0 → low ≤ cap + 1 → Applied q cap d low t v t v why low
-refused-applied q cap d low t v why x z l = record { decided = x; done = λ s columns rows mark p e b h. absurd (z h); refused = λ _. (refl, refl, refl); low-to = l }
+pub refused-applied : (q : Request) (cap d : ℕ) (t : List ℤ) (v : List Float) (why : ℕ) → Decides q cap d t v why → why ≢ 0 → Applied q cap d t v t v why
+refused-applied q cap d t v why x z = record { decided = x; done = λ s columns rows mark p e h. absurd (z h); refused = λ _. (refl, refl) }

@@ -1,9 +1,8 @@
 -- A picture, and the picture that an accepted request leaves: the words and the values of its effect, with the mark raised.
 -- Assumes nothing.
-use Prim.Native.Nat.{ℕ, _+_, _-_, _%_, _<_}
-use native.Mathlib.Omega.{arith}
-use mathlib.Core.Path.{_≡_, refl, sym, ap, _∙_}
-use mathlib.Core.Bool.{Bool, true, false}
+use Prim.Native.Nat.{ℕ, _+_, _-_, _%_}
+use mathlib.Core.Path.{_≡_, ap, _∙_}
+use mathlib.Core.Bool.{false}
 use mathlib.Core.List.{List}
 use lib.IntN.{ℤ}
 use lib.Ieee.{Float}
@@ -15,9 +14,8 @@ use Rattle.mesh.specs.Refusal.{refusal}
 use Rattle.mesh.specs.Request.{Request, checks, effect, marked, accepted, request}
 use Rattle.table.specs.Words.{vacant}
 use Rattle.pictures.proofs.Taken.{vacant-row}
-use Rattle.editing.specs.Tables.{Lowers}
 use Rattle.laws.proofs.Requests.{Done, request-done}
-use Rattle.tape.specs.Drawn.{Drawn, Bounded}
+use Rattle.tape.specs.Drawn.{Drawn}
 
 -- level 0 is at the header's depth
 pub drawn-depth : {s : State} {columns rows mark cap d : ℕ} {t : List ℤ} {v : List Float} → Drawn s columns rows mark cap t v → base (rectangle columns rows) ≡ d → base (gridOf s) ≡ d
@@ -28,35 +26,15 @@ pub from-picture : {s : State} {columns rows mark cap d : ℕ} {t : List ℤ} {v
     → P (table s) (capacity s) (base (gridOf s)) → P t cap d
 from-picture P p e h = rw (p .is-table, ← p .is-capacity, ← drawn-depth p e) h
 
-pub to-picture : {s : State} {columns rows mark cap d : ℕ} {t : List ℤ} {v : List Float} (P : List ℤ → ℕ → ℕ → Type 0) → Drawn s columns rows mark cap t v → base (rectangle columns rows) ≡ d
-    → P t cap d → P (table s) (capacity s) (base (gridOf s))
-to-picture P p e h = rw (← p .is-table, p .is-capacity, drawn-depth p e) h
-
 -- ---- free numbers
 
 -- a row is free exactly if its number is
-pub drawn-vacant : {s : State} {columns rows mark cap : ℕ} {t : List ℤ} {v : List Float} → Drawn s columns rows mark cap t v → (k : ℕ) → vacant t k ≡ isFree (entry (s .entries) k)
+drawn-vacant : {s : State} {columns rows mark cap : ℕ} {t : List ℤ} {v : List Float} → Drawn s columns rows mark cap t v → (k : ℕ) → vacant t k ≡ isFree (entry (s .entries) k)
 drawn-vacant {s} p k = ap (λ (u : List ℤ). vacant u k) (p .is-table) ∙ vacant-row s (p .valid) k
 
--- the number 0 is not free
-pub bounded-one : {s : State} {cap : ℕ} → Valid s → Bounded (s .entries) cap 1
-bounded-one {s} v = record { none-below = λ k l. let z : k ≡ 0 = omega arith in rw z (ap isFree (v .zeroth)); from = omega arith; to = omega arith }
-
--- none below the lowered bound is free in the picture that comes after
-module _ {s s′ : State} {columns rows mark columns′ rows′ mark′ cap low low′ : ℕ} {t t′ : List ℤ} {v v′ : List Float} (p : Drawn s columns rows mark cap t v) (p′ : Drawn s′ columns′ rows′ mark′ cap t′ v′) where
-  pub lowered-bounded : Lowers t t′ low low′ → Bounded (s .entries) cap low → Bounded (s′ .entries) cap low′
-  lowered-bounded f b = record {
-    none-below = λ k l. go k l (isFree (entry (s′ .entries) k)) refl;
-    from = f .from (b .from);
-    to = omega (arith, f .below, b .to);
-  }
-    where
-      go : (k : ℕ) → k < low′ → (x : Bool) → isFree (entry (s′ .entries) k) ≡ x → isFree (entry (s′ .entries) k) ≡ false
-      go k l false e = e
-      go k l true e =
-          let was : true ≡ false = sym (f .freed k l (drawn-vacant p′ k ∙ e)) ∙ drawn-vacant p k ∙ b .none-below k (omega (arith, f .below)) in
-          let z : _≡_ {A = ℕ} 0 1 = cc in
-          absurd (omega arith)
+-- the number 0 is not
+pub drawn-nil : {s : State} {columns rows mark cap : ℕ} {t : List ℤ} {v : List Float} → Drawn s columns rows mark cap t v → vacant t 0 ≡ false
+drawn-nil p = drawn-vacant p 0 ∙ ap isFree (p .valid .zeroth)
 
 -- ---- an accepted request
 

@@ -4,50 +4,53 @@ use Prim.Native.Nat.{ℕ, _+_, _%_, _≤_}
 use native.Mathlib.Omega.{arith}
 use mathlib.Core.Path.{_≡_, refl, _∙_}
 use mathlib.Core.Logic.{_≢_}
-use mathlib.Core.List.{List}
-use lib.ListN.{length, drop, drop-of-length-le}
+use mathlib.Core.List.{List, []}
+use lib.ListN.{length, replicate, drop, drop-of-length-le}
 use lib.IntN.{ℤ}
 use lib.Ieee.{Float}
 use Rattle.mesh.specs.Place.{rectangle, base}
 use Rattle.mesh.specs.State.{State}
 use Rattle.mesh.specs.Tape.{runFrom, run}
 use Rattle.mesh.proofs.Runs.{run-end}
-use Rattle.tape.specs.Drawn.{Drawn, Bounded, Sized, Tame, Pictured}
+use Rattle.stock.specs.Stock.{Stocked}
+use Rattle.stock.proofs.Keeping.{no-stock}
+use Rattle.tape.specs.Drawn.{Drawn, Sized, Tame, Pictured}
 use Rattle.tape.specs.Ran.{Turned, Ran}
-use Rattle.tape.proofs.Drawing.{bounded-one}
+use Rattle.tape.proofs.Drawing.{drawn-nil}
 use Rattle.tape.proofs.Tamed.{drawn-tame, drawn-sized}
 
 -- the run from s goes on from a state that is pictured now
-pub record Present (s : State) (columns rows mark cap low : ℕ) (t : List ℤ) (v : List Float) (bytes : List ℕ) (at done : ℕ) : Type 0 where
+pub record Present (s : State) (columns rows mark cap : ℕ) (t : List ℤ) (v : List Float) (bytes : List ℕ) (at done : ℕ) : Type 0 where
   pub state : State
   pub drawn : Drawn state columns rows mark cap t v
-  pub bounded : Bounded (state .entries) cap low
   pub goes-on : run s bytes ≡ runFrom 0 state done at (drop at bytes)
 
 module _ (bytes : List ℕ) (cap d mark₀ : ℕ) (t₀ : List ℤ) (v₀ : List Float) where
-  pub record Ongoing (t : List ℤ) (v : List Float) (at done low mark : ℕ) : Type 0 where
+  pub record Ongoing (t : List ℤ) (v : List Float) (s : List ℕ) (at done mark : ℕ) : Type 0 where
     pub within : at ≤ length bytes
     pub few : done ≤ at
-    pub present : (s : State) (columns rows : ℕ) → Drawn s columns rows mark₀ cap t₀ v₀ → base (rectangle columns rows) ≡ d → Present s columns rows mark cap low t v bytes at done
+    pub present : (s : State) (columns rows : ℕ) → Drawn s columns rows mark₀ cap t₀ v₀ → base (rectangle columns rows) ≡ d → Present s columns rows mark cap t v bytes at done
+    pub stocked : Stocked cap t [] s
 
-  pub starts : Ongoing t₀ v₀ 0 0 1 mark₀
+  pub starts : Pictured mark₀ cap d t₀ v₀ → Ongoing t₀ v₀ (replicate 24 1) 0 0 mark₀
   unfolding run
-  starts = record { within = omega arith; few = omega arith; present = λ s columns rows p e. record { state = s; drawn = p; bounded = bounded-one (p .valid); goes-on = refl } }
+  starts q = record { within = omega arith; few = omega arith; present = λ s columns rows p e. record { state = s; drawn = p; goes-on = refl }; stocked = no-stock cap (drawn-nil (q .drawn)) }
 
-  module _ {t : List ℤ} {v : List Float} {at done low mark : ℕ} (o : Ongoing t v at done low mark) where
+  module _ {t : List ℤ} {v : List Float} {stock : List ℕ} {at done mark : ℕ} (o : Ongoing t v stock at done mark) where
     -- what the code asks for, at each request
-    pub asked-for : Pictured mark₀ cap d t₀ v₀ → Sized t v cap d low × Tame t cap d
-    asked-for p = let x = o .present (p .state) (p .columns) (p .rows) (p .drawn) (p .depth) in (drawn-sized (x .drawn) (p .depth) (x .bounded), drawn-tame (x .drawn) (p .depth))
+    pub asked-for : Pictured mark₀ cap d t₀ v₀ → Sized t v cap d × Tame t cap d
+    asked-for p = let x = o .present (p .state) (p .columns) (p .rows) (p .drawn) (p .depth) in (drawn-sized (x .drawn) (p .depth), drawn-tame (x .drawn) (p .depth))
 
-    module _ {t′ : List ℤ} {v′ : List Float} {why low′ next : ℕ} (u : Turned bytes at cap d low t v t′ v′ why low′ next) where
-      pub goes-next : {mark′ : ℕ} → why ≡ 0 → mark′ ≡ (mark + 1) % 65536 → Ongoing t′ v′ next (done + 1) low′ mark′
-      goes-next z m = let (a, b) = u .further z in record {
+    module _ {t′ : List ℤ} {v′ : List Float} {why next : ℕ} (u : Turned bytes at cap d t v t′ v′ why next) where
+      pub goes-next : {stock′ : List ℕ} {mark′ : ℕ} → Stocked cap t′ [] stock′ → why ≡ 0 → mark′ ≡ (mark + 1) % 65536 → Ongoing t′ v′ stock′ next (done + 1) mark′
+      goes-next h z m = let (a, b) = u .further z in record {
         within = b;
         few = omega (arith, o .few);
         present = λ s columns rows p e.
             let x = o .present s columns rows p e in
-            let y = u .goes z (x .state) columns rows mark (x .drawn) e (x .bounded) in
-            record { state = y .state; drawn = rw m (y .drawn); bounded = y .bounded; goes-on = x .goes-on ∙ y .goes-on done };
+            let y = u .goes z (x .state) columns rows mark (x .drawn) e in
+            record { state = y .state; drawn = rw m (y .drawn); goes-on = x .goes-on ∙ y .goes-on done };
+        stocked = h;
       }
 
       pub ran-stopped : why ≢ 0 → Ran bytes cap d mark₀ t₀ v₀ t′ v′ done why at mark

@@ -13,12 +13,11 @@ use Rattle.mesh.specs.Valid.{Valid}
 use Rattle.mesh.specs.Picture.{rowWords, table}
 use Rattle.geometry.proofs.Base.{base-range}
 use Rattle.pictures.proofs.Rows.{table-length, amounts-length}
-use Rattle.deciding.specs.Decide.{NoneBelow}
 use Rattle.deciding.proofs.Marked.{flags-small}
 use Rattle.edit.proofs.Meeting.{picture-small}
 use Rattle.edit.proofs.PlainRows.{picture-links}
-use Rattle.tape.specs.Drawn.{Drawn, Bounded, Sized, Tame}
-use Rattle.tape.proofs.Drawing.{drawn-depth, from-picture, drawn-vacant}
+use Rattle.tape.specs.Drawn.{Drawn, Sized, Tame}
+use Rattle.tape.proofs.Drawing.{drawn-depth, from-picture}
 
 picture-tame : (s : State) → Valid s → Tame (table s) (capacity s) (base (gridOf s))
 picture-tame s v = record { indices = picture-small v; flags = flags-small s; plain = record { links = λ n w h l. picture-links s n w l; flags = λ n h. omega (arith, flags-small s n) } }
@@ -27,15 +26,12 @@ module _ {s : State} {columns rows mark cap d : ℕ} {t : List ℤ} {v : List Fl
   pub drawn-tame : Tame t cap d
   drawn-tame = from-picture Tame p e (picture-tame s (p .valid))
 
-  drawn-none-below : {low : ℕ} → Bounded (s .entries) cap low → NoneBelow t low
-  drawn-none-below b = record { from = b .from; none = λ k l. drawn-vacant p k ∙ b .none-below k l }
-
-  pub drawn-sized : {low : ℕ} → Bounded (s .entries) cap low → Sized t v cap d low
-  drawn-sized b =
+  pub drawn-sized : Sized t v cap d
+  drawn-sized =
       let (least, most) = base-range (gridOf s) (p .valid .rectangle) in
       let x : length t ≡ length (s .entries) * rowWords = ap length (p .is-table) ∙ table-length s in
       let y : length v ≡ length (s .entries) = ap length (p .is-values) ∙ amounts-length s in
       let size = p .valid .sizes in
       let same = p .is-capacity in
       let deep = drawn-depth p e in
-      record { words = omega arith; values = omega arith; cap-from = omega arith; cap-to = omega arith; depth = omega arith; low-to = b .to; none-below = drawn-none-below b }
+      record { words = omega arith; values = omega arith; cap-from = omega arith; cap-to = omega arith; depth = omega arith }

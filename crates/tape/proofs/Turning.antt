@@ -40,21 +40,20 @@ module _ (bytes : List ℕ) (at k : ℕ) (inside : at < length bytes) (is : k �
   stopped : (s : State) (r : ℕ) → stepBy s (kind k) rest ≡ stop r → (n : ℕ) → runFrom 0 s n at (drop at bytes) ≡ record { state = s; done = n; why = r; offset = at }
   stopped s r e n = rw split (run-stop s n at k r rest e)
 
-  module _ (cap d low : ℕ) (t : List ℤ) (v : List Float) (low-to : low ≤ cap + 1) where
+  module _ (cap d : ℕ) (t : List ℤ) (v : List Float) where
     -- what stops before a request is decided
-    turned-stop : (r : ℕ) → r ≢ 0 → ((s : State) → stepBy s (kind k) rest ≡ stop r) → Turned bytes at cap d low t v t v r low at
+    turned-stop : (r : ℕ) → r ≢ 0 → ((s : State) → stepBy s (kind k) rest ≡ stop r) → Turned bytes at cap d t v t v r at
     turned-stop r z h = record {
       stops = λ _ s columns rows mark p e. stopped s r (h s);
       same = λ _. (refl, refl);
       goes = λ e. absurd (z e);
       further = λ e. absurd (z e);
-      low-to = low-to;
     }
 
-    pub turned-unknown : {len : ℕ} → len ≡ bodyLength k → len ≡ 0 → Turned bytes at cap d low t v t v 5 low at
+    pub turned-unknown : {len : ℕ} → len ≡ bodyLength k → len ≡ 0 → Turned bytes at cap d t v t v 5 at
     turned-unknown e z = turned-stop 5 (λ x. omega arith) (λ s. rw (unknown k (sym e ∙ z)))
 
-    pub turned-short : {len : ℕ} → len ≡ bodyLength k → len ≢ 0 → length bytes - at ≤ len → Turned bytes at cap d low t v t v 4 low at
+    pub turned-short : {len : ℕ} → len ≡ bodyLength k → len ≢ 0 → length bytes - at ≤ len → Turned bytes at cap d t v t v 4 at
     turned-short {len} e z l =
         let x = known k rest (λ y. z (e ∙ y)) in
         let few : length rest < x .its .len = simp length-drop (omega (arith, x .is-length)) in
@@ -62,9 +61,9 @@ module _ (bytes : List ℕ) (at k : ℕ) (inside : at < length bytes) (is : k �
 
   -- ---- a request with its body
 
-  module _ {cap d low len n w why low′ : ℕ} {t t′ : List ℤ} {v v′ : List Float} (is-len : len ≡ bodyLength k) (some-len : len ≢ 0) (enough : len < length bytes - at)
+  module _ {cap d len n w why : ℕ} {t t′ : List ℤ} {v v′ : List Float} (is-len : len ≡ bodyLength k) (some-len : len ≢ 0) (enough : len < length bytes - at)
       (is-n : n ≡ highFirst 0 (take 2 (drop (at + 1) bytes))) (is-w : w ≡ highFirst 0 (take (len - 2) (drop (at + 3) bytes)))
-      (a : Applied (asked k n w) cap d low t v t′ v′ why low′) where
+      (a : Applied (asked k n w) cap d t v t′ v′ why) where
     abbrev q : Request
     q = asked k n w
 
@@ -92,13 +91,11 @@ module _ (bytes : List ℕ) (at k : ℕ) (inside : at < length bytes) (is : k �
         ∙ run-body len s′ (m + 1) (at + 1) rest (omega (arith, whole, its .is-length))
         ∙ ap (runFrom 0 s′ (m + 1) (at + 1 + len)) (drop-drop len (at + 1) bytes))
 
-    pub turned-request : Turned bytes at cap d low t v t′ v′ why low′ (at + 1 + len)
+    pub turned-request : Turned bytes at cap d t v t′ v′ why (at + 1 + len)
     turned-request = record {
       stops = λ z s columns rows mark p e. stopped s why (step-refused s (request-refused s q why (a .decided s columns rows mark p e) z));
       same = λ z. (a .refused z .0, a .refused z .1);
-      goes = λ z s columns rows mark p e b.
-          let (x, y) = a .done s columns rows mark p e b z in
-          record { state = marked (effect s q); drawn = x; bounded = y; goes-on = on s (marked (effect s q)) (request-accepted s q (sym (a .decided s columns rows mark p e) ∙ z)) };
+      goes = λ z s columns rows mark p e.
+          record { state = marked (effect s q); drawn = a .done s columns rows mark p e z; goes-on = on s (marked (effect s q)) (request-accepted s q (sym (a .decided s columns rows mark p e) ∙ z)) };
       further = λ z. (omega arith, omega (arith, whole));
-      low-to = a .low-to;
     }

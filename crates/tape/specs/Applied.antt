@@ -1,6 +1,6 @@
 -- What a request makes of a lent table: on a picture the rules' refusal and effect, and nothing at all if it is refused.
 -- Assumes nothing.
-use Prim.Native.Nat.{ℕ, _+_, _%_, _≤_}
+use Prim.Native.Nat.{ℕ, _+_, _%_}
 use mathlib.Core.Path.{_≡_}
 use mathlib.Core.Logic.{_≢_}
 use mathlib.Core.List.{List}
@@ -10,12 +10,11 @@ use Rattle.mesh.specs.Place.{rectangle, base}
 use Rattle.mesh.specs.State.{State}
 use Rattle.mesh.specs.Refusal.{refusal}
 use Rattle.mesh.specs.Request.{Request, checks, effect, marked}
-use Rattle.tape.specs.Drawn.{Drawn, Bounded}
+use Rattle.tape.specs.Drawn.{Drawn}
 
--- t and v with the bound low become t′ and v′ with the bound low′, and why is the refusal, 0 for none
-pub record Applied (q : Request) (cap d low : ℕ) (t : List ℤ) (v : List Float) (t′ : List ℤ) (v′ : List Float) (why low′ : ℕ) : Type 0 where
+-- t and v become t′ and v′, and why is the refusal, 0 for none
+pub record Applied (q : Request) (cap d : ℕ) (t : List ℤ) (v : List Float) (t′ : List ℤ) (v′ : List Float) (why : ℕ) : Type 0 where
   pub decided : (s : State) (columns rows mark : ℕ) → Drawn s columns rows mark cap t v → base (rectangle columns rows) ≡ d → why ≡ refusal (checks s q)
-  pub done : (s : State) (columns rows mark : ℕ) → Drawn s columns rows mark cap t v → base (rectangle columns rows) ≡ d → Bounded (s .entries) cap low → why ≡ 0
-      → Drawn (marked (effect s q)) columns rows ((mark + 1) % 65536) cap t′ v′ × Bounded (marked (effect s q) .entries) cap low′
-  pub refused : why ≢ 0 → (t′ ≡ t) × (v′ ≡ v) × (low′ ≡ low)
-  pub low-to : low′ ≤ cap + 1
+  pub done : (s : State) (columns rows mark : ℕ) → Drawn s columns rows mark cap t v → base (rectangle columns rows) ≡ d → why ≡ 0
+      → Drawn (marked (effect s q)) columns rows ((mark + 1) % 65536) cap t′ v′
+  pub refused : why ≢ 0 → (t′ ≡ t) × (v′ ≡ v)

@@ -1,18 +1,16 @@
--- A lent table as the picture of a state, and a number below which none is free.
+-- A lent table as the picture of a state, and what the code asks of it.
 -- Assumes nothing.
 use Prim.Native.Nat.{ℕ, _+_, _*_, _≤_, _<_}
 use mathlib.Core.Path.{_≡_}
-use mathlib.Core.Bool.{false}
 use mathlib.Core.List.{List}
 use lib.IntN.{ℤ}
 use lib.Ieee.{Float}
 use lib.ListN.{length}
 use Rattle.mesh.specs.Place.{rectangle, base}
-use Rattle.mesh.specs.State.{State, Entry, isFree, entry, capacity}
+use Rattle.mesh.specs.State.{State, capacity}
 use Rattle.mesh.specs.Valid.{Valid}
 use Rattle.mesh.specs.Picture.{rowWords, table, amounts}
 use Rattle.table.specs.Words.{wordOf}
-use Rattle.deciding.specs.Decide.{NoneBelow}
 use Rattle.edit.specs.Small.{AllSmall}
 use Rattle.edit.specs.Plain.{Plain}
 
@@ -24,23 +22,15 @@ pub record Drawn (s : State) (columns rows mark cap : ℕ) (t : List ℤ) (v : L
   pub is-table : t ≡ table s
   pub is-values : v ≡ amounts s
 
--- no number below low is free
-pub record Bounded (es : List Entry) (cap low : ℕ) : Type 0 where
-  pub none-below : (k : ℕ) → k < low → isFree (entry es k) ≡ false
-  pub from : 1 ≤ low
-  pub to : low ≤ cap + 1
-
 -- ---- what the code asks for
 
--- the lengths of the lists and the ranges of the numbers, and that no row below low is free
-pub record Sized (t : List ℤ) (v : List Float) (cap d low : ℕ) : Type 0 where
+-- the lengths of the lists and the ranges of the numbers
+pub record Sized (t : List ℤ) (v : List Float) (cap d : ℕ) : Type 0 where
   pub words : length t ≡ rowWords * (cap + 1)
   pub values : length v ≡ cap + 1
   pub cap-from : 5 ≤ cap
   pub cap-to : cap ≤ 4095
   pub depth : d ≤ 6
-  pub low-to : low ≤ cap + 1
-  pub none-below : NoneBelow t low
 
 -- the words of every row are small enough for sums with them to fit, and its links and flags are read as they stand; those of a picture are
 pub record Tame (t : List ℤ) (cap d : ℕ) : Type 0 where

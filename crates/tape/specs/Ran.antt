@@ -10,25 +10,23 @@ use lib.ListN.{length, drop}
 use Rattle.mesh.specs.Place.{rectangle, base}
 use Rattle.mesh.specs.State.{State}
 use Rattle.mesh.specs.Tape.{runFrom, run}
-use Rattle.tape.specs.Drawn.{Drawn, Bounded}
+use Rattle.tape.specs.Drawn.{Drawn}
 
 -- ---- one request
 
 -- the run from s goes on from another state, which t and v picture, at the offset next and with one request more done
-pub record Goes (s : State) (columns rows mark cap low : ℕ) (t : List ℤ) (v : List Float) (bytes : List ℕ) (at next : ℕ) : Type 0 where
+pub record Goes (s : State) (columns rows mark cap : ℕ) (t : List ℤ) (v : List Float) (bytes : List ℕ) (at next : ℕ) : Type 0 where
   pub state : State
   pub drawn : Drawn state columns rows mark cap t v
-  pub bounded : Bounded (state .entries) cap low
   pub goes-on : (n : ℕ) → runFrom 0 s n at (drop at bytes) ≡ runFrom 0 state (n + 1) next (drop next bytes)
 
-pub record Turned (bytes : List ℕ) (at cap d low : ℕ) (t : List ℤ) (v : List Float) (t′ : List ℤ) (v′ : List Float) (why low′ next : ℕ) : Type 0 where
+pub record Turned (bytes : List ℕ) (at cap d : ℕ) (t : List ℤ) (v : List Float) (t′ : List ℤ) (v′ : List Float) (why next : ℕ) : Type 0 where
   pub stops : why ≢ 0 → (s : State) (columns rows mark : ℕ) → Drawn s columns rows mark cap t v → base (rectangle columns rows) ≡ d
       → (n : ℕ) → runFrom 0 s n at (drop at bytes) ≡ record { state = s; done = n; why = why; offset = at }
   pub same : why ≢ 0 → (t′ ≡ t) × (v′ ≡ v)
-  pub goes : why ≡ 0 → (s : State) (columns rows mark : ℕ) → Drawn s columns rows mark cap t v → base (rectangle columns rows) ≡ d → Bounded (s .entries) cap low
-      → Goes s columns rows ((mark + 1) % 65536) cap low′ t′ v′ bytes at next
+  pub goes : why ≡ 0 → (s : State) (columns rows mark : ℕ) → Drawn s columns rows mark cap t v → base (rectangle columns rows) ≡ d
+      → Goes s columns rows ((mark + 1) % 65536) cap t′ v′ bytes at next
   pub further : why ≡ 0 → (at < next) × (next ≤ length bytes)
-  pub low-to : low′ ≤ cap + 1
 
 -- ---- the tape
 

@@ -1,16 +1,17 @@
 // The requests of a tape, one after the other, up to the first that is refused.
+ghost use mathlib.Core.List.{[]};
 ghost use Prim.Native.Nat.{_<_};
 ghost use lib.ListN.{length};
+ghost use Rattle.stock.specs.Stock.{Stocked};
 ghost use Rattle.tape.specs.Drawn.{Sized, Tame, Pictured};
 ghost use Rattle.tape.specs.Ran.{Turned, Ran};
 use crate::apply::request;
 use crate::bytes::body_length;
 use crate::bytes::high_first;
 
-// The refusal, 0 for none; a number below which none is free; and the offset of the next kind byte.
+// The refusal, 0 for none, and the offset of the next kind byte.
 pub struct Turn {
     pub why: u32,
-    pub low: usize,
     pub next: usize,
 }
 
@@ -18,37 +19,34 @@ pub struct Turn {
 fn turn_at(
     t: &mut [i32],
     v: &mut [f64],
+    stock: &mut [u16; 24],
     cap: usize,
     d: u32,
-    low: usize,
     tape: &[u8],
     at: usize,
 ) -> Turn
-    requires { ⌜ Sized (now t) (now v) cap d low × Tame (now t) cap d × (at < length (now tape)) ⌝ }
-    ensures { λ r. ⌜ Turned (now (tape .entry)) at cap d low (now (t .entry)) (now (v .entry)) (now (t .exit)) (now (v .exit)) (r .why) (r .low) (r .next) ⌝ }
+    requires { ⌜ Sized (now t) (now v) cap d × Tame (now t) cap d × Stocked cap (now t) [] (now stock) × (at < length (now tape)) ⌝ }
+    ensures { λ r. ⌜ Turned (now (tape .entry)) at cap d (now (t .entry)) (now (v .entry)) (now (t .exit)) (now (v .exit)) (r .why) (r .next) × Stocked cap (now (t .exit)) [] (now (stock .exit)) ⌝ }
 {
     let k = tape[at];
     let len = body_length(k);
     if len == 0 {
         return Turn {
             why: 5,
-            low,
             next: at,
         };
     }
     if tape.len() - at <= len {
         return Turn {
             why: 4,
-            low,
             next: at,
         };
     }
     let n = high_first(tape, at + 1, 2) as usize;
     let w = high_first(tape, at + 3, len - 2);
-    let s = request(t, v, cap, d, k, n, w, low);
+    let why = request(t, v, stock, cap, d, k, n, w);
     Turn {
-        why: s.why,
-        low: s.low,
+        why,
         next: at + 1 + len,
     }
 }
@@ -67,10 +65,10 @@ pub fn run_tape(t: &mut [i32], v: &mut [f64], cap: usize, d: u32, mark: u16, tap
 {
     let mut at = 0;
     let mut done = 0;
-    let mut low = 1;
     let mut m = mark;
+    let mut stock = [1u16; 24];
     while at < tape.len() {
-        let s = turn_at(t, v, cap, d, low, tape, at);
+        let s = turn_at(t, v, &mut stock, cap, d, tape, at);
         if s.why != 0 {
             return Run {
                 done,
@@ -81,7 +79,6 @@ pub fn run_tape(t: &mut [i32], v: &mut [f64], cap: usize, d: u32, mark: u16, tap
         }
         at = s.next;
         done += 1;
-        low = s.low;
         m = std::num::wrapping_add_u16(m, 1);
     }
     Run {

@@ -4,6 +4,7 @@ use native.Mathlib.Omega.{arith}
 use borrow.Author.Needs.{needs}
 use Rattle.edit.proofs.Requests.{refined, refined-plain}
 use Rattle.edit.proofs.Small.{small-kids}
+use Rattle.edit.proofs.Supplying.{stock-kids}
 use Rattle.edit.proofs.refine.refine_table.Statement.{statement}
 use Rattle.edit.proofs.refine.refine_table.Tie as tie
 
@@ -36,7 +37,10 @@ supply-corners-requires c κs = (
   omega arith,
   let b₁ = c .before .before in
       let b₂ = b₁ .before .before .before .before .before .before .before .before .before .before .before in
-      small-kids _ _ _ _ _ (b₂ .pre .5) (b₁ .supply-kids .ensures .1) (b₂ .pre .2),
+      small-kids _ _ _ _ _ (b₂ .pre .4) (b₁ .supply-kids .ensures .1) (b₂ .pre .2),
+  let b₁ = c .before .before in
+      let b₂ = b₁ .before .before .before .before .before .before .before .before .before .before .before in
+      stock-kids _ _ _ (b₂ .pre .6) (b₁ .supply-kids .ensures .1),
 )
 
 put-cells-requires : tie.Need-put-cells-requires
@@ -51,26 +55,24 @@ refresh-near-requires c κs =
     let b₅ = b₄ .before .before in
     let b₆ = b₅ .before .before in
     let b₇ = b₆ .before .before in
-    let k = refined-plain _ _ _ _ _ _ _ _ _ (b₇ .pre .6) (b₃ .supply-kids .ensures .1) (b₂ .supply-corners .ensures .1) (b₁ .put-cells .ensures) (omega (arith, b₇ .pre), omega (arith, b₆ .link .ensures), omega (arith, b₅ .link2 .ensures), omega (arith, b₄ .link3 .ensures), omega (arith, b₇ .pre), omega (arith, b₃ .supply-kids .ensures)) in
+    let k = refined-plain _ _ _ _ _ _ _ _ _ (b₇ .pre .5) (b₃ .supply-kids .ensures .1) (b₂ .supply-corners .ensures .1) (b₁ .put-cells .ensures) (omega (arith, b₇ .pre), omega (arith, b₆ .link .ensures), omega (arith, b₅ .link2 .ensures), omega (arith, b₄ .link3 .ensures), omega (arith, b₇ .pre), omega (arith, b₃ .supply-kids .ensures)) in
     (omega arith, omega arith, omega arith, omega arith, k)
 
 same-length : tie.Need-same-length
 same-length c = search needs
 
 returns : tie.Need-returns
-returns c = (
-  omega arith,
-  let b₁ = c .before in
-      let b₂ = b₁ .before .before .before in
-      let b₃ = b₂ .before .before .before in
-      let b₄ = b₃ .before .before .before in
-      let b₅ = b₄ .before .before in
-      let b₆ = b₅ .before in
-      let b₇ = b₆ .before .before in
-      let b₈ = b₇ .before .before in
-      let b₉ = b₈ .before .before in
-      refined _ _ _ _ _ (b₉ .link .ensures .1) (b₈ .link2 .ensures .1) (b₇ .link3 .ensures .1) (b₆ .word .ensures) (b₅ .kid-status .ensures .1) (b₄ .supply-kids .ensures .1) (b₃ .supply-corners .ensures .1) (b₂ .put-cells .ensures) (b₁ .refresh-near .ensures),
-)
+returns c =
+    let b₁ = c .before in
+    let b₂ = b₁ .before .before .before in
+    let b₃ = b₂ .before .before .before in
+    let b₄ = b₃ .before .before .before in
+    let b₅ = b₄ .before .before in
+    let b₆ = b₅ .before in
+    let b₇ = b₆ .before .before in
+    let b₈ = b₇ .before .before in
+    let b₉ = b₈ .before .before in
+    refined _ _ _ _ _ (b₉ .link .ensures .1) (b₈ .link2 .ensures .1) (b₇ .link3 .ensures .1) (b₆ .word .ensures) (b₅ .kid-status .ensures .1) (b₄ .supply-kids .ensures .1) (b₃ .supply-corners .ensures .1) (b₂ .put-cells .ensures) (b₁ .refresh-near .ensures)
 
 pub refine-table-spec : {M : Type 1} → statement M
 refine-table-spec =

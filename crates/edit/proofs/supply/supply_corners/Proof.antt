@@ -4,14 +4,15 @@ use native.Mathlib.Omega.{arith}
 use borrow.Author.Needs.{needs}
 use Rattle.edit.proofs.Nearby.{supply-more, supply-none}
 use Rattle.edit.proofs.Small.{all-more, small-after}
+use Rattle.edit.proofs.Supplying.{stock-after}
 use Rattle.edit.proofs.supply.supply_corners.Statement.{statement}
 use Rattle.edit.proofs.supply.supply_corners.Tie as tie
 
 supply-requires : tie.Need-supply-requires
-supply-requires c κs = (omega arith, omega arith, omega arith, omega arith, omega arith, omega arith, omega arith, all-more 16777216 _ _ _ _ (c .before .pre .7) (omega arith))
+supply-requires c κs = (omega arith, omega arith, omega arith, omega arith, omega arith, omega arith, omega arith, all-more 16777216 _ _ _ _ (c .before .pre .7) (omega arith), c .before .pre .8)
 
 supply-requires-2 : tie.Need-supply-requires-2
-supply-requires-2 c κs = (omega arith, omega arith, omega arith, omega arith, omega arith, omega arith, omega arith, all-more 33554432 _ _ _ _ (small-after 16777216 _ _ _ _ _ _ _ (c .before .before .before .before .pre .7) (c .before .before .supply .ensures .1) (c .before .before .before .before .pre .2) (omega arith) (omega arith) (omega arith)) (omega arith))
+supply-requires-2 c κs = (omega arith, omega arith, omega arith, omega arith, omega arith, omega arith, omega arith, all-more 33554432 _ _ _ _ (small-after 16777216 _ _ _ _ _ _ _ (c .before .before .before .before .pre .7) (c .before .before .supply .ensures .1) (c .before .before .before .before .pre .2) (omega arith) (omega arith) (omega arith)) (omega arith), stock-after _ _ _ _ _ (c .before .before .before .before .pre .8) (c .before .before .supply .ensures .1) (omega arith))
 
 supply-requires-3 : tie.Need-supply-requires-3
 supply-requires-3 c κs = (
@@ -26,6 +27,10 @@ supply-requires-3 c κs = (
       let b₂ = b₁ .before .before .before in
       let b₃ = b₂ .before .before in
       all-more 67108864 _ _ _ _ (small-after 33554432 _ _ _ _ _ _ _ (small-after 16777216 _ _ _ _ _ _ _ (b₃ .pre .7) (b₂ .supply .ensures .1) (b₃ .pre .2) (omega arith) (omega arith) (omega arith)) (b₁ .supply2 .ensures .1) (b₃ .pre .2) (omega arith) (omega arith) (omega arith)) (omega arith),
+  let b₁ = c .before .before in
+      let b₂ = b₁ .before .before .before in
+      let b₃ = b₂ .before .before in
+      stock-after _ _ _ _ _ (stock-after _ _ _ _ _ (b₃ .pre .8) (b₂ .supply .ensures .1) (omega arith)) (b₁ .supply2 .ensures .1) (omega arith),
 )
 
 supply-requires-4 : tie.Need-supply-requires-4
@@ -42,6 +47,11 @@ supply-requires-4 c κs = (
       let b₃ = b₂ .before .before .before in
       let b₄ = b₃ .before .before in
       all-more 134217728 _ _ _ _ (small-after 67108864 _ _ _ _ _ _ _ (small-after 33554432 _ _ _ _ _ _ _ (small-after 16777216 _ _ _ _ _ _ _ (b₄ .pre .7) (b₃ .supply .ensures .1) (b₄ .pre .2) (omega arith) (omega arith) (omega arith)) (b₂ .supply2 .ensures .1) (b₄ .pre .2) (omega arith) (omega arith) (omega arith)) (b₁ .supply3 .ensures .1) (b₄ .pre .3) (omega arith) (omega arith) (omega arith)) (omega arith),
+  let b₁ = c .before .before in
+      let b₂ = b₁ .before .before .before in
+      let b₃ = b₂ .before .before .before in
+      let b₄ = b₃ .before .before in
+      stock-after _ _ _ _ _ (stock-after _ _ _ _ _ (stock-after _ _ _ _ _ (b₄ .pre .8) (b₃ .supply .ensures .1) (omega arith)) (b₂ .supply2 .ensures .1) (omega arith)) (b₁ .supply3 .ensures .1) (omega arith),
 )
 
 supply-requires-5 : tie.Need-supply-requires-5
@@ -59,6 +69,12 @@ supply-requires-5 c κs = (
       let b₄ = b₃ .before .before .before in
       let b₅ = b₄ .before .before in
       all-more 268435456 _ _ _ _ (small-after 134217728 _ _ _ _ _ _ _ (small-after 67108864 _ _ _ _ _ _ _ (small-after 33554432 _ _ _ _ _ _ _ (small-after 16777216 _ _ _ _ _ _ _ (b₅ .pre .7) (b₄ .supply .ensures .1) (b₅ .pre .2) (omega arith) (omega arith) (omega arith)) (b₃ .supply2 .ensures .1) (b₅ .pre .2) (omega arith) (omega arith) (omega arith)) (b₂ .supply3 .ensures .1) (b₅ .pre .3) (omega arith) (omega arith) (omega arith)) (b₁ .supply4 .ensures .1) (b₅ .pre .3) (omega arith) (omega arith) (omega arith)) (omega arith),
+  let b₁ = c .before .before in
+      let b₂ = b₁ .before .before .before in
+      let b₃ = b₂ .before .before .before in
+      let b₄ = b₃ .before .before .before in
+      let b₅ = b₄ .before .before in
+      stock-after _ _ _ _ _ (stock-after _ _ _ _ _ (stock-after _ _ _ _ _ (stock-after _ _ _ _ _ (b₅ .pre .8) (b₄ .supply .ensures .1) (omega arith)) (b₃ .supply2 .ensures .1) (omega arith)) (b₂ .supply3 .ensures .1) (omega arith)) (b₁ .supply4 .ensures .1) (omega arith),
 )
 
 same-length : tie.Need-same-length

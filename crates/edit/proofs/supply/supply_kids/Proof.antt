@@ -4,14 +4,15 @@ use native.Mathlib.Omega.{arith}
 use borrow.Author.Needs.{needs}
 use Rattle.edit.proofs.Nearby.{supply-more, supply-none}
 use Rattle.edit.proofs.Small.{all-more, small-after}
+use Rattle.edit.proofs.Supplying.{stock-after}
 use Rattle.edit.proofs.supply.supply_kids.Statement.{statement}
 use Rattle.edit.proofs.supply.supply_kids.Tie as tie
 
 supply-requires : tie.Need-supply-requires
-supply-requires c κs = (omega arith, omega arith, omega arith, omega arith, omega arith, omega arith, omega arith, all-more 1048576 _ _ _ _ (c .before .pre .5) (omega arith))
+supply-requires c κs = (omega arith, omega arith, omega arith, omega arith, omega arith, omega arith, omega arith, all-more 1048576 _ _ _ _ (c .before .pre .5) (omega arith), c .before .pre .6)
 
 supply-requires-2 : tie.Need-supply-requires-2
-supply-requires-2 c κs = (omega arith, omega arith, omega arith, omega arith, omega arith, omega arith, omega arith, all-more 2097152 _ _ _ _ (small-after 1048576 _ _ _ _ _ _ _ (c .before .before .before .before .pre .5) (c .before .before .supply .ensures .1) (c .before .before .before .before .pre .2) (omega arith) (omega arith) (omega arith)) (omega arith))
+supply-requires-2 c κs = (omega arith, omega arith, omega arith, omega arith, omega arith, omega arith, omega arith, all-more 2097152 _ _ _ _ (small-after 1048576 _ _ _ _ _ _ _ (c .before .before .before .before .pre .5) (c .before .before .supply .ensures .1) (c .before .before .before .before .pre .2) (omega arith) (omega arith) (omega arith)) (omega arith), stock-after _ _ _ _ _ (c .before .before .before .before .pre .6) (c .before .before .supply .ensures .1) (omega arith))
 
 supply-requires-3 : tie.Need-supply-requires-3
 supply-requires-3 c κs = (
@@ -26,6 +27,10 @@ supply-requires-3 c κs = (
       let b₂ = b₁ .before .before .before in
       let b₃ = b₂ .before .before in
       all-more 4194304 _ _ _ _ (small-after 2097152 _ _ _ _ _ _ _ (small-after 1048576 _ _ _ _ _ _ _ (b₃ .pre .5) (b₂ .supply .ensures .1) (b₃ .pre .2) (omega arith) (omega arith) (omega arith)) (b₁ .supply2 .ensures .1) (b₃ .pre .2) (omega arith) (omega arith) (omega arith)) (omega arith),
+  let b₁ = c .before .before in
+      let b₂ = b₁ .before .before .before in
+      let b₃ = b₂ .before .before in
+      stock-after _ _ _ _ _ (stock-after _ _ _ _ _ (b₃ .pre .6) (b₂ .supply .ensures .1) (omega arith)) (b₁ .supply2 .ensures .1) (omega arith),
 )
 
 supply-requires-4 : tie.Need-supply-requires-4
@@ -42,6 +47,11 @@ supply-requires-4 c κs = (
       let b₃ = b₂ .before .before .before in
       let b₄ = b₃ .before .before in
       all-more 8388608 _ _ _ _ (small-after 4194304 _ _ _ _ _ _ _ (small-after 2097152 _ _ _ _ _ _ _ (small-after 1048576 _ _ _ _ _ _ _ (b₄ .pre .5) (b₃ .supply .ensures .1) (b₄ .pre .2) (omega arith) (omega arith) (omega arith)) (b₂ .supply2 .ensures .1) (b₄ .pre .2) (omega arith) (omega arith) (omega arith)) (b₁ .supply3 .ensures .1) (b₄ .pre .2) (omega arith) (omega arith) (omega arith)) (omega arith),
+  let b₁ = c .before .before in
+      let b₂ = b₁ .before .before .before in
+      let b₃ = b₂ .before .before .before in
+      let b₄ = b₃ .before .before in
+      stock-after _ _ _ _ _ (stock-after _ _ _ _ _ (stock-after _ _ _ _ _ (b₄ .pre .6) (b₃ .supply .ensures .1) (omega arith)) (b₂ .supply2 .ensures .1) (omega arith)) (b₁ .supply3 .ensures .1) (omega arith),
 )
 
 same-length : tie.Need-same-length

@@ -2,8 +2,10 @@
 -- Assumes nothing.
 use native.Mathlib.Omega.{arith}
 use borrow.Author.Needs.{needs}
-use Rattle.tape.proofs.Applying.{sentence-applied}
+use Rattle.editing.proofs.Lowering.{nothing}
 use Rattle.tape.proofs.Deciding.{refused-applied, sentence-decides, sentence-within}
+use Rattle.tape.proofs.Applying.{sentence-applied}
+use Rattle.tape.proofs.Stocking.{sentence-frees}
 use Rattle.tape.proofs.apply.sentence.Statement.{statement}
 use Rattle.tape.proofs.apply.sentence.Tie as tie
 
@@ -14,7 +16,7 @@ same-length : tie.Need-same-length
 same-length c = search needs
 
 returns : tie.Need-returns
-returns c = refused-applied _ _ _ _ _ _ _ (sentence-decides _ _ _ _ _ (c .before .sentence-refusal .ensures)) (c .if1 .taken) (omega arith)
+returns c = (refused-applied _ _ _ _ _ _ (sentence-decides _ _ _ _ _ (c .before .sentence-refusal .ensures)) (c .if1 .taken), nothing)
 
 sentence-at-requires : tie.Need-sentence-at-requires
 sentence-at-requires c κs = (omega (arith, sentence-within _ _ _ _ (c .before .before .sentence-refusal .ensures) (c .before .if1 .left)), c .before .before .before .before .before .pre .1 .flags _)
@@ -23,7 +25,7 @@ same-length-2 : tie.Need-same-length-2
 same-length-2 c = search needs
 
 returns-2 : tie.Need-returns-2
-returns-2 c = sentence-applied _ _ _ _ _ _ _ (c .before .before .before .before .sentence-refusal .ensures) (c .before .before .before .if1 .left) (omega arith) (c .before .sentence-at .ensures)
+returns-2 c = (sentence-applied _ _ _ _ _ _ (c .before .before .before .before .sentence-refusal .ensures) (c .before .before .before .if1 .left) (c .before .sentence-at .ensures), sentence-frees _ (c .before .sentence-at .ensures))
 
 pub sentence-spec : {M : Type 1} → statement M
 sentence-spec =

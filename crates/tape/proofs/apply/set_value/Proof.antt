@@ -2,8 +2,10 @@
 -- Assumes nothing.
 use native.Mathlib.Omega.{arith}
 use borrow.Author.Needs.{needs}
-use Rattle.tape.proofs.Applying.{set-applied}
+use Rattle.editing.proofs.Lowering.{nothing}
 use Rattle.tape.proofs.Deciding.{refused-applied, set-decides, set-within}
+use Rattle.tape.proofs.Applying.{set-applied}
+use Rattle.tape.proofs.Stocking.{measure-frees}
 use Rattle.tape.proofs.apply.set_value.Statement.{statement}
 use Rattle.tape.proofs.apply.set_value.Tie as tie
 
@@ -14,7 +16,7 @@ same-length : tie.Need-same-length
 same-length c = search needs
 
 returns : tie.Need-returns
-returns c = refused-applied _ _ _ _ _ _ _ (set-decides _ _ _ _ _ _ (c .before .set-refusal .ensures)) (c .if1 .taken) (omega arith)
+returns c = (refused-applied _ _ _ _ _ _ (set-decides _ _ _ _ _ _ (c .before .set-refusal .ensures)) (c .if1 .taken), nothing)
 
 set-at-requires : tie.Need-set-at-requires
 set-at-requires c κs = let w = set-within _ _ _ _ (c .before .before .before .set-refusal .ensures) (c .before .before .if1 .left) in (omega arith, omega arith)
@@ -26,7 +28,7 @@ same-length-3 : tie.Need-same-length-3
 same-length-3 c = search needs
 
 returns-2 : tie.Need-returns-2
-returns-2 c = set-applied _ _ _ _ _ _ _ _ _ (c .before .before .before .before .before .before .before .set-refusal .ensures) (c .before .before .before .before .before .before .if1 .left) (omega arith) (c .before .before .before .set-at .ensures .0) (c .before .before .before .set-at .ensures .1)
+returns-2 c = (set-applied _ _ _ _ _ _ _ _ (c .before .before .before .before .before .before .before .set-refusal .ensures) (c .before .before .before .before .before .before .if1 .left) (c .before .before .before .set-at .ensures .0) (c .before .before .before .set-at .ensures .1), measure-frees _ (c .before .before .before .set-at .ensures .0))
 
 pub set-value-spec : {M : Type 1} → statement M
 set-value-spec =

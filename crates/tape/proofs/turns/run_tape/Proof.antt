@@ -10,16 +10,16 @@ use Rattle.tape.proofs.turns.run_tape.Statement.{statement}
 use Rattle.tape.proofs.turns.run_tape.Tie as tie
 
 abbrev Inv-loop : tie.InvT-loop
-Inv-loop t₀ v₀ cap d mark tape at₀ done₀ low₀ m₀ t v at done low m = (length t ≡ length t₀) × (length v ≡ length v₀) × Ongoing tape cap d mark t₀ v₀ t v at done low m
+Inv-loop t₀ v₀ cap d mark tape at₀ done₀ m₀ stock₀ t v at done m stock = (length t ≡ length t₀) × (length v ≡ length v₀) × Ongoing tape cap d mark t₀ v₀ t v stock at done m
 
 abbrev μ-loop : tie.MeasureT-loop
-μ-loop t₀ v₀ cap d mark tape at₀ done₀ low₀ m₀ t v at done low m = length tape - at
+μ-loop t₀ v₀ cap d mark tape at₀ done₀ m₀ stock₀ t v at done m stock = length tape - at
 
 loop-holds : tie.Need-loop-holds Inv-loop μ-loop
-loop-holds c = (refl, refl, starts _ _ _ _ _ _)
+loop-holds c = (refl, refl, starts _ _ _ _ _ _ (c .before .before .pre))
 
 turn-at-requires : tie.Need-turn-at-requires Inv-loop μ-loop
-turn-at-requires c κs = let (x, y) = asked-for _ _ _ _ _ _ (c .before .before .before .loop .inv .2) (c .before .before .before .before .before .before .pre) in (x, y, c .before .before .loop-test .taken)
+turn-at-requires c κs = let (x, y) = asked-for _ _ _ _ _ _ (c .before .before .before .before .loop .inv .2) (c .before .before .before .before .before .before .before .pre) in (x, y, c .before .before .before .before .loop .inv .2 .stocked, c .before .before .before .loop-test .taken)
 
 same-length : tie.Need-same-length Inv-loop μ-loop
 same-length c = omega arith
@@ -28,19 +28,19 @@ same-length-2 : tie.Need-same-length-2 Inv-loop μ-loop
 same-length-2 c = omega arith
 
 returns : tie.Need-returns Inv-loop μ-loop
-returns c = ran-stopped _ _ _ _ _ _ (c .before .before .before .before .before .before .before .before .before .loop .inv .2) (c .before .before .before .before .before .turn-at .ensures) (c .if1 .taken)
+returns c = ran-stopped _ _ _ _ _ _ (c .before .before .before .before .before .before .before .before .before .before .loop .inv .2) (c .before .before .before .before .before .turn-at .ensures .0) (c .if1 .taken)
 
 add-done : tie.Need-add-done Inv-loop μ-loop
-add-done c = omega (arith, c .before .before .before .before .before .before .before .before .before .loop .inv .2 .few)
+add-done c = omega (arith, c .before .before .before .before .before .before .before .before .before .before .loop .inv .2 .few)
 
 wrapping-add-u16-requires : tie.Need-wrapping-add-u16-requires Inv-loop μ-loop
 wrapping-add-u16-requires c κs = search needs
 
 loop-less : tie.Need-loop-less Inv-loop μ-loop
-loop-less c = let f = c .before .before .before .before .before .before .turn-at .ensures .further (c .before .if1 .left) in omega arith
+loop-less c = let f = c .before .before .before .before .before .before .turn-at .ensures .0 .further (c .before .if1 .left) in omega arith
 
 loop-again : tie.Need-loop-again Inv-loop μ-loop
-loop-again c = (omega arith, omega arith, goes-next _ _ _ _ _ _ (c .before .before .before .before .before .before .before .before .before .before .loop .inv .2) (c .before .before .before .before .before .before .turn-at .ensures) (c .before .if1 .left) (c .wrapping-add-u16 .ensures))
+loop-again c = (omega arith, omega arith, goes-next _ _ _ _ _ _ (c .before .before .before .before .before .before .before .before .before .before .before .loop .inv .2) (c .before .before .before .before .before .before .turn-at .ensures .0) (c .before .before .before .before .before .before .turn-at .ensures .1) (c .before .if1 .left) (c .wrapping-add-u16 .ensures))
 
 same-length-3 : tie.Need-same-length-3 Inv-loop μ-loop
 same-length-3 c = omega arith

@@ -1,8 +1,8 @@
 -- `tape::turns::turn_at` meets its contract: an unknown kind, a short body, or the request that the bytes ask for.
 -- Assumes nothing.
 use native.Mathlib.Omega.{arith}
-use mathlib.Core.Path.{refl}
 use borrow.Author.Needs.{needs}
+use mathlib.Core.Path.{refl}
 use Rattle.tape.proofs.Bodies.{body-range}
 use Rattle.tape.proofs.Turning.{turned-unknown, turned-short, turned-request}
 use Rattle.tape.proofs.turns.turn_at.Statement.{statement}
@@ -15,13 +15,13 @@ body-length-requires : tie.Need-body-length-requires
 body-length-requires c κs = search needs
 
 returns : tie.Need-returns
-returns c = turned-unknown _ _ _ (omega arith) refl _ _ _ _ _ (omega arith) (c .before .body-length .ensures) (c .if1 .taken)
+returns c = (turned-unknown _ _ _ (omega arith) refl _ _ _ _ (c .before .body-length .ensures) (c .if1 .taken), c .before .before .before .before .before .pre .2)
 
 sub-if2 : tie.Need-sub-if2
 sub-if2 c = search needs
 
 returns-2 : tie.Need-returns-2
-returns-2 c = turned-short _ _ _ (omega arith) refl _ _ _ _ _ (omega arith) (c .before .before .body-length .ensures) (c .before .if1 .left) (c .if2 .taken)
+returns-2 c = (turned-short _ _ _ (omega arith) refl _ _ _ _ (c .before .before .body-length .ensures) (c .before .if1 .left) (c .if2 .taken), c .before .before .before .before .before .before .pre .2)
 
 add-high-first : tie.Need-add-high-first
 add-high-first c = search needs
@@ -39,7 +39,7 @@ high-first-requires-2 : tie.Need-high-first-requires-2
 high-first-requires-2 c κs = let r = body-range _ (c .before .before .before .body-length .ensures) (c .before .before .if1 .left) in (omega arith, omega arith)
 
 request-requires : tie.Need-request-requires
-request-requires c κs = let r = body-range _ (c .before .before .before .before .before .before .body-length .ensures) (c .before .before .before .before .before .if1 .left) in (c .before .before .before .before .before .before .before .before .before .before .pre .0, c .before .before .before .before .before .before .before .before .before .before .pre .1, r .2, r .3)
+request-requires c κs = let r = body-range _ (c .before .before .before .before .before .before .before .body-length .ensures) (c .before .before .before .before .before .before .if1 .left) in (c .before .before .before .before .before .before .before .before .before .before .before .pre .0, c .before .before .before .before .before .before .before .before .before .before .before .pre .1, c .before .before .before .before .before .before .before .before .before .before .before .pre .2, r .2, r .3)
 
 add-t17 : tie.Need-add-t17
 add-t17 c = search needs
@@ -54,7 +54,7 @@ same-length-2 : tie.Need-same-length-2
 same-length-2 c = search needs
 
 returns-3 : tie.Need-returns-3
-returns-3 c = turned-request _ _ _ (omega arith) refl (c .before .before .before .before .before .before .before .before .before .before .body-length .ensures) (c .before .before .before .before .before .before .before .before .before .if1 .left) (c .before .before .before .before .before .before .before .before .if2 .left) (c .before .before .before .before .before .before .before .high-first .ensures) (c .before .before .before .before .before .before .high-first2 .ensures) (c .before .before .before .request .ensures)
+returns-3 c = (turned-request _ _ _ (omega arith) refl (c .before .before .before .before .before .before .before .before .before .before .before .body-length .ensures) (c .before .before .before .before .before .before .before .before .before .before .if1 .left) (c .before .before .before .before .before .before .before .before .before .if2 .left) (c .before .before .before .before .before .before .before .before .high-first .ensures) (c .before .before .before .before .before .before .before .high-first2 .ensures) (c .before .before .before .request .ensures .0), c .before .before .before .request .ensures .1)
 
 pub turn-at-spec : {M : Type 1} → statement M
 turn-at-spec =

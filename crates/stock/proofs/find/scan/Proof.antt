@@ -1,13 +1,13 @@
--- `edit::supply::next_free` meets its contract. The invariant: the search from low is the search from k.
+-- `stock::find::scan` meets its contract. The invariant: the search from low is the search from k.
 -- Assumes nothing.
 use Prim.Native.Nat.{_+_, _-_, _≤_}
 use native.Mathlib.Omega.{arith}
 use mathlib.Core.Path.{_≡_, refl, sym, _∙_}
 use borrow.Author.Needs.{needs}
-use Rattle.editing.specs.Tables.{freeFrom}
-use Rattle.edit.proofs.Supplying.{free-on, free-here, free-none}
-use Rattle.edit.proofs.supply.next_free.Statement.{statement}
-use Rattle.edit.proofs.supply.next_free.Tie as tie
+use Rattle.stock.specs.Free.{freeFrom}
+use Rattle.stock.proofs.Searching.{free-on, free-here, free-none}
+use Rattle.stock.proofs.find.scan.Statement.{statement}
+use Rattle.stock.proofs.find.scan.Tie as tie
 
 abbrev Inv-loop : tie.InvT-loop
 Inv-loop t cap low k₀ k = (k ≤ cap + 1) × (freeFrom t (cap + 1 - low) low ≡ freeFrom t (cap + 1 - k) k)
@@ -36,8 +36,8 @@ loop-again c = (omega arith, c .before .before .before .loop .inv .1 ∙ free-on
 returns-2 : tie.Need-returns-2 Inv-loop μ-loop
 returns-2 c = (omega arith, sym (c .before .loop .inv .1 ∙ free-none _ _ (c .before .loop .k) (omega arith)))
 
-pub next-free-spec : {M : Type 1} → statement M
-next-free-spec =
+pub scan-spec : {M : Type 1} → statement M
+scan-spec =
     tie.close
     (tie.spec
     Inv-loop

@@ -1,0 +1,4 @@
+-- What the stock of free numbers is after each of its steps.
+pub mod Searching
+pub mod Filling
+pub mod Keeping

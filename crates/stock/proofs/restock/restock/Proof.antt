@@ -1,0 +1,45 @@
+-- `stock::restock::restock` meets its contract.
+-- Assumes nothing.
+use native.Mathlib.Omega.{arith}
+use mathlib.Core.Path.{sym}
+use borrow.Author.Needs.{needs}
+use Rattle.stock.proofs.Filling.{filling-bound, padded-stock}
+use Rattle.stock.proofs.restock.restock.Statement.{statement}
+use Rattle.stock.proofs.restock.restock.Tie as tie
+
+element-copy-out-wide : tie.Need-element-copy-out-wide
+element-copy-out-wide c = search needs
+
+wide-requires : tie.Need-wide-requires
+wide-requires c κs = search needs
+
+leave-taken-requires : tie.Need-leave-taken-requires
+leave-taken-requires c κs = search needs
+
+find-more-requires : tie.Need-find-more-requires
+find-more-requires c κs =
+    let h = c .before .before .before .before .before .pre .2 in
+    let b = h .bounded in
+    let e = c .before .before .before .wide .ensures in
+    (omega arith, omega arith, omega arith, h .nil, filling-bound (sym e) (c .before .leave-taken .ensures))
+
+cast-pad : tie.Need-cast-pad
+cast-pad c = search needs
+
+pad-requires : tie.Need-pad-requires
+pad-requires c κs = search needs
+
+returns : tie.Need-returns
+returns c = padded-stock (c .before .before .before .before .before .before .before .before .before .pre .2 .nil) (c .before .before .before .find-more .ensures .0) (c .before .before .before .find-more .ensures .1) (c .pad .ensures)
+
+pub restock-spec : {M : Type 1} → statement M
+restock-spec =
+    tie.close
+    (tie.spec
+    element-copy-out-wide
+    wide-requires
+    leave-taken-requires
+    find-more-requires
+    cast-pad
+    pad-requires
+    returns)

@@ -1,0 +1,68 @@
+// The next free number: among those in stock first, and from their bound on row by row.
+ghost use mathlib.Core.Path.{_≡_};
+ghost use mathlib.Core.List.{[]};
+ghost use Prim.Native.Nat.{_+_, _-_, _*_, _<_, _≤_};
+ghost use lib.ListN.{length};
+ghost use Rattle.mesh.specs.Picture.{rowWords};
+ghost use Rattle.stock.specs.Free.{freeFrom};
+ghost use Rattle.stock.specs.Stock.{Stocked, Suits};
+use table::words::is_vacant;
+
+// A number of a stock.
+pub fn wide(x: u16) -> usize
+    ensures { λ r. ⌜ r ≡ x ⌝ }
+{
+    x as usize
+}
+
+// The smallest free number from low on, or 0 if there is none, row by row.
+pub fn scan(t: &[i32], cap: usize, low: usize) -> usize
+    requires { ⌜ (cap * rowWords + rowWords ≤ length (now t)) × (cap ≤ 4095) × (low ≤ cap + 1) ⌝ }
+    ensures { λ r. ⌜ (r ≤ cap) × (r ≡ freeFrom (now (t .entry)) (cap + 1 - low) low) ⌝ }
+{
+    let mut k = low;
+    while k <= cap {
+        if is_vacant(t, k) {
+            return k;
+        }
+        k += 1;
+    }
+    0
+}
+
+// Whether k is free, from low on and below the bound.
+fn suits(t: &[i32], cap: usize, low: usize, bound: usize, k: usize) -> bool
+    requires { ⌜ (cap * rowWords + rowWords ≤ length (now t)) × (cap ≤ 4095) × (bound ≤ cap + 1) ⌝ }
+    ensures { λ r. ⌜ Suits (now (t .entry)) low bound k r ⌝ }
+{
+    if k < low {
+        return false;
+    }
+    if bound <= k {
+        return false;
+    }
+    is_vacant(t, k)
+}
+
+fn greater(a: usize, b: usize) -> usize
+    ensures { λ r. ⌜ r ≡ a + (b - a) ⌝ }
+{
+    if a < b { b } else { a }
+}
+
+// The smallest free number from low on, or 0 if there is none.
+pub fn next_free(t: &[i32], cap: usize, low: usize, stock: &[u16; 24]) -> usize
+    requires { ⌜ (cap * rowWords + rowWords ≤ length (now t)) × (cap ≤ 4095) × (low ≤ cap + 1) × Stocked cap (now t) [] (now stock) ⌝ }
+    ensures { λ r. ⌜ (r ≤ cap) × (r ≡ freeFrom (now (t .entry)) (cap + 1 - low) low) ⌝ }
+{
+    let bound = wide(stock[23]);
+    let mut i = 0;
+    while i < 23 {
+        let k = wide(stock[i]);
+        if suits(t, cap, low, bound, k) {
+            return k;
+        }
+        i += 1;
+    }
+    scan(t, cap, greater(low, bound))
+}

@@ -1,0 +1,4 @@
+// Free numbers, kept along a tape.
+pub mod find;
+pub mod keep;
+pub mod restock;
