@@ -2,7 +2,7 @@
 -- Assumes nothing.
 use Prim.Native.Nat.{ℕ, suc, _+_, _-_, _*_, _/_, _≤_, _<_}
 use native.Mathlib.Omega.{arith}
-use mathlib.Core.Path.{_≡_, refl, sym, ap, _∙_, subst}
+use mathlib.Core.Path.{_≡_, sym, ap, _∙_, subst}
 use mathlib.Core.Bool.{Bool, true, false, not}
 use mathlib.Core.List.{List, _∷_}
 use lib.IntN.{ℤ}
@@ -14,7 +14,7 @@ use Rattle.edit.specs.Small.{Small}
 use Rattle.editing.specs.Built.{Growth, inFull, grow, growKids, growLevel, growLevels, groundFrom}
 use Rattle.editing.proofs.Sprouts.{Able, KidsToGrow, LevelToGrow, LevelsToGrow, kid-able, kids-rest, level-kids, level-rest, levels-level, levels-rest, levels-bounds}
 use Rattle.build.specs.Steps.{growth, inTurn, Reached}
-use Rattle.build.proofs.Turns.{turn-on, turn-done, not-so, just-so}
+use Rattle.build.proofs.Turns.{not-so, just-so}
 
 module _ (g : Grid) (cap d : ℕ) where
   -- ---- one kid
@@ -57,20 +57,6 @@ module _ (g : Grid) (cap d : ℕ) (ground : d ≡ base g) where
   -- ---- rows
 
   module _ (up : ℕ) where
-    level-none : (p : ℕ) (r : Growth) → growLevel g cap d up 0 p r ≡ r
-    unfolding growLevel
-    level-none p r = refl
-
-    level-one : (n p : ℕ) (r : Growth) → growLevel g cap d up (suc n) p r ≡ growLevel g cap d up n (p + 1) (growKids g cap d up p r)
-    unfolding growLevel
-    level-one n p r = refl
-
-    pub level-on : (n b : ℕ) (r u : Growth) → n < b → u ≡ growKids g cap d up n r → growLevel g cap d up (b - n) n r ≡ growLevel g cap d up (b - (n + 1)) (n + 1) u
-    level-on = turn-on (growLevel g cap d up) (growKids g cap d up) level-none level-one
-
-    pub level-done : (n b : ℕ) (r : Growth) → b ≤ n → growLevel g cap d up (b - n) n r ≡ r
-    level-done = turn-done (growLevel g cap d up) (growKids g cap d up) level-none level-one
-
     pub row-kids : (n b : ℕ) (r : Growth) → n < b → LevelToGrow g cap up (b - n) n r → KidsToGrow g cap up n inTurn r
     row-kids n b r h k =
         let m : b - n ≡ suc (b - (n + 1)) = omega arith in

@@ -4,17 +4,20 @@ use Prim.Native.Nat.{ℕ, suc, _+_, _-_, _≤_, _<_}
 use native.Mathlib.Omega.{arith}
 use mathlib.Core.Path.{_≡_, refl, sym, ap, _∙_}
 use mathlib.Core.Bool.{Bool, true, false, not}
+use Rattle.editing.specs.Built.{eachRow}
 
-module _ {A : Type 0} (all : ℕ → ℕ → A → A) (step : ℕ → A → A) (none-left : (p : ℕ) (a : A) → all 0 p a ≡ a) (one-more : (n p : ℕ) (a : A) → all (suc n) p a ≡ all n (p + 1) (step p a)) where
-  pub turn-on : (n b : ℕ) (a u : A) → n < b → u ≡ step n a → all (b - n) n a ≡ all (b - (n + 1)) (n + 1) u
-  turn-on n b a u h e =
+module _ {A : Type 0} (step : A → ℕ → A) where
+  pub rows-on : (n b : ℕ) (a u : A) → n < b → u ≡ step a n → eachRow step (b - n) n a ≡ eachRow step (b - (n + 1)) (n + 1) u
+  unfolding eachRow
+  rows-on n b a u h e =
       let m : b - n ≡ suc (b - (n + 1)) = omega arith in
-      ap (λ (k : ℕ). all k n a) m ∙ one-more (b - (n + 1)) n a ∙ ap (all (b - (n + 1)) (n + 1)) (sym e)
+      ap (λ (k : ℕ). eachRow step k n a) m ∙ ap (eachRow step (b - (n + 1)) (n + 1)) (sym e)
 
-  pub turn-done : (n b : ℕ) (a : A) → b ≤ n → all (b - n) n a ≡ a
-  turn-done n b a h =
+  pub rows-done : (n b : ℕ) (a : A) → b ≤ n → eachRow step (b - n) n a ≡ a
+  unfolding eachRow
+  rows-done n b a h =
       let m : b - n ≡ 0 = omega arith in
-      ap (λ (k : ℕ). all k n a) m ∙ none-left n a
+      ap (λ (k : ℕ). eachRow step k n a) m
 
 -- ---- a test that is turned round
 

@@ -12,10 +12,13 @@ use Rattle.mesh.specs.State.{plusZero}
 use Rattle.mesh.specs.Build.{numbered}
 use Rattle.geometry.proofs.Base.{Rectangle, base-range}
 use Rattle.numbering.proofs.Building.{built-in-use}
-use Rattle.editing.specs.Built.{Growth, rootTable, growLevels, groundFrom, putGround, refreshRows, start, buildTable}
-use Rattle.editing.proofs.Building.{build-table, build-next}
+use Rattle.editing.specs.Anew.{wallRow, markRow}
+use Rattle.editing.specs.Built.{Growth, eachRow, rootTable, growLevels, groundFrom, groundRow, start, groundTable, buildTable}
+use Rattle.editing.proofs.Building.{build-table, build-next, ground-linked}
 use Rattle.editing.proofs.Sprouts.{LevelsToGrow, levels-start}
 use Rattle.editing.proofs.Blank.{built-amounts}
+use Rattle.edit.specs.Plain.{Plain}
+use Rattle.edit.proofs.PlainRows.{linked-plain}
 use Rattle.build.specs.Steps.{growth, Reached, Made}
 
 module _ (g : Grid) (cap d : ℕ) (ground : d ≡ base g) (in-range : Rectangle g) (low : 5 ≤ cap) (high : cap ≤ 4095) (fits : length (numbered g) ≤ cap) where
@@ -31,8 +34,7 @@ module _ (g : Grid) (cap d : ℕ) (ground : d ≡ base g) (in-range : Rectangle 
   all-levels t e =
       subst (λ (x : Growth). LevelsToGrow g cap d 1 x) (sym (started t e)) (subst (λ (x : ℕ). LevelsToGrow g cap x 1 (start g cap x)) (sym ground) (levels-start g cap in-range (omega arith) high fits))
 
-  module _ (t u x y : List ℤ) (v : List Float) (a k : ℕ) (root-is : t ≡ rootTable cap d) (reached : Reached g cap d (growth t 2) (growth u k) a)
-      (cells : x ≡ putGround g cap d (k - a) a u) (flagged : y ≡ refreshRows g cap d (k - a) a x) (blank : v ≡ replicate (cap + 1) plusZero) where
+  module _ (t u x : List ℤ) (a k : ℕ) (root-is : t ≡ rootTable cap d) (reached : Reached g cap d (growth t 2) (growth u k) a) (cells : x ≡ eachRow (groundRow g) (k - a) a u) where
     abbrev end : Growth
     end = growLevels g cap d d 1 (start g cap d)
 
@@ -51,16 +53,30 @@ module _ (g : Grid) (cap d : ℕ) (ground : d ≡ base g) (in-range : Rectangle 
     next-is : k ≡ end .next
     next-is = ap (λ (r : Growth). r .next) end-is
 
-    whole : y ≡ buildTable g cap d
-    unfolding buildTable
-    whole = flagged ∙ rw (cells, words-is, next-is, from-is)
+    -- ---- the cells of level 0
 
-    pub made : Made g cap y v (k - 1)
-    made = record {
-      words-are = whole ∙ ap (buildTable g cap) ground ∙ build-table g cap in-range low high fits;
-      values-are = blank ∙ sym (built-amounts g cap fits);
-      in-use-is =
-          let e : k ≡ length (numbered g) + 1 = next-is ∙ subst (λ (x : ℕ). growLevels g cap x x 1 (start g cap x) .next ≡ length (numbered g) + 1) (sym ground) (build-next g cap in-range low high fits) in
-          let n : k - 1 ≡ length (numbered g) = omega arith in
-          n ∙ sym (built-in-use g cap);
-    }
+    ground-is : x ≡ groundTable g cap d
+    unfolding groundTable
+    ground-is = cells ∙ rw (words-is, next-is, from-is)
+
+    pub ground-plain : Plain x cap
+    ground-plain =
+        let l = ground-linked g cap in-range low high fits in
+        subst (λ (y : List ℤ). Plain y cap) (sym (ground-is ∙ ap (groundTable g cap) ground ∙ l .is-linked)) (linked-plain (l .rooted) (l .flags) (λ p. omega (arith, l .small p)))
+
+    -- ---- and its flags
+
+    module _ (y z : List ℤ) (v : List Float) (walled : y ≡ eachRow (wallRow cap d) (k - a) a x) (marked : z ≡ eachRow (markRow cap) (k - a) a y) (blank : v ≡ replicate (cap + 1) plusZero) where
+      whole : z ≡ buildTable g cap d
+      unfolding buildTable
+      whole = marked ∙ rw (walled, ground-is, next-is, from-is)
+
+      pub made : Made g cap z v (k - 1)
+      made = record {
+        words-are = whole ∙ ap (buildTable g cap) ground ∙ build-table g cap in-range low high fits;
+        values-are = blank ∙ sym (built-amounts g cap fits);
+        in-use-is =
+            let e : k ≡ length (numbered g) + 1 = next-is ∙ subst (λ (x : ℕ). growLevels g cap x x 1 (start g cap x) .next ≡ length (numbered g) + 1) (sym ground) (build-next g cap in-range low high fits) in
+            let n : k - 1 ≡ length (numbered g) = omega arith in
+            n ∙ sym (built-in-use g cap);
+      }

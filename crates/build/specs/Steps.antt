@@ -1,18 +1,14 @@
--- A table with the next number, the two numbers at the end of the levels, and the step for one row of level 0.
+-- A table with the next number, the two numbers at the end of the levels, and what a build leaves.
 -- Assumes nothing.
 use Prim.Native.Nat.{ℕ, _+_, _≤_}
 use mathlib.Core.Path.{_≡_}
-use mathlib.Core.Bool.{_&&_, cond}
 use mathlib.Core.List.{List, [], _∷_}
-use lib.Dec.{ltb}
 use lib.Ieee.{Float}
 use lib.IntN.{ℤ}
 use Rattle.mesh.specs.Place.{Grid, Wind, NE, SE, SW, NW}
 use Rattle.mesh.specs.State.{inUse}
 use Rattle.mesh.specs.Picture.{table, amounts}
 use Rattle.mesh.specs.Build.{built}
-use Rattle.table.specs.Words.{wordOf}
-use Rattle.editing.specs.Steps.{putWord}
 use Rattle.editing.specs.Built.{Growth, growLevels, groundFrom}
 
 abbrev pub growth : List ℤ → ℕ → Growth
@@ -21,10 +17,6 @@ growth t k = record { words = t; next = k }
 -- "kids in the order SW, NW, SE, NE"
 abbrev pub inTurn : List Wind
 inTurn = SW ∷ NW ∷ SE ∷ NE ∷ []
-
--- the row p is a cell, if the rectangle has it
-abbrev pub groundRow : Grid → ℕ → List ℤ → List ℤ
-groundRow g p t = cond (ltb (wordOf t p 10) (g .columns) && ltb (wordOf t p 11) (g .rows)) (putWord t p 12 1) t
 
 -- all levels from the root on, and where the last of them begins
 pub record Reached (g : Grid) (cap d : ℕ) (r u : Growth) (ground : ℕ) : Type 0 where

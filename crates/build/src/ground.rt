@@ -4,16 +4,18 @@ ghost use Prim.Native.Nat.{_+_, _-_, _*_, _≤_};
 ghost use lib.ListN.{length};
 ghost use Rattle.mesh.specs.Place.{rectangle};
 ghost use Rattle.mesh.specs.Picture.{rowWords};
-ghost use Rattle.editing.specs.Built.{putGround, refreshRows};
-ghost use Rattle.build.specs.Steps.{groundRow};
-use edit::anew::refresh;
+ghost use Rattle.editing.specs.Anew.{wallRow, markRow};
+ghost use Rattle.editing.specs.Built.{eachRow, groundRow};
+ghost use Rattle.edit.specs.Plain.{Plain};
+use edit::anew::mark_row;
+use edit::anew::wall_row;
 use table::words::word;
 use table::writes::put;
 
 // The row n is a cell, if the rectangle has it.
 fn put_cell(t: &mut [i32], columns: u32, rows: u32, n: usize)
     requires { ⌜ n * rowWords + rowWords ≤ length (now t) ⌝ }
-    ensures { λ _. ⌜ now (t .exit) ≡ groundRow (rectangle columns rows) n (now (t .entry)) ⌝ }
+    ensures { λ _. ⌜ now (t .exit) ≡ groundRow (rectangle columns rows) (now (t .entry)) n ⌝ }
 {
     let i = word(t, n, 10);
     let j = word(t, n, 11);
@@ -25,9 +27,9 @@ fn put_cell(t: &mut [i32], columns: u32, rows: u32, n: usize)
 }
 
 // The rows from a up to b that the rectangle has are cells.
-pub fn put_ground(t: &mut [i32], cap: usize, columns: u32, rows: u32, d: u32, a: usize, b: usize)
-    requires { ⌜ (cap * rowWords + rowWords ≤ length (now t)) × (cap ≤ 4095) × (d ≤ 32) × (a ≤ b) × (b ≤ cap + 1) ⌝ }
-    ensures { λ _. ⌜ now (t .exit) ≡ putGround (rectangle columns rows) cap d (b - a) a (now (t .entry)) ⌝ }
+pub fn put_ground(t: &mut [i32], columns: u32, rows: u32, a: usize, b: usize)
+    requires { ⌜ (b * rowWords ≤ length (now t)) × (a ≤ b) ⌝ }
+    ensures { λ _. ⌜ now (t .exit) ≡ eachRow (groundRow (rectangle columns rows)) (b - a) a (now (t .entry)) ⌝ }
 {
     let mut n = a;
     while n < b {
@@ -36,14 +38,26 @@ pub fn put_ground(t: &mut [i32], cap: usize, columns: u32, rows: u32, d: u32, a:
     }
 }
 
-// The rows from a up to b have their flags anew.
-pub fn refresh_rows(t: &mut [i32], cap: usize, columns: u32, rows: u32, d: u32, a: usize, b: usize)
-    requires { ⌜ (cap * rowWords + rowWords ≤ length (now t)) × (cap ≤ 4095) × (d ≤ 32) × (a ≤ b) × (b ≤ cap + 1) ⌝ }
-    ensures { λ _. ⌜ now (t .exit) ≡ refreshRows (rectangle columns rows) cap d (b - a) a (now (t .entry)) ⌝ }
+// The rows from a up to b have their walls.
+pub fn wall_rows(t: &mut [i32], cap: usize, d: u32, a: usize, b: usize)
+    requires { ⌜ (cap * rowWords + rowWords ≤ length (now t)) × (cap ≤ 4095) × (d ≤ 32) × (a ≤ b) × (b ≤ cap + 1) × Plain (now t) cap ⌝ }
+    ensures { λ _. ⌜ (now (t .exit) ≡ eachRow (wallRow cap d) (b - a) a (now (t .entry))) × Plain (now (t .exit)) cap ⌝ }
 {
     let mut n = a;
     while n < b {
-        refresh(t, cap, d, n);
+        wall_row(t, cap, d, n);
+        n += 1;
+    }
+}
+
+// And then their points and their cells.
+pub fn mark_rows(t: &mut [i32], cap: usize, a: usize, b: usize)
+    requires { ⌜ (cap * rowWords + rowWords ≤ length (now t)) × (cap ≤ 4095) × (a ≤ b) × (b ≤ cap + 1) × Plain (now t) cap ⌝ }
+    ensures { λ _. ⌜ now (t .exit) ≡ eachRow (markRow cap) (b - a) a (now (t .entry)) ⌝ }
+{
+    let mut n = a;
+    while n < b {
+        mark_row(t, cap, n);
         n += 1;
     }
 }

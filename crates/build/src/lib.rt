@@ -22,8 +22,9 @@ pub fn build_table(t: &mut [i32], v: &mut [f64], cap: usize, columns: u32, rows:
     let r = grow::grow_levels(t, cap, columns, rows, d);
     let a = r.ground;
     let b = r.next;
-    ground::put_ground(t, cap, columns, rows, d, a, b);
-    ground::refresh_rows(t, cap, columns, rows, d, a, b);
+    ground::put_ground(t, columns, rows, a, b);
+    ground::wall_rows(t, cap, d, a, b);
+    ground::mark_rows(t, cap, a, b);
     fill::blank_values(v, cap);
     b - 1
 }

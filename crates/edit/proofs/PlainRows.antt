@@ -1,6 +1,6 @@
 -- Links that name rows or none and flags without a sign stay so: a step writes numbers of rows and 0 as links, and flags below 2 ^ 31.
 -- Assumes nothing.
-use mathlib.Core.Path.{_≡_, refl}
+use mathlib.Core.Path.{_≡_, refl, ap}
 use mathlib.Core.Logic.{_≢_}
 use mathlib.Core.Bool.{Bool, true, false, _||_, cond}
 use mathlib.Core.Option.{none}
@@ -11,21 +11,24 @@ use native.Mathlib.Decide.{ℕ-discrete}
 use lib.Dec.{eqb}
 use lib.ListN.{length, getD, set}
 use lib.IntN.{ℤ, pos, subℕ}
-use Rattle.mesh.specs.Place.{Wind, N, E, S, W, compass, around}
+use Rattle.mesh.specs.Place.{Place, Grid, Wind, N, E, S, W, compass, around}
 use Rattle.mesh.specs.Winds.{wordOfWind}
 use Rattle.mesh.specs.Picture.{rowWords, table}
-use Rattle.mesh.specs.State.{State, placeOf, entry, gridOf, capacity}
+use Rattle.mesh.specs.State.{State, Entry, nil, free, used, placeOf, entry, gridOf, capacity}
 use Rattle.table.specs.Words.{code, wordOf, linkOf, depthOf}
 use Rattle.table.specs.Worked.{kidWord, sideOf}
 use Rattle.table.specs.Writes.{putRow, freeRow}
 use Rattle.table.proofs.Links.{link-within}
 use Rattle.pictures.proofs.Linked.{kid-word-lt}
-use Rattle.pictures.proofs.Pictured.{word-link, number-le}
+use Rattle.pictures.proofs.Pictured as pictured
 use Rattle.editing.specs.Steps.{putWord, putUnlessNil, linkSide, placeIn, linkIn, dropSide, takeOut}
 use Rattle.stock.specs.Free.{freeFrom}
 use Rattle.editing.specs.Tables.{Spot, Lending, kidAt, supplied, suppliedAll, putCells, touchedRow, dropAt}
+use Rattle.editing.specs.Linked.{Flags, tableWith}
 use Rattle.editing.proofs.Spots.{put-same, put-other}
 use Rattle.editing.proofs.Written.{word-other, word-either, wind-word}
+use Rattle.editing.proofs.Linked.{number-of, flags-of, word-free, word-nil}
+use Rattle.editing.proofs.Rooted.{Rooted, number-le}
 use Rattle.editing.proofs.Lengths.{length-unnamed, length-takeOut}
 use Rattle.editing.proofs.Freeing.{free-link}
 use Rattle.edit.specs.Plain.{Plain}
@@ -169,7 +172,19 @@ module _ (cap d : ℕ) where
       one true = (p, fits)
       one false = (plain-out p (kidAt t cap x) (link-within t cap _ _) fits, omega (arith, length-takeOut t cap fits (kidAt t cap x) (link-within t cap _ _)))
 
--- ---- a picture
+-- ---- a linked table, and a picture
+
+pub linked-plain : {g : Grid} {cap : ℕ} {es : List Entry} → Rooted g cap es → (f : Flags) → ((p : Place) → f p < 2147483648) → Plain (tableWith g es f) cap
+unfolding wordOf
+linked-plain {g} {cap} {es} r f small = record {
+  links = λ n w h l. rw (number-of g es f n w l) (number-le r (getD (around g (placeOf (entry es n))) w none));
+  flags = λ n h. flag n (entry es n) refl;
+}
+  where
+    flag : (n : ℕ) (e : Entry) → entry es n ≡ e → wordOf (tableWith g es f) n 12 < 2147483648
+    flag n nil i = rw (word-nil g es f n 12 (omega arith) i) (omega arith)
+    flag n free i = rw (word-free g es f n 12 (omega arith) i) (omega arith)
+    flag n (used p x) i = rw (flags-of g es f n p (ap placeOf i)) (small p)
 
 pub picture-links : (s : State) (n w : ℕ) → w < 9 → wordOf (table s) n w ≤ capacity s
-picture-links s n w h = rw (word-link s n w h) (number-le s (getD (around (gridOf s) (placeOf (entry (s .entries) n))) w none))
+picture-links s n w h = rw (pictured.word-link s n w h) (pictured.number-le s (getD (around (gridOf s) (placeOf (entry (s .entries) n))) w none))

@@ -19,7 +19,7 @@ use Rattle.geometry.proofs.Distinct.{Distinct, append-distinct}
 use Rattle.geometry.proofs.Digits.{kidBy}
 use Rattle.geometry.proofs.Base.{Rectangle}
 use Rattle.numbering.proofs.Levels.{Patches, next-level}
-use Rattle.editing.specs.Built.{Growth, grow, growKids, growLevel, growLevels, groundFrom}
+use Rattle.editing.specs.Built.{Growth, eachRow, grow, growKids, growLevel, growLevels, groundFrom}
 use Rattle.editing.proofs.Growing.{bare, Grown, bare-longer, InTurn, turn-longer, last-in-turn, grow-one}
 
 -- what is to grow has room, and none of it stands yet
@@ -89,7 +89,7 @@ module _ (g : Grid) (cap : ℕ) (in-range : Rectangle g) where
 
   pub grow-level : (up : ℕ) (qs ps : List Place) (p : ℕ) (r : Growth) → ((q : Place) → In q qs → q .depth + suc up ≡ base g) → Grown g cap ps r → InTurn (bare cap ps) p qs
       → Room cap (ps ++ nextLevel g qs) → Grown g cap (ps ++ nextLevel g qs) (growLevel g cap (base g) up (length qs) p r)
-  unfolding growLevel nextLevel
+  unfolding eachRow nextLevel
   grow-level up [] ps p r deep s turn room = rw append-nil s
   grow-level up (q ∷ qs) ps p r deep s (h, t) room =
       let (all, one) = room-brood g cap q qs ps room in

@@ -4,19 +4,20 @@
 use Prim.Native.Nat.{ℕ, suc, _+_, _-_, _≤_, _<_}
 use native.Mathlib.Omega.{arith}
 use native.Mathlib.Decide.{decLt}
-use mathlib.Core.Path.{_≡_, refl, sym, ap, _∙_, fun-ext}
+use mathlib.Core.Path.{_≡_, refl, sym, ap, _∙_, subst, fun-ext}
 use mathlib.Core.Bool.{Bool, true, false, cond}
-use mathlib.Core.Option.{none, some}
-use mathlib.Core.List.{List, [], _∷_, _++_}
+use mathlib.Core.Option.{Option, none, some}
+use mathlib.Core.List.{List, [], _∷_, _++_, map}
 use lib.Dec.{T}
-use lib.ListN.{length, length-append}
+use lib.IntN.{ℤ}
+use lib.ListN.{length, getD, length-append}
 use Rattle.mesh.specs.Tools.{any, keep, digits, orElse}
 use Rattle.mesh.specs.Place.{Place, Grid, same, root, base}
 use Rattle.mesh.specs.Mesh.{patch, flags}
-use Rattle.mesh.specs.State.{Entry, blank, status, placeOf, entry}
+use Rattle.mesh.specs.State.{Entry, blank, status, placeOf, stands, entry, number}
 use Rattle.mesh.specs.Picture.{table}
 use Rattle.mesh.specs.Build.{full, numbered, blankCell, built}
-use Rattle.geometry.proofs.Bools.{no-is, bool-ext}
+use Rattle.geometry.proofs.Bools.{yes-is, no-is, bool-ext}
 use Rattle.geometry.proofs.Places.{In}
 use Rattle.geometry.proofs.Distinct.{keep-in, in-keep}
 use Rattle.geometry.proofs.Tree.{touched-patch, cell-patch}
@@ -24,19 +25,34 @@ use Rattle.geometry.proofs.Walls.{ghost-flags}
 use Rattle.geometry.proofs.Base.{Rectangle}
 use Rattle.geometry.proofs.Full.{full-cell, full-mesh, full-depth}
 use Rattle.numbering.proofs.Entries.{stands-in}
+use Rattle.numbering.proofs.Numbers.{Numbered, number-place, numbered-not-zero}
 use Rattle.numbering.proofs.Levels.{first-level, numbered-distinct, numbered-patch, patch-numbered}
 use Rattle.numbering.proofs.Written.{written-there, written-entry}
 use Rattle.numbering.proofs.Building.{built-numbered, built-contents, built-cells}
+use Rattle.pictures.proofs.Pictured.{digit-at}
 use Rattle.editing.specs.Linked.{Flags, tableWith, flagsOf}
-use Rattle.editing.specs.Built.{Growth, growLevels, groundFrom, refreshRows, start, buildTable}
+use Rattle.editing.specs.Anew.{markRow}
+use Rattle.editing.specs.Built.{Growth, eachRow, growLevels, groundFrom, start, groundTable, buildTable}
 use Rattle.editing.proofs.Linked.{picture-linked}
 use Rattle.editing.proofs.Setting.{flags-same}
-use Rattle.editing.proofs.Flags.{bit, Ready}
+use Rattle.editing.proofs.Rooted.{Rooted}
+use Rattle.editing.proofs.Flags.{bit, Ready, Walled, wallFlags}
+use Rattle.editing.proofs.Renewing.{among, among-all}
+use Rattle.editing.proofs.Passing.{newAt, ready-new, pass-rows}
+use Rattle.editing.proofs.Walling.{wallsOf, meshOf, walls-cell, walls-mark, wall-step, mark-step}
 use Rattle.editing.proofs.Growing.{dark, bare, Grown, InTurn, last-in-turn}
 use Rattle.editing.proofs.Broods.{Ground, grow-levels}
 use Rattle.editing.proofs.Started.{started}
-use Rattle.editing.proofs.Grounding.{withAll, complete, meshFlags, put-ground, refresh-rows}
+use Rattle.editing.proofs.Grounding.{completeAt, put-ground}
 use Rattle.editing.proofs.Alike.{table-alike}
+
+-- a linked table whose only flag is Complete
+pub record CellsAlone (g : Grid) (cap : ℕ) (t : List ℤ) : Type 0 where
+  pub entries : List Entry
+  pub flags : Flags
+  pub rooted : Rooted g cap entries
+  pub is-linked : t ≡ tableWith g entries flags
+  pub small : (p : Place) → flags p ≤ 1
 
 module _ (g : Grid) (cap : ℕ) (in-range : Rectangle g) (low : 5 ≤ cap) (high : cap ≤ 4095) (fits : length (numbered g) ≤ cap) where
   -- ---- all levels
@@ -60,6 +76,10 @@ module _ (g : Grid) (cap : ℕ) (in-range : Rectangle g) (low : 5 ≤ cap) (high
 
   -- ---- level 0
 
+  -- nothing is sentenced
+  abbrev meshFlags : Flags
+  meshFlags p = meshOf g (full g) p false
+
   abbrev es : List Entry
   es = bare cap (numbered g)
 
@@ -80,8 +100,9 @@ module _ (g : Grid) (cap : ℕ) (in-range : Rectangle g) (low : 5 ≤ cap) (high
         let d = full-cell g q t .0 in
         in-keep (full g) (f .floor) q (f .on-floor .all-of q (omega arith) (omega arith) (cell-patch g (full g) (full-mesh g in-range) q t)) t)
 
+    -- they alone have a flag
     abbrev marked : Flags
-    marked = withAll (keep (full g) (f .floor)) complete dark
+    marked = completeAt (keep (full g) (f .floor)) dark
 
     ready : Ready g es marked (full g) (base g)
     ready = record {
@@ -105,48 +126,94 @@ module _ (g : Grid) (cap : ℕ) (in-range : Rectangle g) (low : 5 ≤ cap) (high
         one true = refl
         one false = refl
 
+    -- ---- walls first
+
+    abbrev floorPlaces : List (Option Place)
+    floorPlaces = map some (f .floor)
+
+    abbrev walls : Flags
+    walls = newAt (wallsOf g (full g)) floorPlaces marked
+
+    -- what stands on level 0 is one of its places
+    floor-all : (n : ℕ) (p : Place) → placeOf (entry es n) ≡ some p → base g ≤ p .depth → among p floorPlaces ≡ true
+    floor-all n p h d =
+        let t : T (patch g (full g) p) = numbered-patch g in-range p (written-entry (λ p. none) (cap - length (numbered g)) (numbered g) (numbered-distinct g in-range) n p h .0) in
+        among-all p (f .floor) ∙ yes-is (any (same p) (f .floor)) (f .on-floor .all-of p d (full-depth g p t) t)
+
+    walled : Numbered es → Walled g es walls (full g) (base g)
+    unfolding wallFlags
+    walled numbers = record {
+      ready = ready-new (wallsOf g (full g)) (walls-cell g (full g)) ready floorPlaces (λ q t. on-floor q (subst T (among-all q (f .floor)) t));
+      wallsH = bits 1;
+      wallsV = bits 2;
+      boundaryH = bits 4;
+      boundaryV = bits 5;
+      greenH = bits 8;
+      greenV = bits 9;
+    }
+      where
+        bits : (k : ℕ) (q : Place) → q .depth ≡ base g → T (any (stands q) es) → bit k (walls q) ≡ getD (wallFlags g (full g) q (bit 12 (marked q))) k false
+        bits k q d t =
+            rw (floor-all (number es q) q (number-place es q (numbered-not-zero es numbers q t)) (omega arith))
+            (digit-at (wallFlags g (full g) q (bit 12 (marked q))) k)
+
     -- ---- the flags of every place
 
     abbrev finished : Flags
-    finished = withAll (f .floor) (meshFlags g (full g)) marked
+    finished = newAt (meshOf g (full g)) floorPlaces walls
 
-    settled-flags : (n : ℕ) (p : Place) → placeOf (entry es n) ≡ some p → finished p ≡ meshFlags g (full g) p
-    settled-flags n p h = go (any (same p) (f .floor)) refl (decLt (p .depth) (base g))
+    settled-flags : (n : ℕ) (p : Place) → placeOf (entry es n) ≡ some p → finished p ≡ meshFlags p
+    settled-flags n p h = go (decLt (p .depth) (base g))
       where
-        t : T (patch g (full g) p)
-        t = numbered-patch g in-range p (written-entry (λ p. none) (cap - length (numbered g)) (numbered g) (numbered-distinct g in-range) n p h .0)
-
-        go : (b : Bool) → any (same p) (f .floor) ≡ b → Dec (p .depth < base g) → cond b (meshFlags g (full g) p) (marked p) ≡ meshFlags g (full g) p
-        go true e d = refl
-        go false e (yes l) =
-            rw (floor-cells p, no-is (full g p) (λ u. omega (arith, full-cell g p u .0))) (sym (ghost-flags g (full g) (full-mesh g in-range) p l))
-        go false e (no l) =
-            let i : In p (f .floor) = f .on-floor .all-of p (omega arith) (full-depth g p t) t in
-            absurd (let u : T false = rw e at i in u)
+        go : Dec (p .depth < base g) → finished p ≡ meshFlags p
+        go (yes l) =
+            rw (no-is (among p floorPlaces) (λ t. omega (arith, on-floor p (subst T (among-all p (f .floor)) t))), floor-cells p, no-is (full g p) (λ u. omega (arith, full-cell g p u .0)))
+            (sym (ghost-flags g (full g) (full-mesh g in-range) p l))
+        go (no l) = rw (floor-all n p h (omega (arith, l))) (ap (meshOf g (full g) p) (walls-mark g (full g) p (bit 12 (marked p)) ∙ unsentenced p))
 
     -- ---- the table
 
-    done : Grown g cap (numbered g) end → from ≡ length (f .ghosts) + 1 → buildTable g cap (base g) ≡ tableWith g es finished
-    unfolding buildTable
-    done u e =
-        let many : end .next - from ≡ length (f .floor) = omega (arith, u .next-is, ap length in-order, length-append (f .ghosts) (f .floor)) in
-        let turn : InTurn es from (f .floor) = rw in-order (last-in-turn cap (f .ghosts) (f .floor) from e) in
-        rw (many, u .words-are) (ap (refreshRows g cap (base g) (length (f .floor)) from) (put-ground (u .rooted) (f .floor) from dark turn on-floor) ∙ refresh-rows (u .rooted) (full g) (f .floor) from marked turn on-floor ready unsentenced)
+    module _ (u : Grown g cap (numbered g) end) (e : from ≡ length (f .ghosts) + 1) where
+      many : end .next - from ≡ length (f .floor)
+      many = omega (arith, u .next-is, ap length in-order, length-append (f .ghosts) (f .floor))
+
+      turn : InTurn es from (f .floor)
+      turn = rw in-order (last-in-turn cap (f .ghosts) (f .floor) from e)
+
+      ground : groundTable g cap (base g) ≡ tableWith g es marked
+      unfolding groundTable
+      ground = rw (many, u .words-are) (put-ground (u .rooted) (f .floor) from dark turn on-floor)
+
+      done : buildTable g cap (base g) ≡ tableWith g es finished
+      unfolding buildTable
+      done =
+          rw (many, ground)
+          (ap (eachRow (markRow cap) (length (f .floor)) from) (pass-rows (u .rooted) (wall-step (u .rooted) (full g) (base g) (omega arith)) (f .floor) from marked turn on-floor ready)
+          ∙ pass-rows (u .rooted) (mark-step (u .rooted) (full g) (base g) (omega arith)) (f .floor) from walls turn on-floor (walled (u .rooted .numbered)))
+
+  pub ground-linked : CellsAlone g cap (groundTable g cap (base g))
+  ground-linked =
+      let (f, u, e) = grown in
+      record { entries = es; flags = marked f; rooted = u .rooted; is-linked = ground f u e; small = λ p. one (any (same p) (keep (full g) (f .floor))) }
+    where
+      one : (b : Bool) → cond b 1 0 ≤ 1
+      one true = omega arith
+      one false = omega arith
 
   -- ---- the picture of the built state
 
-  built-flags : (p : Place) → flagsOf g (built g cap .entries) p ≡ meshFlags g (full g) p
+  built-flags : (p : Place) → flagsOf g (built g cap .entries) p ≡ meshFlags p
   unfolding flagsOf
   built-flags p = rw (built-contents g cap in-range p, fun-ext (built-cells g cap in-range)) (go (full g p))
     where
-      go : (b : Bool) → digits (flags g (full g) p (orElse false (λ x. x .sentenced) (cond b (some blankCell) none))) ≡ meshFlags g (full g) p
+      go : (b : Bool) → digits (flags g (full g) p (orElse false (λ x. x .sentenced) (cond b (some blankCell) none))) ≡ meshFlags p
       go true = refl
       go false = refl
 
-  built-linked : tableWith g es (meshFlags g (full g)) ≡ table (built g cap)
+  built-linked : tableWith g es (meshFlags) ≡ table (built g cap)
   unfolding built
   built-linked =
-      table-alike (λ p. none) (λ p. cond (full g p) (some blankCell) none) (cap - length (numbered g)) g (meshFlags g (full g)) (λ p. blank-status (full g p)) (numbered g)
+      table-alike (λ p. none) (λ p. cond (full g p) (some blankCell) none) (cap - length (numbered g)) g (meshFlags) (λ p. blank-status (full g p)) (numbered g)
       ∙ ap (tableWith g (built g cap .entries)) (sym (fun-ext built-flags))
       ∙ sym (picture-linked (built g cap) (built-numbered g cap in-range))
     where
@@ -155,4 +222,4 @@ module _ (g : Grid) (cap : ℕ) (in-range : Rectangle g) (low : 5 ≤ cap) (high
       blank-status false = refl
 
   pub build-table : buildTable g cap (base g) ≡ table (built g cap)
-  build-table = let (f, u, e) = grown in done f u e ∙ flags-same g es (finished f) (meshFlags g (full g)) (settled-flags f) ∙ built-linked
+  build-table = let (f, u, e) = grown in done f u e ∙ flags-same g es (finished f) (meshFlags) (settled-flags f) ∙ built-linked

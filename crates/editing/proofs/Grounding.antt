@@ -1,52 +1,39 @@
--- The rows of level 0 under successive numbers: those in the rectangle become cells, and then all of them get their flags.
+-- The rows of level 0 under successive numbers: those in the rectangle become cells.
 -- Assumes nothing.
 use Prim.Native.Nat.{ℕ, _+_}
-use native.Mathlib.Omega.{arith}
-use mathlib.Core.Path.{_≡_, refl, sym, ap, _∙_, fun-ext}
+use mathlib.Core.Path.{_≡_, refl, ap, _∙_, fun-ext}
 use mathlib.Core.Bool.{Bool, true, false, _&&_, _||_, cond}
 use mathlib.Core.Option.{some}
 use mathlib.Core.List.{List, [], _∷_}
 use lib.Dec.{eqb, eqb-refl, ltb}
 use lib.ListN.{length}
-use Rattle.mesh.specs.Tools.{any, keep, digits}
+use Rattle.mesh.specs.Tools.{any, keep}
 use Rattle.mesh.specs.Place.{Place, Grid, same, base}
-use Rattle.mesh.specs.Mesh.{flags}
 use Rattle.mesh.specs.State.{Entry, placeOf, entry}
 use Rattle.mesh.specs.Build.{full}
-use Rattle.geometry.proofs.Bools.{yes-is, is-yes}
-use Rattle.geometry.proofs.Places.{In, in-here, in-there, same-is}
-use Rattle.table.specs.Words.{wordOf}
+use Rattle.geometry.proofs.Bools.{yes-is}
+use Rattle.geometry.proofs.Places.{In, in-here, in-there}
 use Rattle.editing.specs.Linked.{Flags, tableWith, withFlags}
 use Rattle.editing.specs.Steps.{putWord}
-use Rattle.editing.specs.Built.{putGround, refreshRows}
+use Rattle.editing.specs.Built.{eachRow, groundRow}
 use Rattle.editing.proofs.Linked.{col-of, row-of}
 use Rattle.editing.proofs.Rooted.{Rooted}
 use Rattle.editing.proofs.Setting.{put-flags}
-use Rattle.editing.proofs.Flags.{bit, Ready, sentenced-bit}
-use Rattle.editing.proofs.Refreshing.{refresh-linked, ready-kept}
 use Rattle.editing.proofs.Growing.{InTurn}
 
--- these places have the flags h
-abbrev pub withAll : List Place → Flags → Flags → Flags
-withAll qs h f p = cond (any (same p) qs) (h p) (f p)
+-- these places are Complete, and have no other flag
+abbrev pub completeAt : List Place → Flags → Flags
+completeAt qs f p = cond (any (same p) qs) 1 (f p)
 
 -- one place after the other
-all-first : (q : Place) (qs : List Place) (h f : Flags) → withAll qs h (withFlags q (h q) f) ≡ withAll (q ∷ qs) h f
-all-first q qs h f = fun-ext (λ p. go p (any (same p) qs) (same p q) refl)
+complete-first : (q : Place) (qs : List Place) (f : Flags) → completeAt qs (withFlags q 1 f) ≡ completeAt (q ∷ qs) f
+complete-first q qs f = fun-ext (λ p. go p (any (same p) qs) (same p q))
   where
-    go : (p : Place) (a b : Bool) → same p q ≡ b → cond a (h p) (cond b (h q) (f p)) ≡ cond (b || a) (h p) (f p)
-    go p true true e = refl
-    go p false true e = ap h (sym (same-is p q (is-yes (same p q) e)))
-    go p true false e = refl
-    go p false false e = refl
-
--- "Complete" alone
-abbrev pub complete : Flags
-complete p = 1
-
--- the flags of a mesh in which nothing is sentenced
-abbrev pub meshFlags : Grid → (Place → Bool) → Flags
-meshFlags g c p = digits (flags g c p false)
+    go : (p : Place) (a b : Bool) → cond a 1 (cond b 1 (f p)) ≡ cond (b || a) 1 (f p)
+    go p true true = refl
+    go p false true = refl
+    go p true false = refl
+    go p false false = refl
 
 module _ {g : Grid} {cap : ℕ} {es : List Entry} (r : Rooted g cap es) where
   full-ground : (q : Place) → q .depth ≡ base g → full g q ≡ (ltb (q .col) (g .columns) && ltb (q .row) (g .rows))
@@ -54,8 +41,7 @@ module _ {g : Grid} {cap : ℕ} {es : List Entry} (r : Rooted g cap es) where
   full-ground q d = rw (d, yes-is (eqb (base g) (base g)) (eqb-refl (base g)))
 
   mark-one : (n : ℕ) (q : Place) (f : Flags) → placeOf (entry es n) ≡ some q → q .depth ≡ base g
-      → cond (ltb (wordOf (tableWith g es f) n 10) (g .columns) && ltb (wordOf (tableWith g es f) n 11) (g .rows)) (putWord (tableWith g es f) n 12 1) (tableWith g es f)
-      ≡ tableWith g es (cond (full g q) (withFlags q 1 f) f)
+      → groundRow g (tableWith g es f) n ≡ tableWith g es (cond (full g q) (withFlags q 1 f) f)
   mark-one n q f h d = rw (col-of g es f n q h, row-of g es f n q h, ← full-ground q d) (go (full g q))
     where
       go : (b : Bool) → cond b (putWord (tableWith g es f) n 12 1) (tableWith g es f) ≡ tableWith g es (cond b (withFlags q 1 f) f)
@@ -63,30 +49,14 @@ module _ {g : Grid} {cap : ℕ} {es : List Entry} (r : Rooted g cap es) where
       go false = refl
 
   pub put-ground : (qs : List Place) (n : ℕ) (f : Flags) → InTurn es n qs → ((q : Place) → In q qs → q .depth ≡ base g)
-      → putGround g cap (base g) (length qs) n (tableWith g es f) ≡ tableWith g es (withAll (keep (full g) qs) complete f)
-  unfolding putGround
+      → eachRow (groundRow g) (length qs) n (tableWith g es f) ≡ tableWith g es (completeAt (keep (full g) qs) f)
+  unfolding eachRow
   put-ground [] n f t deep = refl
   put-ground (q ∷ qs) n f (h, t) deep =
-      ap (putGround g cap (base g) (length qs) (n + 1)) (mark-one n q f h (deep q (in-here q q qs refl)))
+      ap (eachRow (groundRow g) (length qs) (n + 1)) (mark-one n q f h (deep q (in-here q q qs refl)))
       ∙ put-ground qs (n + 1) (cond (full g q) (withFlags q 1 f) f) t (λ x i. deep x (in-there x q qs i))
       ∙ ap (tableWith g es) (go (full g q))
     where
-      go : (b : Bool) → withAll (keep (full g) qs) complete (cond b (withFlags q 1 f) f) ≡ withAll (cond b (q ∷ keep (full g) qs) (keep (full g) qs)) complete f
-      go true = all-first q (keep (full g) qs) complete f
+      go : (b : Bool) → completeAt (keep (full g) qs) (cond b (withFlags q 1 f) f) ≡ completeAt (cond b (q ∷ keep (full g) qs) (keep (full g) qs)) f
+      go true = complete-first q (keep (full g) qs) f
       go false = refl
-
-  pub refresh-rows : (c : Place → Bool) (qs : List Place) (n : ℕ) (f : Flags) → InTurn es n qs → ((q : Place) → In q qs → q .depth ≡ base g)
-      → Ready g es f c (base g) → ((q : Place) → bit 12 (f q) ≡ false)
-      → refreshRows g cap (base g) (length qs) n (tableWith g es f) ≡ tableWith g es (withAll qs (meshFlags g c) f)
-  unfolding refreshRows
-  refresh-rows c [] n f t deep ready none = refl
-  refresh-rows c (q ∷ qs) n f (h, t) deep ready none =
-      let d : q .depth ≡ base g = deep q (in-here q q qs refl) in
-      ap (refreshRows g cap (base g) (length qs) (n + 1))
-      (refresh-linked r f c n q h (omega arith) (rw d ready) ∙ ap (λ (b : Bool). tableWith g es (withFlags q (digits (flags g c q b)) f)) (none q))
-      ∙ refresh-rows c qs (n + 1) (withFlags q (meshFlags g c q) f) t (λ x i. deep x (in-there x q qs i)) (ready-kept ready q d false) (λ x. unmarked x (same x q))
-      ∙ ap (tableWith g es) (all-first q qs (meshFlags g c) f)
-    where
-      unmarked : (x : Place) (b : Bool) → bit 12 (cond b (meshFlags g c q) (f x)) ≡ false
-      unmarked x true = sentenced-bit g c q false
-      unmarked x false = none x

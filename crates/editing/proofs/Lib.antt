@@ -13,7 +13,9 @@ pub mod Flags
 pub mod Refreshing
 pub mod Named
 pub mod Renewing
+pub mod Growing
 pub mod Passing
+pub mod Walling
 pub mod Celling
 pub mod Supplying
 pub mod Starting
@@ -34,7 +36,6 @@ pub mod Bordering
 pub mod Corners
 pub mod Withering
 pub mod Killing
-pub mod Growing
 pub mod Broods
 pub mod Started
 pub mod Grounding

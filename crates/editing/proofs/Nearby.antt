@@ -9,7 +9,6 @@ use mathlib.Core.Bool.{Bool, true, false, _||_, cond}
 use mathlib.Core.Option.{Option, some}
 use mathlib.Core.List.{List, [], _∷_, _++_, map}
 use lib.Dec.{T}
-use lib.IntN.{ℤ}
 use lib.ListN.{getD}
 use Rattle.mesh.specs.Tools.{any, digits, orElse}
 use Rattle.mesh.specs.Place.{Place, Grid, SE, SW, NW, base, same, kid, parent, toNorth, toEast, toSouth, toWest}
@@ -30,11 +29,11 @@ use Rattle.editing.specs.Anew.{wallRow, markRow}
 use Rattle.editing.specs.Tables.{wantedSpots, outsideSpots, eachAt, refreshNear}
 use Rattle.editing.proofs.Rooted.{Rooted}
 use Rattle.editing.proofs.Setting.{flags-same}
-use Rattle.editing.proofs.Flags.{bit, Ready, Walled, wallFlags, complete-bit, wallH-bit, wallV-bit, edgeH-bit, edgeV-bit, greenH-bit, greenV-bit, sentenced-bit}
-use Rattle.editing.proofs.Refreshing.{wall-linked, mark-linked}
+use Rattle.editing.proofs.Flags.{bit, Ready, Walled, wallFlags, wallH-bit, wallV-bit, edgeH-bit, edgeV-bit, greenH-bit, greenV-bit}
 use Rattle.editing.proofs.Named.{named-append, wanted-named, outside-named}
 use Rattle.editing.proofs.Renewing.{among, among-all}
-use Rattle.editing.proofs.Passing.{newAt, among-one, ready-new, pass}
+use Rattle.editing.proofs.Passing.{newAt, ready-new, pass}
+use Rattle.editing.proofs.Walling.{wallsOf, meshOf, walls-cell, walls-mark, wall-step, mark-step}
 use Rattle.editing.proofs.Starting.{markOf}
 
 -- the four places beside the kids, as far as they are there
@@ -110,39 +109,31 @@ module _ {g : Grid} {es : List Entry} {p : Place} {d : Place → Bool} {f : Flag
   abbrev kidPlaces : List (Option Place)
   kidPlaces = map some (wanted g p)
 
-  abbrev wallsOf : Place → Bool → ℕ
-  wallsOf q b = digits (wallFlags g (cells es) q b)
+  abbrev walls : Place → Bool → ℕ
+  walls = wallsOf g (cells es)
 
-  abbrev meshOf : Place → Bool → ℕ
-  meshOf q b = digits (flags g (cells es) q b)
-
-  walls-cell : (q : Place) (b : Bool) → bit 0 (wallsOf q b) ≡ cells es q
-  unfolding wallFlags
-  walls-cell q b = digit-at (wallFlags g (cells es) q b) 0
-
-  walls-mark : (q : Place) (b : Bool) → bit 12 (wallsOf q b) ≡ b
-  unfolding wallFlags
-  walls-mark q b = digit-at (wallFlags g (cells es) q b) 12
+  abbrev marks : Place → Bool → ℕ
+  marks = meshOf g (cells es)
 
   outside : (q : Place) → among q kidPlaces ≡ false → In q (wanted g p) → ⊥
   outside q e i = let u : T false = subst T (sym (among-all q (wanted g p)) ∙ e) i in u
 
   -- the walls of the nine places are worked out, and those elsewhere did not change
-  first : (k : ℕ) (y : Bool) (q : Place) → T (any (stands q) es) → bit k (wallsOf q (bit 12 (f q))) ≡ y
-      → ((In q (wanted g p) → ⊥) → bit k (digits (flags g d q (markOf es q))) ≡ y) → bit k (newAt wallsOf kidPlaces f q) ≡ y
+  first : (k : ℕ) (y : Bool) (q : Place) → T (any (stands q) es) → bit k (walls q (bit 12 (f q))) ≡ y
+      → ((In q (wanted g p) → ⊥) → bit k (digits (flags g d q (markOf es q))) ≡ y) → bit k (newAt walls kidPlaces f q) ≡ y
   first k y q t own other = go (among q kidPlaces) refl
     where
-      go : (b : Bool) → among q kidPlaces ≡ b → bit k (cond (among q kidPlaces) (wallsOf q (bit 12 (f q))) (f q)) ≡ y
+      go : (b : Bool) → among q kidPlaces ≡ b → bit k (cond (among q kidPlaces) (walls q (bit 12 (f q))) (f q)) ≡ y
       go true s = rw s own
       go false s = rw s (ap (bit k) (a .away q t (outside q s)) ∙ other (outside q s))
 
   places-depth : (q : Place) → T (among q kidPlaces) → q .depth ≡ suc (p .depth)
   places-depth q t = wanted-depth g p q (subst T (among-all q (wanted g p)) t)
 
-  walled : Walled g es (newAt wallsOf kidPlaces f) (cells es) (suc (p .depth))
+  walled : Walled g es (newAt walls kidPlaces f) (cells es) (suc (p .depth))
   unfolding wallFlags
   walled = record {
-    ready = ready-new wallsOf walls-cell ready kidPlaces places-depth;
+    ready = ready-new walls (walls-cell g (cells es)) ready kidPlaces places-depth;
     wallsH = λ q e t. first 1 (isWall (hor q)) q t (bits q 1) (λ o. wallH-bit g d q (markOf es q) ∙ ap isWall (same-walls q o .1));
     wallsV = λ q e t. first 2 (isWall (ver q)) q t (bits q 2) (λ o. wallV-bit g d q (markOf es q) ∙ ap isWall (same-walls q o .2));
     boundaryH = λ q e t. first 4 (isBoundary (hor q)) q t (bits q 4) (λ o. edgeH-bit g d q (markOf es q) ∙ ap isBoundary (same-walls q o .1));
@@ -157,7 +148,7 @@ module _ {g : Grid} {es : List Entry} {p : Place} {d : Place → Bool} {f : Flag
       ver : Place → Wall
       ver q = wallV g (cells es) (some q)
 
-      bits : (q : Place) (k : ℕ) → bit k (wallsOf q (bit 12 (f q))) ≡ getD (wallFlags g (cells es) q (bit 12 (f q))) k false
+      bits : (q : Place) (k : ℕ) → bit k (walls q (bit 12 (f q))) ≡ getD (wallFlags g (cells es) q (bit 12 (f q))) k false
       bits q k = digit-at (wallFlags g (cells es) q (bit 12 (f q))) k
 
       same-walls : (q : Place) → (In q (wanted g p) → ⊥) → (d q ≡ cells es q) × (wallH g d (some q) ≡ hor q) × (wallV g d (some q) ≡ ver q)
@@ -165,55 +156,24 @@ module _ {g : Grid} {es : List Entry} {p : Place} {d : Place → Bool} {f : Flag
 
   -- ---- and then the flags that the walls make
 
-  walled-kept : (f′ : Flags) → Walled g es f′ (cells es) (suc (p .depth)) → (q : Option Place) → ((o : Place) → q ≡ some o → o .depth ≡ suc (p .depth))
-      → Walled g es (newAt meshOf (q ∷ []) f′) (cells es) (suc (p .depth))
-  walled-kept f′ w q level = record {
-    ready = ready-new meshOf (complete-bit g (cells es)) (w .ready) (q ∷ []) (among-one q level);
-    wallsH = λ o e t. either 1 o (among o (q ∷ [])) (wallH-bit g (cells es) o _) (w .wallsH o e t);
-    wallsV = λ o e t. either 2 o (among o (q ∷ [])) (wallV-bit g (cells es) o _) (w .wallsV o e t);
-    boundaryH = λ o e t. either 4 o (among o (q ∷ [])) (edgeH-bit g (cells es) o _) (w .boundaryH o e t);
-    boundaryV = λ o e t. either 5 o (among o (q ∷ [])) (edgeV-bit g (cells es) o _) (w .boundaryV o e t);
-    greenH = λ o e t. either 8 o (among o (q ∷ [])) (greenH-bit g (cells es) o _) (w .greenH o e t);
-    greenV = λ o e t. either 9 o (among o (q ∷ [])) (greenV-bit g (cells es) o _) (w .greenV o e t);
-  }
-    where
-      either : (k : ℕ) (o : Place) {y : Bool} (b : Bool) → bit k (meshOf o (bit 12 (f′ o))) ≡ y → bit k (f′ o) ≡ y → bit k (cond b (meshOf o (bit 12 (f′ o))) (f′ o)) ≡ y
-      either k o true x y = x
-      either k o false x y = y
-
   module _ {cap : ℕ} (r : Rooted g cap es) (n : ℕ) (h : placeOf (entry es n) ≡ some p) (east : number es (toEast g p) ≢ 0) where
     deep : base g ≤ suc (p .depth)
     deep = omega (arith, a .low)
 
-    walls-near : eachAt (wallRow cap (base g)) cap (wantedSpots (tableWith g es f) cap n) (tableWith g es f) ≡ tableWith g es (newAt wallsOf kidPlaces f)
-    unfolding wallRow
-    walls-near =
-        pass r (wallRow cap (base g)) wallsOf walls-mark (λ f′. Ready g es f′ (cells es) (suc (p .depth))) (p .depth) nil-row
-        (λ f′ w m q z i e. wall-linked r f′ (cells es) m q z i (rw e deep) (rw e w))
-        (λ f′ w q level. ready-new wallsOf walls-cell w (q ∷ []) (among-one q level))
-        (wanted-named r f n p h east) f ready
-      where
-        nil-row : (t : List ℤ) → wallRow cap (base g) t 0 ≡ t
-        nil-row t = refl
+    walls-near : eachAt (wallRow cap (base g)) cap (wantedSpots (tableWith g es f) cap n) (tableWith g es f) ≡ tableWith g es (newAt walls kidPlaces f)
+    walls-near = pass r (wall-step r (cells es) (suc (p .depth)) deep) (wanted-named r f n p h east) refl f ready
 
-    marks-near : eachAt (markRow cap) cap (wantedSpots (tableWith g es f) cap n ++ outsideSpots (tableWith g es f) cap n) (tableWith g es (newAt wallsOf kidPlaces f))
-        ≡ tableWith g es (newAt meshOf (kidPlaces ++ besides g p) (newAt wallsOf kidPlaces f))
-    unfolding markRow
+    marks-near : eachAt (markRow cap) cap (wantedSpots (tableWith g es f) cap n ++ outsideSpots (tableWith g es f) cap n) (tableWith g es (newAt walls kidPlaces f))
+        ≡ tableWith g es (newAt marks (kidPlaces ++ besides g p) (newAt walls kidPlaces f))
     marks-near =
-        pass r (markRow cap) meshOf (sentenced-bit g (cells es)) (λ f′. Walled g es f′ (cells es) (suc (p .depth))) (p .depth) nil-row
-        (λ f′ w m q z i e. mark-linked r f′ (cells es) m q z i (rw e deep) (rw e w))
-        walled-kept
-        (named-append (wanted-named r f n p h east) (outside-named r f n p h)) (newAt wallsOf kidPlaces f) walled
-      where
-        nil-row : (t : List ℤ) → markRow cap t 0 ≡ t
-        nil-row t = refl
+        pass r (mark-step r (cells es) (suc (p .depth)) deep) (named-append (wanted-named r f n p h east) (outside-named r f n p h)) refl (newAt walls kidPlaces f) walled
 
     pub refresh-near : refreshNear (tableWith g es f) cap (base g) n ≡ tableWith g es (flagsOf g es)
     unfolding refreshNear flagsOf
     refresh-near =
         ap (eachAt (markRow cap) cap (wantedSpots (tableWith g es f) cap n ++ outsideSpots (tableWith g es f) cap n)) walls-near
         ∙ marks-near
-        ∙ flags-same g es (newAt meshOf qs (newAt wallsOf kidPlaces f)) (flagsOf g es) (λ m q i. right q (stands-in es m q i) (among q qs) refl)
+        ∙ flags-same g es (newAt marks qs (newAt walls kidPlaces f)) (flagsOf g es) (λ m q i. right q (stands-in es m q i) (among q qs) refl)
       where
         qs : List (Option Place)
         qs = kidPlaces ++ besides g p
@@ -227,13 +187,13 @@ module _ {g : Grid} {es : List Entry} {p : Place} {d : Place → Bool} {f : Flag
         not-kid : (q : Place) → among q qs ≡ false → among q kidPlaces ≡ false
         not-kid q e = no-is (among q kidPlaces) (λ t. never q e (or-left (any (same q) (wanted g p)) (among q (besides g p)) (subst T (among-all q (wanted g p)) t)))
 
-        marked : (q : Place) → T (any (stands q) es) → (b : Bool) → bit 12 (cond b (wallsOf q (bit 12 (f q))) (f q)) ≡ markOf es q
-        marked q t true = walls-mark q (bit 12 (f q)) ∙ a .sentenced q t
+        marked : (q : Place) → T (any (stands q) es) → (b : Bool) → bit 12 (cond b (walls q (bit 12 (f q))) (f q)) ≡ markOf es q
+        marked q t true = walls-mark g (cells es) q (bit 12 (f q)) ∙ a .sentenced q t
         marked q t false = a .sentenced q t
 
         right : (q : Place) → T (any (stands q) es) → (b : Bool) → among q qs ≡ b
-            → cond (among q qs) (meshOf q (bit 12 (newAt wallsOf kidPlaces f q))) (newAt wallsOf kidPlaces f q) ≡ meshOf q (markOf es q)
-        right q t true e = rw e (ap (meshOf q) (marked q t (among q kidPlaces)))
+            → cond (among q qs) (marks q (bit 12 (newAt walls kidPlaces f q))) (newAt walls kidPlaces f q) ≡ marks q (markOf es q)
+        right q t true e = rw e (ap (marks q) (marked q t (among q kidPlaces)))
         right q t false e =
             rw (e, not-kid q e) (far q t (λ i. never q e (or-left (any (same q) (wanted g p)) (among q (besides g p)) i))
             (λ k. never q e (or-right (any (same q) (wanted g p)) (among q (besides g p)) (fringe-among g p q k))))

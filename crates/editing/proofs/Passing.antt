@@ -1,29 +1,32 @@
 -- Rows of one depth gone through one after the other, each with a step that gives its place flags of its own, which keep its mark Sentenced: then
 -- the places have these flags, if what the step needs stays right all the while.
 -- Assumes nothing.
-use Prim.Native.Nat.{ℕ, suc}
+use Prim.Native.Nat.{ℕ, suc, _+_}
 use native.Mathlib.Omega.{arith}
 use native.Mathlib.Decide.{ℕ-discrete}
-use mathlib.Core.Path.{_≡_, refl, ap, _∙_}
+use mathlib.Core.Path.{_≡_, refl, sym, ap, _∙_}
 use mathlib.Core.Logic.{_≢_}
 use mathlib.Core.Bool.{Bool, true, false, _||_, cond}
-use mathlib.Core.Option.{Option, none, some}
-use mathlib.Core.List.{List, [], _∷_}
+use mathlib.Core.Option.{Option, none, some, Option·some-injective}
+use mathlib.Core.List.{List, [], _∷_, map}
 use lib.Dec.{T}
 use lib.IntN.{ℤ}
+use lib.ListN.{length}
 use Rattle.mesh.specs.Tools.{orElse}
 use Rattle.mesh.specs.Place.{Place, Grid, same}
 use Rattle.mesh.specs.State.{Entry, placeOf, entry, number, numberOf}
 use Rattle.geometry.proofs.Bools.{is-yes, no-is}
-use Rattle.geometry.proofs.Places.{same-is, in-one}
-use Rattle.numbering.proofs.Numbers.{number-place, unnumbered}
+use Rattle.geometry.proofs.Places.{In, same-is, in-one, in-here, in-there}
+use Rattle.numbering.proofs.Numbers.{number-place, place-number, unnumbered}
 use Rattle.editing.specs.Linked.{Flags, tableWith, withFlags}
 use Rattle.editing.specs.Tables.{Spot, eachAt}
+use Rattle.editing.specs.Built.{eachRow}
 use Rattle.editing.proofs.Rooted.{Rooted}
 use Rattle.editing.proofs.Setting.{flags-same}
 use Rattle.editing.proofs.Flags.{bit, Ready}
 use Rattle.editing.proofs.Named.{AllNamed, no-more, one-more, named-depth, kid-at}
 use Rattle.editing.proofs.Renewing.{among}
+use Rattle.editing.proofs.Growing.{InTurn}
 
 -- the places get the flags that x gives them
 abbrev pub newAt : (Place → Bool → ℕ) → List (Option Place) → Flags → Flags
@@ -51,44 +54,60 @@ ready-new {g} {c} {es} {f} {e} x cell ready qs level = record {
     below : (q : Place) → suc (q .depth) ≡ e → among q qs ≡ false
     below q k = no-is (among q qs) (λ t. omega (arith, level q t))
 
-module _ {g : Grid} {cap : ℕ} {es : List Entry} (r : Rooted g cap es) (row : List ℤ → ℕ → List ℤ) (fresh : Place → Bool → ℕ) (mark : (q : Place) (b : Bool) → bit 12 (fresh q b) ≡ b)
-    (Right : Flags → Type 0) (e : ℕ) (nil : (t : List ℤ) → row t 0 ≡ t)
-    (one-row : (f : Flags) → Right f → (n : ℕ) (q : Place) → n ≢ 0 → placeOf (entry es n) ≡ some q → q .depth ≡ suc e → row (tableWith g es f) n ≡ tableWith g es (withFlags q (fresh q (bit 12 (f q))) f))
-    (kept : (f : Flags) → Right f → (q : Option Place) → ((p : Place) → q ≡ some p → p .depth ≡ suc e) → Right (newAt fresh (q ∷ []) f)) where
+-- The step for one row gives its place, which has the depth e, the flags that `fresh` says. What it needs of the flags is `Right`.
+pub record RowStep (g : Grid) (es : List Entry) (row : List ℤ → ℕ → List ℤ) (fresh : Place → Bool → ℕ) (Right : Flags → Type 0) (e : ℕ) : Type 0 where
+  pub mark : (q : Place) (b : Bool) → bit 12 (fresh q b) ≡ b
+  pub nil : (t : List ℤ) → row t 0 ≡ t
+  pub one-row : (f : Flags) → Right f → (n : ℕ) (q : Place) → n ≢ 0 → placeOf (entry es n) ≡ some q → q .depth ≡ e → row (tableWith g es f) n ≡ tableWith g es (withFlags q (fresh q (bit 12 (f q))) f)
+  pub kept : (f : Flags) → Right f → (q : Option Place) → ((p : Place) → q ≡ some p → p .depth ≡ e) → Right (newAt fresh (q ∷ []) f)
+
+module _ {g : Grid} {cap : ℕ} {es : List Entry} (r : Rooted g cap es) {row : List ℤ → ℕ → List ℤ} {fresh : Place → Bool → ℕ} {Right : Flags → Type 0} {e : ℕ} (s : RowStep g es row fresh Right e) where
   -- to do it twice is to do it once
   new-more : (q : Option Place) (qs : List (Option Place)) (f : Flags) (p : Place) → newAt fresh qs (newAt fresh (q ∷ []) f) p ≡ newAt fresh (q ∷ qs) f p
   new-more q qs f p = go (orElse false (same p) q) (among p qs)
     where
       go : (a b : Bool) → cond b (fresh p (bit 12 (cond (a || false) (fresh p (bit 12 (f p))) (f p)))) (cond (a || false) (fresh p (bit 12 (f p))) (f p)) ≡ cond (a || b) (fresh p (bit 12 (f p))) (f p)
-      go true true = ap (fresh p) (mark p (bit 12 (f p)))
+      go true true = ap (fresh p) (s .mark p (bit 12 (f p)))
       go true false = refl
       go false true = refl
       go false false = refl
 
   -- one place: the row that stands there, if one does
-  pass-place : (f : Flags) → Right f → (q : Option Place) → ((p : Place) → q ≡ some p → p .depth ≡ suc e) → row (tableWith g es f) (numberOf es q) ≡ tableWith g es (newAt fresh (q ∷ []) f)
-  pass-place f right none d = nil (tableWith g es f)
+  pass-place : (f : Flags) → Right f → (q : Option Place) → ((p : Place) → q ≡ some p → p .depth ≡ e) → row (tableWith g es f) (numberOf es q) ≡ tableWith g es (newAt fresh (q ∷ []) f)
+  pass-place f right none d = s .nil (tableWith g es f)
   pass-place f right (some q) d = go (ℕ-discrete (number es q) 0)
     where
       one : (p : Place) (a : Bool) → same p q ≡ a → withFlags q (fresh q (bit 12 (f q))) f p ≡ cond (a || false) (fresh p (bit 12 (f p))) (f p)
-      one p true s = rw (s, same-is p q (is-yes (same p q) s))
-      one p false s = rw s
+      one p true i = rw (i, same-is p q (is-yes (same p q) i))
+      one p false i = rw i
 
       absent : number es q ≡ 0 → (n : ℕ) (p : Place) → placeOf (entry es n) ≡ some p → (a : Bool) → same p q ≡ a → f p ≡ cond (a || false) (fresh p (bit 12 (f p))) (f p)
-      absent z n p h true s = absurd (unnumbered es (r .numbered) q z n (h ∙ ap some (same-is p q (is-yes (same p q) s))))
-      absent z n p h false s = refl
+      absent z n p h true i = absurd (unnumbered es (r .numbered) q z n (h ∙ ap some (same-is p q (is-yes (same p q) i))))
+      absent z n p h false i = refl
 
       go : Dec (number es q ≡ 0) → row (tableWith g es f) (number es q) ≡ tableWith g es (newAt fresh (some q ∷ []) f)
-      go (yes z) = ap (row (tableWith g es f)) z ∙ nil (tableWith g es f) ∙ flags-same g es f (newAt fresh (some q ∷ []) f) (λ n p h. absent z n p h (same p q) refl)
+      go (yes z) = ap (row (tableWith g es f)) z ∙ s .nil (tableWith g es f) ∙ flags-same g es f (newAt fresh (some q ∷ []) f) (λ n p h. absent z n p h (same p q) refl)
       go (no z) =
-          one-row f right (number es q) q z (number-place es q z) (d q refl)
+          s .one-row f right (number es q) q z (number-place es q z) (d q refl)
           ∙ flags-same g es (withFlags q (fresh q (bit 12 (f q))) f) (newAt fresh (some q ∷ []) f) (λ n p h. one p (same p q) refl)
 
-  pub pass : {xs : List Spot} {qs : List (Option Place)} → AllNamed es e xs qs → (f : Flags) → Right f → eachAt row cap xs (tableWith g es f) ≡ tableWith g es (newAt fresh qs f)
+  -- the kids at these spots
+  pub pass : {d : ℕ} {xs : List Spot} {qs : List (Option Place)} → AllNamed es d xs qs → e ≡ suc d → (f : Flags) → Right f → eachAt row cap xs (tableWith g es f) ≡ tableWith g es (newAt fresh qs f)
   unfolding eachAt
-  pass no-more f right = refl
-  pass (one-more {x} {q} {xs} {qs} n ns) f right =
-      let deep : (p : Place) → q ≡ some p → p .depth ≡ suc e = λ p k. named-depth (rw k at n) in
+  pass no-more below f right = refl
+  pass (one-more {x} {q} {xs} {qs} n ns) below f right =
+      let deep : (p : Place) → q ≡ some p → p .depth ≡ e = λ p k. named-depth (rw k at n) ∙ sym below in
       ap (eachAt row cap xs) (ap (row (tableWith g es f)) (kid-at r f n) ∙ pass-place f right q deep)
-      ∙ pass ns (newAt fresh (q ∷ []) f) (kept f right q deep)
+      ∙ pass ns below (newAt fresh (q ∷ []) f) (s .kept f right q deep)
       ∙ flags-same g es (newAt fresh qs (newAt fresh (q ∷ []) f)) (newAt fresh (q ∷ qs) f) (λ m p h. new-more q qs f p)
+
+  -- the rows of these places, which have successive numbers
+  pub pass-rows : (qs : List Place) (n : ℕ) (f : Flags) → InTurn es n qs → ((q : Place) → In q qs → q .depth ≡ e) → Right f
+      → eachRow row (length qs) n (tableWith g es f) ≡ tableWith g es (newAt fresh (map some qs) f)
+  unfolding eachRow
+  pass-rows [] n f t deep right = refl
+  pass-rows (q ∷ qs) n f (h, t) deep right =
+      let level : (p : Place) → some q ≡ some p → p .depth ≡ e = λ p k. ap (λ (o : Place). o .depth) (sym (Option·some-injective _ _ k)) ∙ deep q (in-here q q qs refl) in
+      ap (eachRow row (length qs) (n + 1)) (ap (row (tableWith g es f)) (sym (place-number es (r .numbered) n q h)) ∙ pass-place f right (some q) level)
+      ∙ pass-rows qs (n + 1) (newAt fresh (some q ∷ []) f) t (λ p i. deep p (in-there p q qs i)) (s .kept f right (some q) level)
+      ∙ flags-same g es (newAt fresh (map some qs) (newAt fresh (some q ∷ []) f)) (newAt fresh (some q ∷ map some qs) f) (λ m p i. new-more (some q) (map some qs) f p)

@@ -1,19 +1,19 @@
 -- The table of a build as the code makes it: every row free, then the root, and then patch after patch linked in, level by level; at last the
--- cells of level 0 and the flags of its rows.
+-- cells of level 0 and the flags of its rows, walls first.
 -- Assumes nothing.
 use Prim.Native.Nat.{ℕ, zero, suc, _+_, _-_, _*_, _^_}
 use mathlib.Core.Bool.{Bool, _&&_, cond}
-use mathlib.Core.List.{List, [], _∷_, _++_}
+use mathlib.Core.List.{List, _++_}
 use lib.Dec.{leb, ltb}
 use lib.ListN.{set, replicate}
-use lib.IntN.{ℤ, pos, subℕ}
+use lib.IntN.{ℤ, subℕ}
 use Rattle.mesh.specs.Tools.{flat}
 use Rattle.mesh.specs.Place.{Grid}
 use Rattle.mesh.specs.Picture.{rowWords}
 use Rattle.table.specs.Words.{wordOf}
 use Rattle.table.specs.Writes.{freeRow, nilRow}
 use Rattle.editing.specs.Steps.{putWord, linkIn}
-use Rattle.editing.specs.Anew.{refreshed}
+use Rattle.editing.specs.Anew.{wallRow, markRow}
 
 -- a table, and the next number
 pub record Growth : Type 0 where
@@ -28,9 +28,18 @@ emptyTable cap = nilRow ++ flat (replicate cap freeRow)
 unfoldable pub rootTable : ℕ → ℕ → List ℤ
 rootTable cap d = putWord (set (emptyTable cap) (1 * rowWords + 9) (subℕ 0 d)) 1 12 0
 
+-- a step for each of n rows from p on
+unfoldable pub eachRow : {A : Type 0} → (A → ℕ → A) → ℕ → ℕ → A → A
+eachRow f zero p a = a
+eachRow f (suc n) p a = eachRow f n (p + 1) (f a p)
+
 -- a patch of the full rectangle, so many levels below level 0
 abbrev pub inFull : Grid → ℕ → ℕ → ℕ → Bool
 inFull g up i j = leb (i * 2 ^ up) (g .columns) && leb (j * 2 ^ up) (g .rows)
+
+-- a row of level 0 is a cell, if the rectangle has it
+abbrev pub groundRow : Grid → List ℤ → ℕ → List ℤ
+groundRow g t p = cond (ltb (wordOf t p 10) (g .columns) && ltb (wordOf t p 11) (g .rows)) (putWord t p 12 1) t
 
 module _ (g : Grid) (cap d : ℕ) where
   -- the kid of the row p with the digits l and m, where the rectangle has it
@@ -44,9 +53,8 @@ module _ (g : Grid) (cap d : ℕ) where
   growKids up p r = grow up p 1 1 (grow up p 1 0 (grow up p 0 1 (grow up p 0 0 r)))
 
   -- "by parents in their own order": n of them from p on
-  unfoldable pub growLevel : ℕ → ℕ → ℕ → Growth → Growth
-  growLevel up zero p r = r
-  growLevel up (suc n) p r = growLevel up n (p + 1) (growKids up p r)
+  abbrev pub growLevel : ℕ → ℕ → ℕ → Growth → Growth
+  growLevel up = eachRow (λ r p. growKids up p r)
 
   -- "level by level from the root": so many levels more, the last of them the rows from p up to the next number
   unfoldable pub growLevels : ℕ → ℕ → Growth → Growth
@@ -58,20 +66,19 @@ module _ (g : Grid) (cap d : ℕ) where
   groundFrom zero p r = p
   groundFrom (suc up) p r = groundFrom up (r .next) (growLevel up (r .next - p) p r)
 
-  -- a level-0 row of the rectangle is a cell: n rows from p on
-  unfoldable pub putGround : ℕ → ℕ → List ℤ → List ℤ
-  putGround zero p t = t
-  putGround (suc n) p t = putGround n (p + 1) (cond (ltb (wordOf t p 10) (g .columns) && ltb (wordOf t p 11) (g .rows)) (putWord t p 12 1) t)
-
-  unfoldable pub refreshRows : ℕ → ℕ → List ℤ → List ℤ
-  refreshRows zero p t = t
-  refreshRows (suc n) p t = refreshRows n (p + 1) (refreshed t cap d p)
-
   unfoldable pub start : Growth
   start = record { words = rootTable cap d; next = 2 }
 
-  unfoldable pub buildTable : List ℤ
-  buildTable =
+  -- the cells of level 0
+  unfoldable pub groundTable : List ℤ
+  groundTable =
       let r = growLevels d 1 start in
       let a = groundFrom d 1 start in
-      refreshRows (r .next - a) a (putGround (r .next - a) a (r .words))
+      eachRow (groundRow g) (r .next - a) a (r .words)
+
+  -- and then its walls, since points and cells are worked out from walls
+  unfoldable pub buildTable : List ℤ
+  buildTable =
+      let a = groundFrom d 1 start in
+      let n = growLevels d 1 start .next - a in
+      eachRow (markRow cap) n a (eachRow (wallRow cap d) n a groundTable)

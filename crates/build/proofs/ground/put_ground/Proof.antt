@@ -4,17 +4,17 @@ use Prim.Native.Nat.{_-_, _≤_}
 use mathlib.Core.Path.{_≡_, refl, sym, _∙_}
 use lib.ListN.{length}
 use Rattle.mesh.specs.Place.{rectangle}
-use Rattle.editing.specs.Built.{putGround}
-use Rattle.build.proofs.Grounds.{ground-on, ground-done}
+use Rattle.editing.specs.Built.{eachRow, groundRow}
+use Rattle.build.proofs.Turns.{rows-on, rows-done}
 use native.Mathlib.Omega.{arith}
 use Rattle.build.proofs.ground.put_ground.Statement.{statement}
 use Rattle.build.proofs.ground.put_ground.Tie as tie
 
 abbrev Inv-loop : tie.InvT-loop
-Inv-loop t₀ cap columns rows d a b n₀ t n = (a ≤ n) × (n ≤ b) × (length t ≡ length t₀) × (putGround (rectangle columns rows) cap d (b - a) a t₀ ≡ putGround (rectangle columns rows) cap d (b - n) n t)
+Inv-loop t₀ columns rows a b n₀ t n = (a ≤ n) × (n ≤ b) × (length t ≡ length t₀) × (eachRow (groundRow (rectangle columns rows)) (b - a) a t₀ ≡ eachRow (groundRow (rectangle columns rows)) (b - n) n t)
 
 abbrev μ-loop : tie.MeasureT-loop
-μ-loop t₀ cap columns rows d a b n₀ t n = b - n
+μ-loop t₀ columns rows a b n₀ t n = b - n
 
 loop-holds : tie.Need-loop-holds Inv-loop μ-loop
 loop-holds c = (omega arith, omega arith, refl, refl)
@@ -34,14 +34,14 @@ loop-again c =
       omega arith,
       omega arith,
       c .before .put-cell .kept .0 ∙ l .inv .2,
-      l .inv .3 ∙ ground-on _ _ _ (l .n) _ (l .t) _ (omega arith) (c .before .put-cell .ensures),
+      l .inv .3 ∙ rows-on _ (l .n) _ (l .t) _ (omega arith) (c .before .put-cell .ensures),
     )
 
 same-length : tie.Need-same-length Inv-loop μ-loop
 same-length c = c .before .loop .inv .2
 
 returns : tie.Need-returns Inv-loop μ-loop
-returns c = sym (c .before .loop .inv .3 ∙ ground-done _ _ _ (c .before .loop .n) _ (c .before .loop .t) (omega arith))
+returns c = sym (c .before .loop .inv .3 ∙ rows-done _ (c .before .loop .n) _ (c .before .loop .t) (omega arith))
 
 pub put-ground-spec : {M : Type 1} → statement M
 put-ground-spec =

@@ -7,7 +7,8 @@ use Rattle.mesh.specs.Place.{rectangle}
 use Rattle.editing.specs.Built.{growLevel}
 use Rattle.editing.proofs.Sprouts.{LevelToGrow}
 use Rattle.build.specs.Steps.{growth}
-use Rattle.build.proofs.Growths.{level-on, level-done, row-kids, row-rest}
+use Rattle.build.proofs.Turns.{rows-on, rows-done}
+use Rattle.build.proofs.Growths.{row-kids, row-rest}
 use native.Mathlib.Omega.{arith}
 use Rattle.build.proofs.grow.grow_level.Statement.{statement}
 use Rattle.build.proofs.grow.grow_level.Tie as tie
@@ -37,7 +38,7 @@ loop-again c =
       omega arith,
       omega arith,
       c .before .grow-kids .kept .0 ∙ l .inv .2,
-      l .inv .3 ∙ level-on _ _ _ e _ (l .q) _ (growth (l .t) (l .k)) _ (omega arith) (c .before .grow-kids .ensures),
+      l .inv .3 ∙ rows-on _ (l .q) _ (growth (l .t) (l .k)) _ (omega arith) (c .before .grow-kids .ensures),
       row-rest _ _ _ e _ (l .q) _ (growth (l .t) (l .k)) _ (omega arith) (l .inv .4) (c .before .grow-kids .ensures),
     )
 
@@ -45,7 +46,7 @@ same-length : tie.Need-same-length Inv-loop μ-loop
 same-length c = c .before .loop .inv .2
 
 returns : tie.Need-returns Inv-loop μ-loop
-returns c = sym (c .before .loop .inv .3 ∙ level-done _ _ _ (c .before .before .pre .3) _ (c .before .loop .q) _ (growth (c .before .loop .t) (c .before .loop .k)) (omega arith))
+returns c = sym (c .before .loop .inv .3 ∙ rows-done _ (c .before .loop .q) _ (growth (c .before .loop .t) (c .before .loop .k)) (omega arith))
 
 pub grow-level-spec : {M : Type 1} → statement M
 grow-level-spec =
