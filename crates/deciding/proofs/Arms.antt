@@ -2,7 +2,6 @@
 -- Assumes nothing.
 use Prim.Native.Nat.{ℕ, zero, suc, _+_, _-_, _*_, _≤_, _<_}
 use native.Mathlib.Omega.{arith}
-use native.Mathlib.Decide.{ℕ-discrete}
 use mathlib.Core.Path.{_≡_, refl, sym, ap, _∙_}
 use mathlib.Core.Logic.{_≢_}
 use mathlib.Core.Bool.{Bool, true, false, not, _&&_, _||_, cond}
@@ -10,16 +9,16 @@ use mathlib.Core.List.{List, [], _∷_}
 use lib.Dec.{eqb}
 use lib.IntN.{ℤ, pos}
 use lib.ListN.{set}
-use borrow.Author.Tests.{not-false, ne-eqb}
+use borrow.Author.Tests.{not-false, ne-eqb, le-leb, lt-leb}
 use Rattle.mesh.specs.Tools.{any, every}
 use Rattle.mesh.specs.Picture.{rowWords}
 use Rattle.mesh.specs.Refusal.{Check, _if_, refusal}
-use Rattle.table.specs.Words.{wordOf, linkOf, flagOf, vacant, taken}
+use Rattle.table.specs.Words.{wordOf, linkOf, flagOf, taken}
 use Rattle.table.proofs.Taken.{taken-within}
 use Rattle.numbering.proofs.Checks.{passes}
-use Rattle.stock.proofs.Searching.{NoneFrom, Found}
+use Rattle.stock.specs.Free.{enough, Counted}
 use Rattle.deciding.specs.Marks.{sentenceTable}
-use Rattle.deciding.specs.Decide.{enoughFrom, enough, kidsDoomed, lacking, otherUnder, row6, row7}
+use Rattle.deciding.specs.Decide.{kidsDoomed, lacking, otherUnder, row6, row7}
 
 -- ---- tests
 
@@ -63,61 +62,14 @@ pub sentence-written : (t : List ℤ) (n x y : ℕ) (b : Bool) → x ≡ wordOf 
 unfolding sentenceTable
 sentence-written t n x y b e f h = rw (e, h, f)
 
--- ---- the search for free numbers
+-- ---- the free numbers
 
-module _ (t : List ℤ) where
-  pub search-found : (m l k : ℕ) → m ≡ 0 → true ≡ enoughFrom t m l k
-  unfolding enoughFrom
-  search-found m zero k e = rw e
-  search-found m (suc l) k e = rw e
+module _ (t : List ℤ) (cap n : ℕ) {spare lacks : ℕ} (c : Counted cap t spare) (few : lacks ≤ 9) (is : lacks ≡ lacking t cap n) where
+  pub spare-enough : lacks ≤ spare → enough t cap (lacking t cap n) ≡ true
+  spare-enough l = rw (← is) (c .counts lacks few ∙ le-leb lacks spare l)
 
-  -- rows that are not free can be left out
-  search-past : (j m l k : ℕ) → ((i : ℕ) → k ≤ i → i < k + j → vacant t i ≡ false) → enoughFrom t m (j + l) k ≡ enoughFrom t m l (k + j)
-  unfolding enoughFrom
-  search-past zero m l k h = let a : 0 + l ≡ l = omega arith in let e : k + 0 ≡ k = omega arith in rw (a, e)
-  search-past (suc j) m l k h =
-      let a : suc j + l ≡ suc (j + l) = omega arith in
-      let z : m - 0 ≡ m = omega arith in
-      let e : suc k + j ≡ k + suc j = omega arith in
-      rw (a, h k (omega arith) (omega arith), z) (ap (λ (b : Bool). eqb m 0 || b) (search-past j m l (suc k) (λ i x y. h i (omega arith) (omega arith)) ∙ ap (enoughFrom t m l) e) ∙ found (ℕ-discrete m 0))
-    where
-      found : Dec (m ≡ 0) → (eqb m 0 || enoughFrom t m l (k + suc j)) ≡ enoughFrom t m l (k + suc j)
-      found (yes e) = rw (← search-found m l (k + suc j) e) (rw e)
-      found (no e) = rw (ne-eqb m 0 e)
-
-  search-on : (m l k : ℕ) → m ≢ 0 → vacant t k ≡ true → enoughFrom t m (suc l) k ≡ enoughFrom t (m - 1) l (suc k)
-  unfolding enoughFrom
-  search-on m l k z v = rw (ne-eqb m 0 z, v)
-
-  search-over : (m k : ℕ) → m ≢ 0 → enoughFrom t m 0 k ≡ false
-  unfolding enoughFrom
-  search-over m k z = ne-eqb m 0 z
-
-  module _ (cap : ℕ) where
-    -- the rows from low on up to the capacity
-    abbrev pub left : ℕ → ℕ → Bool
-    left m low = enoughFrom t m (cap + 1 - low) low
-
-    pub search-start : (m : ℕ) → enough t cap m ≡ left m 1
-    unfolding enough
-    search-start m = let e : cap + 1 - 1 ≡ cap = omega arith in rw e
-
-    -- the next free number is k, and one less is left to be found
-    pub search-next : {m low k m′ low′ : ℕ} → Found t cap low k → k ≢ 0 → m ≢ 0 → m′ ≡ m - 1 → low′ ≡ k + 1 → left m low ≡ left m′ low′
-    search-next {m} {low} {k} f z y e i =
-        let (a, b, v, n) = f .before z in
-        let c : cap + 1 - low ≡ k - low + suc (cap - k) = omega arith in
-        let g : low + (k - low) ≡ k = omega arith in
-        let h : cap + 1 - (k + 1) ≡ cap - k = omega arith in
-        let s : suc k ≡ k + 1 = omega arith in
-        ap (λ (x : ℕ). enoughFrom t m x low) c ∙ search-past (k - low) m (suc (cap - k)) low (λ j x w. n .none j x (omega arith)) ∙ ap (enoughFrom t m (suc (cap - k))) g ∙ search-on m (cap - k) k y v ∙ rw (e, i, h, s)
-
-    -- there is none
-    pub search-none : {m low k : ℕ} → Found t cap low k → k ≡ 0 → m ≢ 0 → left m low ≡ false
-    search-none {m} {low} f z y =
-        let n = f .nothing z in
-        let c : cap + 1 - low ≡ cap + 1 - low + 0 = omega arith in
-        ap (λ (x : ℕ). enoughFrom t m x low) c ∙ search-past (cap + 1 - low) m 0 low (λ j x w. n .none j x (omega arith)) ∙ search-over m (low + (cap + 1 - low)) y
+  pub spare-few : spare < lacks → enough t cap (lacking t cap n) ≡ false
+  spare-few l = rw (← is) (c .counts lacks few ∙ lt-leb lacks spare l)
 
 -- ---- the walk to another cell
 

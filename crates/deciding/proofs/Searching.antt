@@ -16,7 +16,7 @@ use Rattle.mesh.specs.Valid.{Valid}
 use Rattle.mesh.specs.Picture.{table}
 use Rattle.table.specs.Words.{vacant}
 use Rattle.pictures.proofs.Taken.{vacant-row}
-use Rattle.deciding.specs.Decide.{enoughFrom, enough}
+use Rattle.stock.specs.Free.{enoughFrom, enough}
 
 -- ---- one row more
 

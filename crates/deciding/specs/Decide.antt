@@ -1,8 +1,7 @@
 -- What a request is refused for, by the words of a table: what 01's checks ask, each of one row or a few, and the refusal of each kind of request.
 -- Assumes nothing.
-use Prim.Native.Nat.{ℕ, zero, suc, _+_, _-_, _≤_, _<_}
-use mathlib.Core.Path.{_≡_}
-use mathlib.Core.Bool.{Bool, false, not, _&&_, _||_, cond}
+use Prim.Native.Nat.{ℕ, zero, suc, _+_}
+use mathlib.Core.Bool.{Bool, not, _&&_}
 use mathlib.Core.List.{List, [], _∷_}
 use lib.Dec.{eqb}
 use lib.IntN.{ℤ}
@@ -10,13 +9,8 @@ use lib.Ieee.{Float}
 use Rattle.mesh.specs.Tools.{any, every, count}
 use Rattle.mesh.specs.Valid.{finite}
 use Rattle.mesh.specs.Refusal.{Check, _if_, refusal}
-use Rattle.table.specs.Words.{linkOf, flagOf, vacant, taken, depthOf}
-
-module _ (t : List ℤ) where
-  -- whether m of the l numbers from k on are free: the search ends as soon as they are found
-  unfoldable pub enoughFrom : ℕ → ℕ → ℕ → Bool
-  enoughFrom m zero k = eqb m 0
-  enoughFrom m (suc l) k = eqb m 0 || enoughFrom (m - cond (vacant t k) 1 0) l (suc k)
+use Rattle.table.specs.Words.{linkOf, flagOf, taken, depthOf}
+use Rattle.stock.specs.Free.{enough}
 
 module _ (t : List ℤ) (cap : ℕ) where
   -- a cell has kids exactly if its NE kid word is not 0: the point in its middle is a corner of its kids alone
@@ -47,9 +41,6 @@ module _ (t : List ℤ) (cap : ℕ) where
   unfoldable pub lacking : ℕ → ℕ
   lacking n = count (λ k. eqb k 0) (wantedRows n)
 
-  unfoldable pub enough : ℕ → Bool
-  enough m = enoughFrom t m cap 1
-
   -- whether a cell other than n lies so many levels under the row m: the walk ends at the first one
   unfoldable pub otherUnder : ℕ → ℕ → ℕ → Bool
   otherUnder n zero m = not (eqb m 0) && (flagOf t 0 m && not (eqb m n))
@@ -71,7 +62,7 @@ module _ (t : List ℤ) (cap : ℕ) where
     row10 = 10 if flagOf t 12 n
 
     abbrev pub row11 : Check
-    row11 = 11 if not (enough (lacking n))
+    row11 = 11 if not (enough t cap (lacking n))
 
     abbrev pub row13 : Check
     row13 = 13 if not (parental n)

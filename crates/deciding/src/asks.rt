@@ -1,15 +1,12 @@
 // What the checks ask of the rows of a table.
 ghost use mathlib.Core.Path.{_≡_};
 ghost use mathlib.Core.Bool.{cond};
-ghost use mathlib.Core.List.{[]};
 ghost use Prim.Native.Nat.{_+_, _*_, _<_, _≤_};
 ghost use lib.Dec.{eqb};
 ghost use lib.ListN.{length};
 ghost use Rattle.mesh.specs.Picture.{rowWords};
 ghost use Rattle.table.specs.Words.{linkOf, flagOf};
-ghost use Rattle.stock.specs.Stock.{Stocked};
-ghost use Rattle.deciding.specs.Decide.{parental, kidsDoomed, lacking, enough, otherUnder};
-use stock::find::next_free;
+ghost use Rattle.deciding.specs.Decide.{parental, kidsDoomed, lacking, otherUnder};
 use table::words::flag;
 use table::words::link;
 
@@ -61,24 +58,6 @@ pub fn lack_count(t: &[i32], cap: usize, n: usize) -> usize
     let above = lacks(t, cap, north, 3) + lacks(t, cap, north, 2);
     let beside = lacks(t, cap, east, 4) + lacks(t, cap, east, 3);
     own + above + beside + lacks(t, cap, far, 3)
-}
-
-// Whether m numbers are free.
-pub fn is_enough(t: &[i32], cap: usize, m: usize, stock: &[u16; 24]) -> bool
-    requires { ⌜ (cap * rowWords + rowWords ≤ length (now t)) × (cap ≤ 4095) × Stocked cap (now t) [] (now stock) ⌝ }
-    ensures { λ r. ⌜ r ≡ enough (now (t .entry)) cap m ⌝ }
-{
-    let mut left = m;
-    let mut low = 1;
-    while left > 0 {
-        let k = next_free(t, cap, low, stock);
-        if k == 0 {
-            return false;
-        }
-        low = k + 1;
-        left -= 1;
-    }
-    true
 }
 
 // Whether a cell other than n lies l levels under the row m: the walk ends at the first one.

@@ -5,10 +5,9 @@ ghost use Prim.Native.Nat.{_+_, _*_, _≤_};
 ghost use lib.ListN.{length};
 ghost use Rattle.mesh.specs.Picture.{rowWords};
 ghost use Rattle.mesh.specs.Refusal.{refusal};
-ghost use Rattle.stock.specs.Stock.{Stocked};
+ghost use Rattle.stock.specs.Free.{Counted};
 ghost use Rattle.deciding.specs.Decide.{row6, row7, refineRefusal, sentenceRefusal, removeRefusal, killRefusal, setRefusal};
 use crate::asks::has_kids;
-use crate::asks::is_enough;
 use crate::asks::kids_doomed;
 use crate::asks::lack_count;
 use crate::asks::other_under;
@@ -28,8 +27,9 @@ fn cell_refusal(t: &[i32], cap: usize, n: usize) -> u32
     if flag(t, 0, n) { 0 } else { 7 }
 }
 
-pub fn refine_refusal(t: &[i32], cap: usize, d: u32, n: usize, stock: &[u16; 24]) -> u32
-    requires { ⌜ (cap * rowWords + rowWords ≤ length (now t)) × (d ≤ 32) × (cap ≤ 4095) × Stocked cap (now t) [] (now stock) ⌝ }
+// With the count of the free numbers, up to nine.
+pub fn refine_refusal(t: &[i32], cap: usize, d: u32, n: usize, spare: usize) -> u32
+    requires { ⌜ (cap * rowWords + rowWords ≤ length (now t)) × (d ≤ 32) × (cap ≤ 4095) × Counted cap (now t) spare ⌝ }
     ensures { λ r. ⌜ r ≡ refineRefusal (now (t .entry)) cap d n ⌝ }
 {
     let r = cell_refusal(t, cap, n);
@@ -45,11 +45,7 @@ pub fn refine_refusal(t: &[i32], cap: usize, d: u32, n: usize, stock: &[u16; 24]
     if flag(t, 12, n) {
         return 10;
     }
-    if is_enough(t, cap, lack_count(t, cap, n), stock) {
-        0
-    } else {
-        11
-    }
+    if lack_count(t, cap, n) <= spare { 0 } else { 11 }
 }
 
 pub fn sentence_refusal(t: &[i32], cap: usize, d: u32, n: usize) -> u32

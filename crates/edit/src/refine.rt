@@ -26,7 +26,7 @@ fn kid_status(st: u32) -> u32
 }
 
 // Refines the cell n, with free numbers that are in stock.
-pub fn refine_table(t: &mut [i32], cap: usize, d: u32, n: usize, stock: &[u16; 24])
+pub fn refine_table(t: &mut [i32], cap: usize, d: u32, n: usize, stock: &[u16; 16])
     requires { ⌜ (cap * rowWords + rowWords ≤ length (now t)) × (cap ≤ 4095) × (n ≤ cap) × (d ≤ 32) × AllSmall 1048576 (now t) cap d × Plain (now t) cap × Stocked cap (now t) [] (now stock) ⌝ }
     ensures { λ _. ⌜ now (t .exit) ≡ refineTable cap d n (lending (now (t .entry)) 1) .words ⌝ }
 {
@@ -53,7 +53,7 @@ pub fn refine_values(t: &[i32], cap: usize, n: usize, v: &mut [f64])
 }
 
 // Refines the cell n, its values too.
-pub fn refine(t: &mut [i32], v: &mut [f64], cap: usize, d: u32, n: usize, stock: &[u16; 24])
+pub fn refine(t: &mut [i32], v: &mut [f64], cap: usize, d: u32, n: usize, stock: &[u16; 16])
     requires { ⌜ (cap * rowWords + rowWords ≤ length (now t)) × (cap < length (now v)) × (cap ≤ 4095) × (n ≤ cap) × (d ≤ 32) × AllSmall 1048576 (now t) cap d × Plain (now t) cap × Stocked cap (now t) [] (now stock) ⌝ }
     ensures { λ _. ⌜ (now (t .exit) ≡ refineTable cap d n (lending (now (t .entry)) 1) .words) × (now (v .exit) ≡ refineValues (now (t .exit)) cap n (now (v .entry))) ⌝ }
 {

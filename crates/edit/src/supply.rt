@@ -13,7 +13,7 @@ use crate::steps::link_in;
 use stock::find::next_free;
 
 // Links in the kid l, m of the row p, unless it is there; the next number to look for free ones from.
-fn supply(t: &mut [i32], cap: usize, d: u32, p: usize, l: u32, m: u32, stock: &[u16; 24], low: usize) -> usize
+fn supply(t: &mut [i32], cap: usize, d: u32, p: usize, l: u32, m: u32, stock: &[u16; 16], low: usize) -> usize
     requires { ⌜ (cap * rowWords + rowWords ≤ length (now t)) × (cap ≤ 4095) × (p ≤ cap) × (d ≤ 32) × (l < 2) × (m < 2) × (low ≤ cap + 1) × AllSmall 1073741824 (now t) cap d × Stocked cap (now t) [] (now stock) ⌝ }
     ensures { λ r. ⌜ (r ≤ cap + 1) × (lending (now (t .exit)) r ≡ supplied cap d (spot p l m) (lending (now (t .entry)) low)) ⌝ }
 {
@@ -26,7 +26,7 @@ fn supply(t: &mut [i32], cap: usize, d: u32, p: usize, l: u32, m: u32, stock: &[
 }
 
 // The four kids.
-pub fn supply_kids(t: &mut [i32], cap: usize, d: u32, n: usize, stock: &[u16; 24], low: usize) -> usize
+pub fn supply_kids(t: &mut [i32], cap: usize, d: u32, n: usize, stock: &[u16; 16], low: usize) -> usize
     requires { ⌜ (cap * rowWords + rowWords ≤ length (now t)) × (cap ≤ 4095) × (n ≤ cap) × (d ≤ 32) × (low ≤ cap + 1) × AllSmall 1048576 (now t) cap d × Stocked cap (now t) [] (now stock) ⌝ }
     ensures { λ r. ⌜ (r ≤ cap + 1) × (lending (now (t .exit)) r ≡ suppliedAll cap d (kidSpots (now (t .entry)) cap n) (lending (now (t .entry)) low)) ⌝ }
 {
@@ -44,7 +44,7 @@ pub fn supply_corners(
     north: usize,
     east: usize,
     both: usize,
-    stock: &[u16; 24],
+    stock: &[u16; 16],
     low: usize,
 ) -> usize
     requires { ⌜ (cap * rowWords + rowWords ≤ length (now t)) × (cap ≤ 4095) × (north ≤ cap) × (east ≤ cap) × (both ≤ cap) × (d ≤ 32) × (low ≤ cap + 1) × AllSmall 16777216 (now t) cap d × Stocked cap (now t) [] (now stock) ⌝ }

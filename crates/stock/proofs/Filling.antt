@@ -28,22 +28,24 @@ module _ {t : List ℤ} where
     room = f .room;
     below = λ i l. rw (getD-set-other s w i x 0 (λ e. omega arith)) (f .below i l);
     rises = λ i j a l. rw (getD-set-other s w i x 0 (λ e. omega arith), getD-set-other s w j x 0 (λ e. omega arith)) (f .rises i j a l);
+    free = λ i l. rw (getD-set-other s w i x 0 (λ e. omega arith)) (f .free i l);
     covers = λ k v l. kept-more x (omega arith) (f .covers k v l);
   }
 
   pub fill-skip : {s : List ℕ} {w b c : ℕ} → Filling t s w b → b ≤ c → ((k : ℕ) → b ≤ k → k < c → vacant t k ≡ true → ⊥) → Filling t s w c
-  fill-skip {s} {w} {b} {c} f l none = record { long = f .long; room = f .room; below = λ i a. let z = f .below i a in omega arith; rises = f .rises; covers = λ k v a. go k v a (decLt k b) }
+  fill-skip {s} {w} {b} {c} f l none = record { long = f .long; room = f .room; below = λ i a. let z = f .below i a in omega arith; rises = f .rises; free = f .free; covers = λ k v a. go k v a (decLt k b) }
     where
       go : (k : ℕ) → vacant t k ≡ true → k < c → Dec (k < b) → Kept s w k
       go k v a (yes y) = f .covers k v y
       go k v a (no y) = absurd (none k (omega (arith, y)) a v)
 
-  pub fill-push : {s : List ℕ} {w b : ℕ} → w < 23 → Filling t s w b → Filling t (set s w b) (w + 1) (b + 1)
-  fill-push {s} {w} {b} l f = record {
+  pub fill-push : {s : List ℕ} {w b : ℕ} → w < 15 → vacant t b ≡ true → Filling t s w b → Filling t (set s w b) (w + 1) (b + 1)
+  fill-push {s} {w} {b} l is-free f = record {
     long = length-set s w b ∙ f .long;
     room = omega arith;
     below = λ i a. go-below i a (decLt i w);
-    rises = λ i j a c. go-rises i j a c (decLt j w) (decLt i w);
+    rises = λ i j a c. go-rises i j a c (decLt j w);
+    free = λ i a. go-free i a (decLt i w);
     covers = λ k v a. go-covers k v a (ℕ-discrete k b);
   }
     where
@@ -57,10 +59,13 @@ module _ {t : List ℤ} where
       go-below i a (yes y) = let z = f .below i y in rw (other i y) (omega arith)
       go-below i a (no y) = let e : i ≡ w = omega (arith, y) in rw (e, here) (omega arith)
 
-      go-rises : (i j : ℕ) → i ≤ j → j < w + 1 → Dec (j < w) → Dec (i < w) → getD (set s w b) i 0 ≤ getD (set s w b) j 0
-      go-rises i j a c (yes y) _ = rw (other i (omega arith), other j y) (f .rises i j a y)
-      go-rises i j a c (no y) (yes z) = let e : j ≡ w = omega (arith, y) in let g = f .below i z in rw (e, here, other i z) (omega arith)
-      go-rises i j a c (no y) (no z) = let e : j ≡ i = omega (arith, y, z) in rw e (omega arith)
+      go-rises : (i j : ℕ) → i < j → j < w + 1 → Dec (j < w) → getD (set s w b) i 0 < getD (set s w b) j 0
+      go-rises i j a c (yes y) = rw (other i (omega arith), other j y) (f .rises i j a y)
+      go-rises i j a c (no y) = let e : j ≡ w = omega (arith, y) in let g = f .below i (omega arith) in rw (e, here, other i (omega arith)) (omega arith)
+
+      go-free : (i : ℕ) → i < w + 1 → Dec (i < w) → vacant t (getD (set s w b) i 0) ≡ true
+      go-free i a (yes y) = rw (other i y) (f .free i y)
+      go-free i a (no y) = let e : i ≡ w = omega (arith, y) in rw (e, here) is-free
 
       go-covers : (k : ℕ) → vacant t k ≡ true → k < b + 1 → Dec (k ≡ b) → Kept (set s w b) (w + 1) k
       go-covers k v a (yes e) = record { place = w; within = omega arith; is = here ∙ sym e }
@@ -75,8 +80,8 @@ module _ {t : List ℤ} {k next : ℕ} where
   pub counts-not : next ≤ k → Counts t k next 0
   counts-not l = record { once = omega arith; yes = λ e. absurd (omega arith); no = λ e a. absurd (omega arith) }
 
-  pub counts-one : k < next → Counts t k next 1
-  counts-one l = record { once = omega arith; yes = λ e. l; no = λ e. absurd (omega arith) }
+  pub counts-one : {x : ℕ} {b : Bool} → k < next → x ≡ k → b ≡ vacant t x → b ≡ true → Counts t k next 1
+  counts-one l i e z = record { once = omega arith; yes = λ y. (l, ap (vacant t) (sym i) ∙ sym e ∙ z); no = λ y. absurd (omega arith) }
 
   pub counts-none : {x : ℕ} {b : Bool} → x ≡ k → b ≡ vacant t x → b ≡ false → Counts t k next 0
   counts-none i e z = record { once = omega arith; yes = λ y. absurd (omega arith); no = λ y a. ap (vacant t) (sym i) ∙ sym e ∙ z }
@@ -85,20 +90,20 @@ module _ {t : List ℤ} {k next : ℕ} where
 
 -- up to the place i, they have moved to the first w places
 pub record Moving (t : List ℤ) (s₀ s : List ℕ) (i w : ℕ) : Type 0 where
-  pub to : i ≤ 23
+  pub to : i ≤ 15
   pub behind : w ≤ i
   pub filled : Filling t s w (getD s₀ i 0)
   pub same : (j : ℕ) → i ≤ j → getD s j 0 ≡ getD s₀ j 0
 
 module _ {cap : ℕ} {t : List ℤ} {s₀ : List ℕ} (h : Stocked cap t [] s₀) where
   -- between two neighbours none is free
-  gap : (i k : ℕ) → i < 23 → getD s₀ i 0 < k → k < getD s₀ (suc i) 0 → vacant t k ≡ true → ⊥
+  gap : (i k : ℕ) → i < 15 → getD s₀ i 0 < k → k < getD s₀ (suc i) 0 → vacant t k ≡ true → ⊥
   gap i k l a b v =
-      let top = h .rising .rises (suc i) 23 (omega arith) (omega arith) in
+      let top = h .rising .rises (suc i) 15 (omega arith) (omega arith) in
       let q = h .covers k v (omega arith) refl in
       go q (decLt i (q .place))
     where
-      go : (q : Kept s₀ 23 k) → Dec (i < q .place) → ⊥
+      go : (q : Kept s₀ 15 k) → Dec (i < q .place) → ⊥
       go q (yes y) = let z = h .rising .rises (suc i) (q .place) (omega arith) (omega (arith, q .within)) in omega (arith, q .is)
       go q (no y) = let z = h .rising .rises (q .place) i (omega (arith, y)) (omega arith) in omega (arith, q .is)
 
@@ -111,7 +116,8 @@ module _ {cap : ℕ} {t : List ℤ} {s₀ : List ℕ} (h : Stocked cap t [] s₀
       room = omega arith;
       below = λ i l. absurd (omega arith);
       rises = λ i j a l. absurd (omega arith);
-      covers = λ k v l. absurd (let top = h .rising .rises 0 23 (omega arith) (omega arith) in
+      free = λ i l. absurd (omega arith);
+      covers = λ k v l. absurd (let top = h .rising .rises 0 15 (omega arith) (omega arith) in
           let q = h .covers k v (omega arith) refl in
           let z = h .rising .rises 0 (q .place) (omega arith) (omega (arith, q .within)) in
           omega (arith, q .is));
@@ -119,7 +125,7 @@ module _ {cap : ℕ} {t : List ℤ} {s₀ : List ℕ} (h : Stocked cap t [] s₀
     same = λ j l. refl;
   }
 
-  pub moving-on : {s u : List ℕ} {i w k next c : ℕ} → Moving t s₀ s i w → i < 23 → k ≡ getD s i 0 → next ≡ getD s (i + 1) 0 → u ≡ set s w k → Counts t k next c → Moving t s₀ u (i + 1) (w + c)
+  pub moving-on : {s u : List ℕ} {i w k next c : ℕ} → Moving t s₀ s i w → i < 15 → k ≡ getD s i 0 → next ≡ getD s (i + 1) 0 → u ≡ set s w k → Counts t k next c → Moving t s₀ u (i + 1) (w + c)
   moving-on {s} {u} {i} {w} {k} {next} {c} m l e n g d = rw g (record {
     to = omega arith;
     behind = let b = m .behind in let o = d .once in omega arith;
@@ -150,16 +156,16 @@ module _ {cap : ℕ} {t : List ℤ} {s₀ : List ℕ} (h : Stocked cap t [] s₀
       go (no z) =
           let o = d .once in
           let y : c ≡ 1 = omega (arith, z) in
-          let x = d .yes y in
+          let (x, v) = d .yes y in
           let r = m .behind in
-          let f : Filling t (set s w k) (w + 1) (k + 1) = fill-push {s = s} (omega arith) (rw is-k (m .filled)) in
+          let f : Filling t (set s w k) (w + 1) (k + 1) = fill-push {s = s} (omega arith) v (rw is-k (m .filled)) in
           rw y (fill-skip f (omega (arith, is-next)) (λ j a b v. gap i j l (omega (arith, is-k)) (omega (arith, suc-i)) v))
 
-  pub next-within : {s : List ℕ} {i w : ℕ} → Moving t s₀ s i w → i < 23 → getD s (i + 1) 0 ≤ cap + 1
-  next-within {s} {i} m l = let e = m .same (i + 1) (omega arith) in let a = h .rising .rises (i + 1) 23 (omega arith) (omega arith) in let b = h .bounded in omega arith
+  pub next-within : {s : List ℕ} {i w : ℕ} → Moving t s₀ s i w → i < 15 → getD s (i + 1) 0 ≤ cap + 1
+  next-within {s} {i} m l = let e = m .same (i + 1) (omega arith) in let a = h .rising .rises (i + 1) 15 (omega arith) (omega arith) in let b = h .bounded in omega arith
 
-  pub moving-done : {s : List ℕ} {i w : ℕ} → Moving t s₀ s i w → 23 ≤ i → Filling t s w (getD s₀ 23 0)
-  moving-done {s} {i} {w} m l = let b = m .to in let e : i ≡ 23 = omega arith in rw e at (m .filled)
+  pub moving-done : {s : List ℕ} {i w : ℕ} → Moving t s₀ s i w → 15 ≤ i → Filling t s w (getD s₀ 15 0)
+  moving-done {s} {i} {w} m l = let b = m .to in let e : i ≡ 15 = omega arith in rw e at (m .filled)
 
 -- ---- more are found
 
@@ -171,7 +177,7 @@ module _ (cap : ℕ) {t : List ℤ} (nil : vacant t 0 ≡ false) {s : List ℕ} 
   hits n j x y v = let z : true ≡ false = sym v ∙ n .none j x y in let o : _≡_ {A = ℕ} 0 1 = cc in omega arith
 
   pub fill-found : {u : List ℕ} → w < 9 → k ≢ 0 → u ≡ set s w k → Filling t u (w + 1) (k + 1)
-  fill-found l z g = let (a, c, v, n) = found .before z in rw g (fill-push (omega arith) (fill-skip f a (hits n)))
+  fill-found l z g = let (a, c, v, n) = found .before z in rw g (fill-push (omega arith) v (fill-skip f a (hits n)))
 
   pub fill-all : b ≤ cap + 1 → k ≡ 0 → Filling t s w (cap + 1)
   fill-all l z = fill-skip f l (hits (found .nothing z))
@@ -180,15 +186,15 @@ module _ (cap : ℕ) {t : List ℤ} (nil : vacant t 0 ≡ false) {s : List ℕ} 
 
 -- up to the place i
 pub record Padding (s₀ s : List ℕ) (w b i : ℕ) : Type 0 where
-  pub long : length s ≡ 24
+  pub long : length s ≡ 16
   pub past : w ≤ i
   pub first : (j : ℕ) → j < w → getD s j 0 ≡ getD s₀ j 0
   pub rest : (j : ℕ) → w ≤ j → j < i → getD s j 0 ≡ b
 
-pub padding-none : {s : List ℕ} {w : ℕ} (b : ℕ) → length s ≡ 24 → Padding s s w b w
+pub padding-none : {s : List ℕ} {w : ℕ} (b : ℕ) → length s ≡ 16 → Padding s s w b w
 padding-none b long = record { long = long; past = omega arith; first = λ j l. refl; rest = λ j a l. absurd (omega arith) }
 
-pub padding-on : {s₀ s u : List ℕ} {w b i : ℕ} → Padding s₀ s w b i → i < 24 → u ≡ set s i b → Padding s₀ u w b (i + 1)
+pub padding-on : {s₀ s u : List ℕ} {w b i : ℕ} → Padding s₀ s w b i → i < 16 → u ≡ set s i b → Padding s₀ u w b (i + 1)
 padding-on {s₀} {s} {u} {w} {b} {i} f l e = rw e (record {
   long = length-set s i b ∙ f .long;
   past = let z = f .past in omega arith;
@@ -200,18 +206,22 @@ padding-on {s₀} {s} {u} {w} {b} {i} f l e = rw e (record {
     rest j a c (yes y) = rw y (getD-set-same s i b 0 (let n = f .long in omega arith))
     rest j a c (no y) = getD-set-other s i j b 0 y ∙ f .rest j a (omega (arith, y))
 
-pub padding-done : {s₀ s : List ℕ} {w b i : ℕ} → Padding s₀ s w b i → 24 ≤ i → Padded s₀ w b s
+pub padding-done : {s₀ s : List ℕ} {w b i : ℕ} → Padding s₀ s w b i → 16 ≤ i → Padded s₀ w b s
 padding-done f l = record { long = f .long; first = f .first; rest = λ j a c. f .rest j a (omega arith) }
 
 pub padded-stock : {cap : ℕ} {t : List ℤ} {s s′ : List ℕ} {w b : ℕ} → vacant t 0 ≡ false → b ≤ cap + 1 → Filling t s w b → Padded s w b s′ → Stocked cap t [] s′
 padded-stock {cap} {t} {s} {s′} {w} {b} nil l f p = record {
   nil = nil;
   rising = record { long = p .long; rises = λ i j a c. go i j a c (decLt j w) (decLt i w) };
-  bounded = let r = f .room in let e = p .rest 23 (omega arith) (omega arith) in omega arith;
-  covers = λ k v a _. let r = f .room in let e = p .rest 23 (omega arith) (omega arith) in let q = f .covers k v (omega arith) in record { place = q .place; within = omega (arith, q .within); is = p .first (q .place) (q .within) ∙ q .is };
+  bounded = let r = f .room in let e = p .rest 15 (omega arith) (omega arith) in omega arith;
+  covers = λ k v a _. let r = f .room in let e = p .rest 15 (omega arith) (omega arith) in let q = f .covers k v (omega arith) in record { place = q .place; within = omega (arith, q .within); is = p .first (q .place) (q .within) ∙ q .is };
 }
   where
-    go : (i j : ℕ) → i ≤ j → j < 24 → Dec (j < w) → Dec (i < w) → getD s′ i 0 ≤ getD s′ j 0
-    go i j a c (yes y) _ = let m = p .first i (omega arith) in let n = p .first j y in let o = f .rises i j a y in omega arith
+    at-most : (i j : ℕ) → i ≤ j → j < w → Dec (i ≡ j) → getD s i 0 ≤ getD s j 0
+    at-most i j a y (yes e) = rw e (omega arith)
+    at-most i j a y (no e) = let z = f .rises i j (omega (arith, e)) y in omega arith
+
+    go : (i j : ℕ) → i ≤ j → j < 16 → Dec (j < w) → Dec (i < w) → getD s′ i 0 ≤ getD s′ j 0
+    go i j a c (yes y) _ = let m = p .first i (omega arith) in let n = p .first j y in let o = at-most i j a y (ℕ-discrete i j) in omega arith
     go i j a c (no y) (yes z) = let m = p .first i z in let n = p .rest j (omega (arith, y)) c in let o = f .below i z in omega arith
     go i j a c (no y) (no z) = let m = p .rest i (omega (arith, z)) (omega arith) in let n = p .rest j (omega (arith, y)) c in omega arith

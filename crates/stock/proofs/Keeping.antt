@@ -36,10 +36,10 @@ module _ {s s′ : List ℕ} {k : ℕ} (n : Inserted s k s′) where
   p = n .place
 
   -- what stands at each place
-  at-place : (P : ℕ → Type 0) (j : ℕ) → j < 24 → (j < n .place → P (getD s j 0)) → (j ≡ n .place → P k) → ((i : ℕ) → n .place ≤ i → j ≡ suc i → P (getD s i 0)) → P (getD s′ j 0)
+  at-place : (P : ℕ → Type 0) (j : ℕ) → j < 16 → (j < n .place → P (getD s j 0)) → (j ≡ n .place → P k) → ((i : ℕ) → n .place ≤ i → j ≡ suc i → P (getD s i 0)) → P (getD s′ j 0)
   at-place P j l f g h = go (decLt j p) (ℕ-discrete j p)
     where
-      past : (j : ℕ) → j < 24 → p < j → ((i : ℕ) → n .place ≤ i → j ≡ suc i → P (getD s i 0)) → P (getD s′ j 0)
+      past : (j : ℕ) → j < 16 → p < j → ((i : ℕ) → n .place ≤ i → j ≡ suc i → P (getD s i 0)) → P (getD s′ j 0)
       past zero l a h = absurd (omega arith)
       past (suc i) l a h = rw (n .after i (omega arith) (omega arith)) (h i (omega arith) refl)
 
@@ -49,38 +49,38 @@ module _ {s s′ : List ℕ} {k : ℕ} (n : Inserted s k s′) where
       go (no a) (no e) = past j l (omega (arith, a, e)) h
 
   module _ (r : Rising s) where
-    inserted-rises : (i j : ℕ) → i ≤ j → j < 24 → getD s′ i 0 ≤ getD s′ j 0
+    inserted-rises : (i j : ℕ) → i ≤ j → j < 16 → getD s′ i 0 ≤ getD s′ j 0
     inserted-rises i j a l =
         at-place (λ x. x ≤ getD s′ j 0) i (omega arith)
         (λ c. at-place (λ y. getD s i 0 ≤ y) j l (λ d. r .rises i j a l) (λ d. n .lesser i c (omega arith)) (λ m d e. r .rises i m (omega arith) (omega arith)))
         (λ c. at-place (λ y. k ≤ y) j l (λ d. absurd (omega arith)) (λ d. omega arith) (λ m d e. let z = n .greater m d (omega arith) in omega arith))
         (λ b c f. at-place (λ y. getD s b 0 ≤ y) j l (λ d. absurd (omega arith)) (λ d. absurd (omega arith)) (λ m d e. r .rises b m (omega arith) (omega arith)))
 
-    inserted-top : getD s′ 23 0 ≤ getD s 23 0
-    inserted-top = at-place (λ x. x ≤ getD s 23 0) 23 (omega arith) (λ c. omega arith) (λ c. let z = n .greater 23 (omega arith) (omega arith) in omega arith) (λ i c e. r .rises i 23 (omega arith) (omega arith))
+    inserted-top : getD s′ 15 0 ≤ getD s 15 0
+    inserted-top = at-place (λ x. x ≤ getD s 15 0) 15 (omega arith) (λ c. omega arith) (λ c. let z = n .greater 15 (omega arith) (omega arith) in omega arith) (λ i c e. r .rises i 15 (omega arith) (omega arith))
 
     -- it is there, unless it is not below the bound
-    inserted-kept : k < getD s′ 23 0 → Kept s′ 23 k
-    inserted-kept l = go (decLt p 23)
+    inserted-kept : k < getD s′ 15 0 → Kept s′ 15 k
+    inserted-kept l = go (decLt p 15)
       where
-        not-less : 23 ≤ p → getD s′ 23 0 ≤ k
-        not-less b = at-place (λ x. x ≤ k) 23 (omega arith) (λ c. n .lesser 23 c (omega arith)) (λ c. omega arith) (λ i c e. absurd (omega arith))
+        not-less : 15 ≤ p → getD s′ 15 0 ≤ k
+        not-less b = at-place (λ x. x ≤ k) 15 (omega arith) (λ c. n .lesser 15 c (omega arith)) (λ c. omega arith) (λ i c e. absurd (omega arith))
 
-        go : Dec (p < 23) → Kept s′ 23 k
+        go : Dec (p < 15) → Kept s′ 15 k
         go (yes a) = record { place = p; within = a; is = n .here (omega arith) }
         go (no a) = absurd (let z = not-less (omega (arith, a)) in omega arith)
 
     -- and so is every other that was, below the bound
-    others-kept : (m : ℕ) → m < getD s′ 23 0 → Kept s 23 m → Kept s′ 23 m
-    others-kept m l q = go (decLt (q .place) p) (decLt (q .place) 22)
+    others-kept : (m : ℕ) → m < getD s′ 15 0 → Kept s 15 m → Kept s′ 15 m
+    others-kept m l q = go (decLt (q .place) p) (decLt (q .place) 14)
       where
-        go : Dec (q .place < p) → Dec (q .place < 22) → Kept s′ 23 m
+        go : Dec (q .place < p) → Dec (q .place < 14) → Kept s′ 15 m
         go (yes a) _ = record { place = q .place; within = q .within; is = n .before (q .place) a (omega (arith, q .within)) ∙ q .is }
         go (no a) (yes b) = record { place = suc (q .place); within = omega arith; is = n .after (q .place) (omega (arith, a)) (omega arith) ∙ q .is }
         go (no a) (no b) = absurd (let w = q .within in
-            let e : q .place ≡ 22 = omega (arith, b) in
-            let z = n .after 22 (omega (arith, a)) (omega arith) in
-            let y : getD s 22 0 ≡ m = ap (λ (x : ℕ). getD s x 0) (sym e) ∙ q .is in
+            let e : q .place ≡ 14 = omega (arith, b) in
+            let z = n .after 14 (omega (arith, a)) (omega arith) in
+            let y : getD s 14 0 ≡ m = ap (λ (x : ℕ). getD s x 0) (sym e) ∙ q .is in
             omega arith)
 
 not-either : (a b : Bool) → a ≡ false → b ≡ false → (a || b) ≡ false
@@ -94,7 +94,7 @@ inserted-stock {cap} {t} {ks} {s} {s′} {k} h n = record {
   covers = λ m v l f. go m v l f (ℕ-discrete m k);
 }
   where
-    go : (m : ℕ) → vacant t m ≡ true → m < getD s′ 23 0 → any (eqb m) ks ≡ false → Dec (m ≡ k) → Kept s′ 23 m
+    go : (m : ℕ) → vacant t m ≡ true → m < getD s′ 15 0 → any (eqb m) ks ≡ false → Dec (m ≡ k) → Kept s′ 15 m
     go m v l f (yes e) = rw e (inserted-kept n (h .rising) (omega arith))
     go m v l f (no e) = let a = inserted-top n (h .rising) in others-kept n (h .rising) m l (h .covers m v (omega arith) (not-either (eqb m k) (any (eqb m) ks) (ne-eqb m k e) f))
 
@@ -102,7 +102,7 @@ inserted-stock {cap} {t} {ks} {s} {s′} {k} h n = record {
 pub taken-stock : {cap : ℕ} {t : List ℤ} {ks s : List ℕ} {k : ℕ} {b : Bool} → Stocked cap t (k ∷ ks) s → b ≡ vacant t k → b ≡ false → Stocked cap t ks s
 taken-stock {cap} {t} {ks} {s} {k} h e z = record { nil = h .nil; rising = h .rising; bounded = h .bounded; covers = λ m v l f. go m v l f (ℕ-discrete m k) }
   where
-    go : (m : ℕ) → vacant t m ≡ true → m < getD s 23 0 → any (eqb m) ks ≡ false → Dec (m ≡ k) → Kept s 23 m
+    go : (m : ℕ) → vacant t m ≡ true → m < getD s 15 0 → any (eqb m) ks ≡ false → Dec (m ≡ k) → Kept s 15 m
     go m v l f (yes y) = absurd (let q : true ≡ false = sym v ∙ ap (vacant t) y ∙ sym e ∙ z in let o : _≡_ {A = ℕ} 0 1 = cc in omega arith)
     go m v l f (no y) = h .covers m v l (not-either (eqb m k) (any (eqb m) ks) (ne-eqb m k y) f)
 
@@ -117,19 +117,19 @@ module _ {cap : ℕ} {t : List ℤ} {ks s : List ℕ} (n : Nine cap ks) where
 -- ---- while the greater ones move up by a place
 
 pub record Shifting (s₀ s : List ℕ) (k i : ℕ) : Type 0 where
-  pub to : i ≤ 23
-  pub long : length s ≡ 24
+  pub to : i ≤ 15
+  pub long : length s ≡ 16
   pub before : (j : ℕ) → j ≤ i → getD s j 0 ≡ getD s₀ j 0
-  pub after : (j : ℕ) → i ≤ j → j < 23 → getD s (suc j) 0 ≡ getD s₀ j 0
-  pub greater : (j : ℕ) → i ≤ j → j < 24 → k < getD s₀ j 0
+  pub after : (j : ℕ) → i ≤ j → j < 15 → getD s (suc j) 0 ≡ getD s₀ j 0
+  pub greater : (j : ℕ) → i ≤ j → j < 16 → k < getD s₀ j 0
 
-pub shifting-none : {s : List ℕ} {k : ℕ} → Rising s → k < getD s 23 0 → Shifting s s k 23
+pub shifting-none : {s : List ℕ} {k : ℕ} → Rising s → k < getD s 15 0 → Shifting s s k 15
 shifting-none {s} {k} r l = record {
   to = omega arith;
   long = r .long;
   before = λ j a. refl;
   after = λ j a b. absurd (omega arith);
-  greater = λ j a b. let e : j ≡ 23 = omega arith in rw e l;
+  greater = λ j a b. let e : j ≡ 15 = omega arith in rw e l;
 }
 
 -- k goes where the number before it is not greater
@@ -159,23 +159,23 @@ shifting-on {s₀} {s} {u} {k} {i} {x} f l e g h = rw h (record {
     was : x ≡ getD s₀ (i - 1) 0
     was = e ∙ f .before (i - 1) (omega arith)
 
-    after : (j : ℕ) → i - 1 ≤ j → j < 23 → Dec (j ≡ i - 1) → getD (set s i x) (suc j) 0 ≡ getD s₀ j 0
+    after : (j : ℕ) → i - 1 ≤ j → j < 15 → Dec (j ≡ i - 1) → getD (set s i x) (suc j) 0 ≡ getD s₀ j 0
     after j a b (yes y) = let z : suc j ≡ i = omega arith in rw z (getD-set-same s i x 0 (let n = f .long in let m = f .to in omega arith) ∙ rw y was)
     after j a b (no y) = getD-set-other s i (suc j) x 0 (λ z. y (omega arith)) ∙ f .after j (omega (arith, y)) b
 
-    greater : (j : ℕ) → i - 1 ≤ j → j < 24 → Dec (j ≡ i - 1) → k < getD s₀ j 0
+    greater : (j : ℕ) → i - 1 ≤ j → j < 16 → Dec (j ≡ i - 1) → k < getD s₀ j 0
     greater j a b (yes y) = rw (y, ← was) g
     greater j a b (no y) = f .greater j (omega (arith, y)) b
 
 -- not below the bound, it is left out
-pub left-out : {s : List ℕ} {k : ℕ} → Rising s → getD s 23 0 ≤ k → Inserted s k s
+pub left-out : {s : List ℕ} {k : ℕ} → Rising s → getD s 15 0 ≤ k → Inserted s k s
 left-out {s} {k} r l = record {
   long = r .long;
-  place = 24;
+  place = 16;
   before = λ j a b. refl;
   here = λ a. absurd (omega arith);
   after = λ j a b. absurd (omega arith);
-  lesser = λ j a b. let z = r .rises j 23 (omega arith) (omega arith) in omega arith;
+  lesser = λ j a b. let z = r .rises j 15 (omega arith) (omega arith) in omega arith;
   greater = λ j a b. absurd (omega arith);
 }
 
@@ -183,14 +183,14 @@ left-out {s} {k} r l = record {
 
 -- the first i numbers
 pub record Lowering (s₀ s : List ℕ) (b i : ℕ) : Type 0 where
-  pub long : length s ≡ 24
+  pub long : length s ≡ 16
   pub done : (j : ℕ) → j < i → getD s j 0 ≡ getD s₀ j 0 - (getD s₀ j 0 - b)
   pub same : (j : ℕ) → i ≤ j → getD s j 0 ≡ getD s₀ j 0
 
-pub lowering-none : {s : List ℕ} (b : ℕ) → length s ≡ 24 → Lowering s s b 0
+pub lowering-none : {s : List ℕ} (b : ℕ) → length s ≡ 16 → Lowering s s b 0
 lowering-none b long = record { long = long; done = λ j l. absurd (omega arith); same = λ j l. refl }
 
-pub lowering-on : {s₀ s u : List ℕ} {b i x : ℕ} → Lowering s₀ s b i → i < 24 → x ≡ getD s i 0 - (getD s i 0 - b) → u ≡ set s i x → Lowering s₀ u b (i + 1)
+pub lowering-on : {s₀ s u : List ℕ} {b i x : ℕ} → Lowering s₀ s b i → i < 16 → x ≡ getD s i 0 - (getD s i 0 - b) → u ≡ set s i x → Lowering s₀ u b (i + 1)
 lowering-on {s₀} {s} {u} {b} {i} {x} f l e h = rw h (record {
   long = length-set s i x ∙ f .long;
   done = λ j a. done j a (ℕ-discrete j i);
@@ -201,15 +201,15 @@ lowering-on {s₀} {s} {u} {b} {i} {x} f l e h = rw h (record {
     done j a (yes y) = rw (y, getD-set-same s i x 0 (let n = f .long in omega arith)) (let z = f .same i (omega arith) in omega arith)
     done j a (no y) = getD-set-other s i j x 0 y ∙ f .done j (omega (arith, y))
 
-pub lowering-done : {s₀ s : List ℕ} {b i : ℕ} → Lowering s₀ s b i → 24 ≤ i → Lowered s₀ b s
+pub lowering-done : {s₀ s : List ℕ} {b i : ℕ} → Lowering s₀ s b i → 16 ≤ i → Lowered s₀ b s
 lowering-done f l = record { long = f .long; least = λ j a. f .done j (omega arith) }
 
 pub lowered-stock : {cap : ℕ} {t u : List ℤ} {s s′ : List ℕ} {b : ℕ} → Stocked cap t [] s → Lowered s b s′ → 1 ≤ b → ((k : ℕ) → k < b → vacant u k ≡ true → vacant t k ≡ true) → Stocked cap u [] s′
 lowered-stock {cap} {t} {u} {s} {s′} {b} h n one was = record {
   nil = nil (vacant u 0) refl;
   rising = record { long = n .long; rises = λ i j a l. let x = n .least i (omega arith) in let y = n .least j l in let z = h .rising .rises i j a l in omega arith };
-  bounded = let x = n .least 23 (omega arith) in let y = h .bounded in omega arith;
-  covers = λ k v l f. let x = n .least 23 (omega arith) in
+  bounded = let x = n .least 15 (omega arith) in let y = h .bounded in omega arith;
+  covers = λ k v l f. let x = n .least 15 (omega arith) in
       let q = h .covers k (was k (omega arith) v) (omega arith) refl in
       let y = n .least (q .place) (omega (arith, q .within)) in
       record { place = q .place; within = q .within; is = omega (arith, q .is) };
@@ -226,7 +226,7 @@ pub freed-stock : {cap : ℕ} {t u : List ℤ} {ks s : List ℕ} → Stocked cap
 freed-stock h z was = record { nil = z; rising = h .rising; bounded = h .bounded; covers = λ k v l f. h .covers k (was k f v) l refl }
 
 -- nothing is known
-pub no-stock : (cap : ℕ) {t : List ℤ} → vacant t 0 ≡ false → Stocked cap t [] (replicate 24 1)
+pub no-stock : (cap : ℕ) {t : List ℤ} → vacant t 0 ≡ false → Stocked cap t [] (replicate 16 1)
 no-stock cap {t} z = record {
   nil = z;
   rising = record { long = refl; rises = λ i j a l. let x = one i (omega arith) in let y = one j l in omega arith };
@@ -234,5 +234,5 @@ no-stock cap {t} z = record {
   covers = λ k v l f. absurd (let e : k ≡ 0 = omega arith in let q : true ≡ false = sym v ∙ ap (vacant t) e ∙ z in let o : _≡_ {A = ℕ} 0 1 = cc in omega arith);
 }
   where
-    one : (i : ℕ) → i < 24 → _≡_ {A = ℕ} (getD (replicate 24 1) i 0) 1
-    one i l = getD-replicate 24 i 1 0 l
+    one : (i : ℕ) → i < 16 → _≡_ {A = ℕ} (getD (replicate 16 1) i 0) 1
+    one i l = getD-replicate 16 i 1 0 l

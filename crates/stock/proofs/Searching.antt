@@ -96,26 +96,26 @@ module _ {t : List ℤ} {low bound k : ℕ} where
 module _ {cap : ℕ} {t : List ℤ} {s : List ℕ} (h : Stocked cap t [] s) (low : ℕ) where
   -- none of the first i numbers is free, from low on and below the bound
   pub record Passed (i : ℕ) : Type 0 where
-    pub none : (j : ℕ) → j < i → low ≤ getD s j 0 → getD s j 0 < getD s 23 0 → vacant t (getD s j 0) ≡ false
+    pub none : (j : ℕ) → j < i → low ≤ getD s j 0 → getD s j 0 < getD s 15 0 → vacant t (getD s j 0) ≡ false
 
   pub passed-none : Passed 0
   passed-none = record { none = λ j l. absurd (omega arith) }
 
-  pub passed-all : {i : ℕ} → Passed i → 23 ≤ i → Passed 23
+  pub passed-all : {i : ℕ} → Passed i → 15 ≤ i → Passed 15
   passed-all p l = record { none = λ j a. p .none j (omega arith) }
 
-  pub passed-more : {i k : ℕ} {b : Bool} → Passed i → k ≡ getD s i 0 → Suits t low (getD s 23 0) k b → b ≡ false → Passed (i + 1)
+  pub passed-more : {i k : ℕ} {b : Bool} → Passed i → k ≡ getD s i 0 → Suits t low (getD s 15 0) k b → b ≡ false → Passed (i + 1)
   passed-more {i} {k} p e u z = record { none = λ j l. go j l (decLt j i) }
     where
-      go : (j : ℕ) → j < i + 1 → Dec (j < i) → low ≤ getD s j 0 → getD s j 0 < getD s 23 0 → vacant t (getD s j 0) ≡ false
+      go : (j : ℕ) → j < i + 1 → Dec (j < i) → low ≤ getD s j 0 → getD s j 0 < getD s 15 0 → vacant t (getD s j 0) ≡ false
       go j l (yes y) = p .none j y
       go j l (no y) = let q : j ≡ i = omega (arith, y) in rw (q, ← e) (u .no z)
 
   -- a free number that the search has not come by is at or past the place i
-  past : {i : ℕ} → Passed i → (k : ℕ) → low ≤ k → vacant t k ≡ true → k < getD s 23 0 → ((a : ℕ) → i ≤ a → a < 23 → getD s a 0 ≡ k → ⊥) → ⊥
+  past : {i : ℕ} → Passed i → (k : ℕ) → low ≤ k → vacant t k ≡ true → k < getD s 15 0 → ((a : ℕ) → i ≤ a → a < 15 → getD s a 0 ≡ k → ⊥) → ⊥
   past {i} p k l v b f = let q = h .covers k v b refl in go q (decLt (q .place) i)
     where
-      go : (q : Kept s 23 k) → Dec (q .place < i) → ⊥
+      go : (q : Kept s 15 k) → Dec (q .place < i) → ⊥
       go q (yes y) = let z : true ≡ false = sym v ∙ ap (vacant t) (sym (q .is)) ∙ p .none (q .place) y (omega (arith, q .is)) (omega (arith, q .is)) in let o : _≡_ {A = ℕ} 0 1 = cc in omega arith
       go q (no y) = f (q .place) (omega (arith, y)) (q .within) (q .is)
 
@@ -126,14 +126,14 @@ module _ {cap : ℕ} {t : List ℤ} {s : List ℕ} (h : Stocked cap t [] s) (low
       go j a b true e = absurd (f j a b e)
       go j a b false e = e
 
-  pub stock-found : {i k : ℕ} {b : Bool} → Passed i → i < 23 → k ≡ getD s i 0 → Suits t low (getD s 23 0) k b → b ≡ true → (k ≤ cap) × (k ≡ freeFrom t (cap + 1 - low) low)
+  pub stock-found : {i k : ℕ} {b : Bool} → Passed i → i < 15 → k ≡ getD s i 0 → Suits t low (getD s 15 0) k b → b ≡ true → (k ≤ cap) × (k ≡ freeFrom t (cap + 1 - low) low)
   stock-found {i} {k} p l e u z =
       let (a, b, v) = u .yes z in
       let top = h .bounded in
       let none : NoneFrom t cap low k = none-from k (λ j x y w. past p j x w (omega arith) (λ c m n o. let r = h .rising .rises i c m (omega arith) in omega arith)) in
       (omega arith, sym (free-past t cap (k - low) low k (omega arith) (omega arith) none ∙ free-here t cap k (omega arith) (sym v) refl))
 
-  pub stock-over : {m r : ℕ} → Passed 23 → low ≤ cap + 1 → m ≡ low + (getD s 23 0 - low) → r ≡ freeFrom t (cap + 1 - m) m → r ≡ freeFrom t (cap + 1 - low) low
+  pub stock-over : {m r : ℕ} → Passed 15 → low ≤ cap + 1 → m ≡ low + (getD s 15 0 - low) → r ≡ freeFrom t (cap + 1 - m) m → r ≡ freeFrom t (cap + 1 - low) low
   stock-over {m} p l e f =
       let top = h .bounded in
       let none : NoneFrom t cap low m = none-from m (λ j x y w. past p j x w (omega arith) (λ c n o q. omega arith)) in

@@ -1,13 +1,29 @@
 -- The free numbers of a table, in turn.
 -- Assumes nothing.
-use Prim.Native.Nat.{ℕ, zero, suc, _+_}
-use mathlib.Core.Bool.{cond}
+use Prim.Native.Nat.{ℕ, zero, suc, _+_, _-_, _≤_}
+use mathlib.Core.Path.{_≡_}
+use mathlib.Core.Bool.{Bool, _||_, cond}
 use mathlib.Core.List.{List}
-use lib.Dec.{eqb}
+use lib.Dec.{eqb, leb}
 use lib.IntN.{ℤ}
-use Rattle.table.specs.Words.{wordOf}
+use Rattle.table.specs.Words.{wordOf, vacant}
 
 -- the smallest free number from k on, among the next n; 0 if there is none
 unfoldable pub freeFrom : List ℤ → ℕ → ℕ → ℕ
 freeFrom t zero k = 0
 freeFrom t (suc n) k = cond (eqb (wordOf t k 12) 8192) k (freeFrom t n (k + 1))
+
+-- ---- how many there are
+
+-- whether m of the l numbers from k on are free: the search ends as soon as they are found
+unfoldable pub enoughFrom : List ℤ → ℕ → ℕ → ℕ → Bool
+enoughFrom t m zero k = eqb m 0
+enoughFrom t m (suc l) k = eqb m 0 || enoughFrom t (m - cond (vacant t k) 1 0) l (suc k)
+
+-- whether m numbers are free
+unfoldable pub enough : List ℤ → ℕ → ℕ → Bool
+enough t cap m = enoughFrom t m cap 1
+
+-- r numbers are free, or nine at least and r of them are known
+pub record Counted (cap : ℕ) (t : List ℤ) (r : ℕ) : Type 0 where
+  pub counts : (m : ℕ) → m ≤ 9 → enough t cap m ≡ leb m r

@@ -51,13 +51,13 @@ fn greater(a: usize, b: usize) -> usize
 }
 
 // The smallest free number from low on, or 0 if there is none.
-pub fn next_free(t: &[i32], cap: usize, low: usize, stock: &[u16; 24]) -> usize
+pub fn next_free(t: &[i32], cap: usize, low: usize, stock: &[u16; 16]) -> usize
     requires { ⌜ (cap * rowWords + rowWords ≤ length (now t)) × (cap ≤ 4095) × (low ≤ cap + 1) × Stocked cap (now t) [] (now stock) ⌝ }
     ensures { λ r. ⌜ (r ≤ cap) × (r ≡ freeFrom (now (t .entry)) (cap + 1 - low) low) ⌝ }
 {
-    let bound = wide(stock[23]);
+    let bound = wide(stock[15]);
     let mut i = 0;
-    while i < 23 {
+    while i < 15 {
         let k = wide(stock[i]);
         if suits(t, cap, low, bound, k) {
             return k;

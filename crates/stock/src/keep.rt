@@ -9,14 +9,14 @@ use crate::find::wide;
 use table::words::is_vacant;
 
 // The number k in its place; the greatest is left out.
-fn keep(stock: &mut [u16; 24], k: u16)
+fn keep(stock: &mut [u16; 16], k: u16)
     requires { ⌜ Rising (now stock) ⌝ }
     ensures { λ _. ⌜ Inserted (now (stock .entry)) k (now (stock .exit)) ⌝ }
 {
-    if stock[23] <= k {
+    if stock[15] <= k {
         return;
     }
-    let mut i = 23;
+    let mut i = 15;
     while i > 0 {
         let x = stock[i - 1];
         if x <= k {
@@ -30,7 +30,7 @@ fn keep(stock: &mut [u16; 24], k: u16)
 }
 
 // The number k, if it is free.
-fn keep_free(t: &[i32], stock: &mut [u16; 24], k: u16)
+fn keep_free(t: &[i32], stock: &mut [u16; 16], k: u16)
     requires { ⌜ (k * rowWords + rowWords ≤ length (now t)) × Rising (now stock) ⌝ }
     ensures { λ _. ⌜ ((cap : ℕ) (ks : List ℕ) → Stocked cap (now (t .entry)) (k ∷ ks) (now (stock .entry)) → Stocked cap (now (t .entry)) ks (now (stock .exit))) ⌝ }
 {
@@ -40,7 +40,7 @@ fn keep_free(t: &[i32], stock: &mut [u16; 24], k: u16)
 }
 
 // Those of nine numbers that are free.
-pub fn keep_nine(t: &[i32], cap: usize, stock: &mut [u16; 24], near: &[u16; 9])
+pub fn keep_nine(t: &[i32], cap: usize, stock: &mut [u16; 16], near: &[u16; 9])
     requires { ⌜ (cap * rowWords + rowWords ≤ length (now t)) × (cap ≤ 4095) × Nine cap (now near) × Stocked cap (now t) (now near) (now stock) ⌝ }
     ensures { λ _. ⌜ Stocked cap (now (t .entry)) [] (now (stock .exit)) ⌝ }
 {
@@ -58,12 +58,12 @@ fn lesser(a: u16, b: u16) -> u16
 }
 
 // No number of the stock is greater than b.
-pub fn lower(stock: &mut [u16; 24], b: u16)
-    requires { ⌜ length (now stock) ≡ 24 ⌝ }
+pub fn lower(stock: &mut [u16; 16], b: u16)
+    requires { ⌜ length (now stock) ≡ 16 ⌝ }
     ensures { λ _. ⌜ Lowered (now (stock .entry)) b (now (stock .exit)) ⌝ }
 {
     let mut i = 0;
-    while i < 24 {
+    while i < 16 {
         stock[i] = lesser(stock[i], b);
         i += 1;
     }

@@ -6,6 +6,7 @@ ghost use Prim.Native.Nat.{_+_, _*_, _<_, _≤_};
 ghost use lib.ListN.{length, getD};
 ghost use Rattle.mesh.specs.Picture.{rowWords};
 ghost use Rattle.table.specs.Words.{vacant};
+ghost use Rattle.stock.specs.Free.{Counted};
 ghost use Rattle.stock.specs.Stock.{Stocked, Filling, Padded, Counts};
 use crate::find::scan;
 use crate::find::wide;
@@ -23,13 +24,13 @@ fn counts(t: &[i32], cap: usize, k: u16, next: u16) -> usize
 }
 
 // Moves those that are free to the front; how many.
-fn leave_taken(t: &[i32], cap: usize, stock: &mut [u16; 24]) -> usize
+fn leave_taken(t: &[i32], cap: usize, stock: &mut [u16; 16]) -> usize
     requires { ⌜ (cap * rowWords + rowWords ≤ length (now t)) × (cap ≤ 4095) × Stocked cap (now t) [] (now stock) ⌝ }
-    ensures { λ r. ⌜ Filling (now (t .entry)) (now (stock .exit)) r (getD (now (stock .entry)) 23 0) ⌝ }
+    ensures { λ r. ⌜ Filling (now (t .entry)) (now (stock .exit)) r (getD (now (stock .entry)) 15 0) ⌝ }
 {
     let mut i = 0;
     let mut w = 0;
-    while i < 23 {
+    while i < 15 {
         let k = stock[i];
         let next = stock[i + 1];
         stock[w] = k;
@@ -46,9 +47,9 @@ pub struct Fill {
 }
 
 // Finds more until there are nine.
-fn find_more(t: &[i32], cap: usize, stock: &mut [u16; 24], count: usize, bound: usize) -> Fill
+fn find_more(t: &[i32], cap: usize, stock: &mut [u16; 16], count: usize, bound: usize) -> Fill
     requires { ⌜ (cap * rowWords + rowWords ≤ length (now t)) × (cap ≤ 4095) × (bound ≤ cap + 1) × (vacant (now t) 0 ≡ false) × Filling (now t) (now stock) count bound ⌝ }
-    ensures { λ r. ⌜ (r .bound ≤ cap + 1) × Filling (now (t .entry)) (now (stock .exit)) (r .count) (r .bound) ⌝ }
+    ensures { λ r. ⌜ (r .bound ≤ cap + 1) × Filling (now (t .entry)) (now (stock .exit)) (r .count) (r .bound) × (r .count < 9 → r .bound ≡ cap + 1) ⌝ }
 {
     let mut w = count;
     let mut b = bound;
@@ -68,23 +69,25 @@ fn find_more(t: &[i32], cap: usize, stock: &mut [u16; 24], count: usize, bound: 
 }
 
 // The numbers from the place w on are b.
-fn pad(stock: &mut [u16; 24], w: usize, b: u16)
-    requires { ⌜ (w ≤ 24) × (length (now stock) ≡ 24) ⌝ }
+fn pad(stock: &mut [u16; 16], w: usize, b: u16)
+    requires { ⌜ (w ≤ 16) × (length (now stock) ≡ 16) ⌝ }
     ensures { λ _. ⌜ Padded (now (stock .entry)) w b (now (stock .exit)) ⌝ }
 {
     let mut i = w;
-    while i < 24 {
+    while i < 16 {
         stock[i] = b;
         i += 1;
     }
 }
 
-pub fn restock(t: &[i32], cap: usize, stock: &mut [u16; 24])
+// How many numbers are in stock then.
+pub fn restock(t: &[i32], cap: usize, stock: &mut [u16; 16]) -> usize
     requires { ⌜ (cap * rowWords + rowWords ≤ length (now t)) × (cap ≤ 4095) × Stocked cap (now t) [] (now stock) ⌝ }
-    ensures { λ _. ⌜ Stocked cap (now (t .entry)) [] (now (stock .exit)) ⌝ }
+    ensures { λ r. ⌜ Stocked cap (now (t .entry)) [] (now (stock .exit)) × Counted cap (now (t .entry)) r ⌝ }
 {
-    let bound = wide(stock[23]);
+    let bound = wide(stock[15]);
     let w = leave_taken(t, cap, stock);
     let f = find_more(t, cap, stock, w, bound);
     pad(stock, f.count, f.bound as u16);
+    f.count
 }

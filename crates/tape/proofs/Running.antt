@@ -32,7 +32,7 @@ module _ (bytes : List ℕ) (cap d mark₀ : ℕ) (t₀ : List ℤ) (v₀ : List
     pub present : (s : State) (columns rows : ℕ) → Drawn s columns rows mark₀ cap t₀ v₀ → base (rectangle columns rows) ≡ d → Present s columns rows mark cap t v bytes at done
     pub stocked : Stocked cap t [] s
 
-  pub starts : Pictured mark₀ cap d t₀ v₀ → Ongoing t₀ v₀ (replicate 24 1) 0 0 mark₀
+  pub starts : Pictured mark₀ cap d t₀ v₀ → Ongoing t₀ v₀ (replicate 16 1) 0 0 mark₀
   unfolding run
   starts q = record { within = omega arith; few = omega arith; present = λ s columns rows p e. record { state = s; drawn = p; goes-on = refl }; stocked = no-stock cap (drawn-nil (q .drawn)) }
 

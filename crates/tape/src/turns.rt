@@ -19,7 +19,7 @@ pub struct Turn {
 fn turn_at(
     t: &mut [i32],
     v: &mut [f64],
-    stock: &mut [u16; 24],
+    stock: &mut [u16; 16],
     cap: usize,
     d: u32,
     tape: &[u8],
@@ -66,7 +66,7 @@ pub fn run_tape(t: &mut [i32], v: &mut [f64], cap: usize, d: u32, mark: u16, tap
     let mut at = 0;
     let mut done = 0;
     let mut m = mark;
-    let mut stock = [1u16; 24];
+    let mut stock = [1u16; 16];
     while at < tape.len() {
         let s = turn_at(t, v, &mut stock, cap, d, tape, at);
         if s.why != 0 {

@@ -2,14 +2,14 @@
 -- Assumes nothing.
 use Prim.Native.Nat.{ℕ, _≤_}
 use native.Mathlib.Omega.{arith}
-use mathlib.Core.Path.{sym, _∙_, ap}
+use mathlib.Core.Path.{sym, _∙_}
 use mathlib.Core.List.{List}
 use lib.ListN.{drop}
 use borrow.Author.Needs.{needs}
 use Rattle.mesh.specs.Refusal.{Check}
 use Rattle.table.proofs.Tests.{is-eq, is-other}
-use Rattle.deciding.specs.Decide.{refineRows, refineRefusal, enough}
-use Rattle.deciding.proofs.Arms.{Refused, accepts, first-two, goes-on, goes-on-not, past-le, past-two, refused, stops, stops-not}
+use Rattle.deciding.specs.Decide.{refineRows, refineRefusal}
+use Rattle.deciding.proofs.Arms.{Refused, accepts, first-two, goes-on, goes-on-not, past-le, past-two, refused, spare-enough, spare-few, stops, stops-not}
 use Rattle.deciding.proofs.refusals.refine_refusal.Statement.{statement}
 use Rattle.deciding.proofs.refusals.refine_refusal.Tie as tie
 use Rattle.deciding.proofs.refusals.refine_refusal.Reads as reads
@@ -19,10 +19,9 @@ use Rattle.deciding.proofs.asks.has_kids.Reads as has-kids-reads
 use Rattle.table.proofs.words.depth.Reads as depth-reads
 use Rattle.table.proofs.words.flag.Reads as flag-reads
 use Rattle.deciding.proofs.asks.lack_count.Reads as lack-count-reads
-use Rattle.deciding.proofs.asks.is_enough.Reads as is-enough-reads
 
 abbrev claims : lts.Claims
-claims = (cell-refusal-reads.Asked, cell-refusal-reads.Learnt, has-kids-reads.Asked, has-kids-reads.Learnt, depth-reads.Asked, depth-reads.Learnt, flag-reads.Asked, flag-reads.Learnt, lack-count-reads.Asked, lack-count-reads.Learnt, is-enough-reads.Asked, is-enough-reads.Learnt)
+claims = (cell-refusal-reads.Asked, cell-refusal-reads.Learnt, has-kids-reads.Asked, has-kids-reads.Learnt, depth-reads.Asked, depth-reads.Learnt, flag-reads.Asked, flag-reads.Learnt, lack-count-reads.Asked, lack-count-reads.Learnt)
 
 abbrev rows : lts.Start claims reads.Pre reads.Post → List Check
 rows c = refineRows (c .args .t .now) (c .args .cap) (c .args .d) (c .args .n)
@@ -80,16 +79,13 @@ returns-4 c = refused _ 10 (past-level (c .before .before) (stops (sym (c .befor
 lack-count-requires : tie.Need-lack-count-requires
 lack-count-requires c κs = omega (arith, within (c .before .before .before .before .before .before))
 
-is-enough-requires : tie.Need-is-enough-requires
-is-enough-requires c κs = search needs
-
 returns-5 : tie.Need-returns-5
 unfolding refineRefusal
-returns-5 c = refused _ 0 (past-sentence (c .before .before .before) (goes-on-not (sym (c .before .is-enough .ensures ∙ ap (enough _ _) (c .before .before .lack-count .ensures .1)) ∙ c .if5 .taken) accepts))
+returns-5 c = refused _ 0 (past-sentence (c .before .before) (goes-on-not (spare-enough _ _ _ (c .before .before .before .before .before .before .before .before .before .before .pre .3) (c .before .lack-count .ensures .0) (c .before .lack-count .ensures .1) (c .if5 .taken)) accepts))
 
 returns-6 : tie.Need-returns-6
 unfolding refineRefusal
-returns-6 c = refused _ 11 (past-sentence (c .before .before .before) (stops-not (sym (c .before .is-enough .ensures ∙ ap (enough _ _) (c .before .before .lack-count .ensures .1)) ∙ c .if5 .left)))
+returns-6 c = refused _ 11 (past-sentence (c .before .before) (stops-not (spare-few _ _ _ (c .before .before .before .before .before .before .before .before .before .before .pre .3) (c .before .lack-count .ensures .0) (c .before .lack-count .ensures .1) (omega arith))))
 
 pub refine-refusal-spec : {M : Type 1} → statement M
 refine-refusal-spec =
@@ -105,6 +101,5 @@ refine-refusal-spec =
     flag-requires
     returns-4
     lack-count-requires
-    is-enough-requires
     returns-5
     returns-6)

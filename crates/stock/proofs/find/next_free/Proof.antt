@@ -12,10 +12,10 @@ use Rattle.stock.proofs.find.next_free.Statement.{statement}
 use Rattle.stock.proofs.find.next_free.Tie as tie
 
 abbrev Inv-loop : tie.InvT-loop
-Inv-loop t cap low stock bound i₀ i = (i ≤ 23) × (bound ≡ getD stock 23 0) × ((h : Stocked cap t [] stock) → Passed h low i)
+Inv-loop t cap low stock bound i₀ i = (i ≤ 15) × (bound ≡ getD stock 15 0) × ((h : Stocked cap t [] stock) → Passed h low i)
 
 abbrev μ-loop : tie.MeasureT-loop
-μ-loop t cap low stock bound i₀ i = 23 - i
+μ-loop t cap low stock bound i₀ i = 15 - i
 
 element-copy-out-wide : tie.Need-element-copy-out-wide Inv-loop μ-loop
 element-copy-out-wide c = omega arith

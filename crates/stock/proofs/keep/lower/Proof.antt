@@ -9,10 +9,10 @@ use Rattle.stock.proofs.keep.lower.Statement.{statement}
 use Rattle.stock.proofs.keep.lower.Tie as tie
 
 abbrev Inv-loop : tie.InvT-loop
-Inv-loop stock₀ b i₀ stock i = (i ≤ 24) × Lowering stock₀ stock b i
+Inv-loop stock₀ b i₀ stock i = (i ≤ 16) × Lowering stock₀ stock b i
 
 abbrev μ-loop : tie.MeasureT-loop
-μ-loop stock₀ b i₀ stock i = 24 - i
+μ-loop stock₀ b i₀ stock i = 16 - i
 
 loop-holds : tie.Need-loop-holds Inv-loop μ-loop
 loop-holds c = (omega arith, lowering-none _ (c .pre))

@@ -16,7 +16,7 @@ is-vacant-requires : tie.Need-is-vacant-requires
 is-vacant-requires c κs = search needs
 
 returns-2 : tie.Need-returns-2
-returns-2 c = counts-one (omega arith)
+returns-2 c = counts-one (omega arith) (c .before .before .wide .ensures) (c .before .is-vacant .ensures) (c .if2 .taken)
 
 returns-3 : tie.Need-returns-3
 returns-3 c = counts-none (c .before .before .wide .ensures) (c .before .is-vacant .ensures) (c .if2 .left)

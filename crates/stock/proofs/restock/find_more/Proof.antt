@@ -26,7 +26,7 @@ add-t10 : tie.Need-add-t10 Inv-loop μ-loop
 add-t10 c = omega arith
 
 returns : tie.Need-returns Inv-loop μ-loop
-returns c = (omega arith, fill-all _ (c .before .before .before .before .pre .3) (c .before .before .before .loop .inv .1) (c .before .scan .ensures .1) (omega arith) (c .if1 .taken))
+returns c = (omega arith, fill-all _ (c .before .before .before .before .pre .3) (c .before .before .before .loop .inv .1) (c .before .scan .ensures .1) (omega arith) (c .if1 .taken), λ _. refl)
 
 cast-stock : tie.Need-cast-stock Inv-loop μ-loop
 cast-stock c = omega arith
@@ -50,7 +50,7 @@ loop-again : tie.Need-loop-again Inv-loop μ-loop
 loop-again c = (omega arith, fill-found _ (c .before .before .before .before .pre .3) (c .before .before .before .loop .inv .1) (c .before .scan .ensures .1) (omega arith) (c .if1 .left) refl)
 
 returns-2 : tie.Need-returns-2 Inv-loop μ-loop
-returns-2 c = c .before .loop .inv
+returns-2 c = (c .before .loop .inv .0, c .before .loop .inv .1, λ l. absurd (omega arith))
 
 pub find-more-spec : {M : Type 1} → statement M
 find-more-spec =

@@ -12,7 +12,7 @@ abbrev Inv-loop : tie.InvT-loop
 Inv-loop t cap stock₀ i₀ w₀ stock i w = Moving t stock₀ stock i w
 
 abbrev μ-loop : tie.MeasureT-loop
-μ-loop t cap stock₀ i₀ w₀ stock i w = 23 - i
+μ-loop t cap stock₀ i₀ w₀ stock i w = 15 - i
 
 loop-holds : tie.Need-loop-holds Inv-loop μ-loop
 loop-holds c = moving-none (c .pre .2)

@@ -11,7 +11,7 @@ abbrev Inv-loop : tie.InvT-loop
 Inv-loop stock₀ w b i₀ stock i = Padding stock₀ stock w b i
 
 abbrev μ-loop : tie.MeasureT-loop
-μ-loop stock₀ w b i₀ stock i = 24 - i
+μ-loop stock₀ w b i₀ stock i = 16 - i
 
 loop-holds : tie.Need-loop-holds Inv-loop μ-loop
 loop-holds c = padding-none _ (c .pre .1)

@@ -4,6 +4,7 @@ use native.Mathlib.Omega.{arith}
 use mathlib.Core.Path.{sym}
 use borrow.Author.Needs.{needs}
 use Rattle.stock.proofs.Filling.{filling-bound, padded-stock}
+use Rattle.stock.proofs.Counting.{stock-counted}
 use Rattle.stock.proofs.restock.restock.Statement.{statement}
 use Rattle.stock.proofs.restock.restock.Tie as tie
 
@@ -30,7 +31,10 @@ pad-requires : tie.Need-pad-requires
 pad-requires c κs = search needs
 
 returns : tie.Need-returns
-returns c = padded-stock (c .before .before .before .before .before .before .before .before .before .pre .2 .nil) (c .before .before .before .find-more .ensures .0) (c .before .before .before .find-more .ensures .1) (c .pad .ensures)
+returns c =
+    let nil = c .before .before .before .before .before .before .before .before .before .pre .2 .nil in
+    let (to, filled, all) = c .before .before .before .find-more .ensures in
+    (padded-stock nil to filled (c .pad .ensures), stock-counted _ nil filled to all)
 
 pub restock-spec : {M : Type 1} → statement M
 restock-spec =

@@ -18,10 +18,10 @@ same-length : tie.Need-same-length
 same-length c = search needs
 
 returns : tie.Need-returns
-returns c = (refused-applied _ _ _ _ _ _ (refine-decides _ _ _ _ _ (c .before .refine-refusal .ensures)) (c .if1 .taken), c .before .before .before .before .restock .ensures)
+returns c = (refused-applied _ _ _ _ _ _ (refine-decides _ _ _ _ _ (c .before .refine-refusal .ensures)) (c .if1 .taken), c .before .before .before .restock .ensures .0)
 
 refine-requires : tie.Need-refine-requires
-refine-requires c κs = (omega arith, omega arith, omega arith, refine-within _ _ _ _ (c .before .before .before .before .refine-refusal .ensures) (c .before .before .before .if1 .left), omega arith, c .before .before .before .before .before .before .before .before .before .before .before .pre .1 .indices, c .before .before .before .before .before .before .before .before .before .before .before .pre .1 .plain, c .before .before .before .before .before .before .before .restock .ensures)
+refine-requires c κs = (omega arith, omega arith, omega arith, refine-within _ _ _ _ (c .before .before .before .before .refine-refusal .ensures) (c .before .before .before .if1 .left), omega arith, c .before .before .before .before .before .before .before .before .before .before .pre .1 .indices, c .before .before .before .before .before .before .before .before .before .before .pre .1 .plain, c .before .before .before .before .before .before .restock .ensures .0)
 
 same-length-2 : tie.Need-same-length-2
 same-length-2 c = search needs
@@ -30,7 +30,7 @@ same-length-3 : tie.Need-same-length-3
 same-length-3 c = search needs
 
 returns-2 : tie.Need-returns-2
-returns-2 c = (refine-applied _ _ _ _ _ _ _ (c .before .before .before .before .before .before .before .before .refine-refusal .ensures) (c .before .before .before .before .before .before .before .if1 .left) (c .before .before .before .refine .ensures .0) (c .before .before .before .refine .ensures .1), refine-stock _ _ (c .before .before .before .before .before .before .before .before .before .before .before .restock .ensures) (c .before .before .before .refine .ensures .0))
+returns-2 c = (refine-applied _ _ _ _ _ _ _ (c .before .before .before .before .before .before .before .before .refine-refusal .ensures) (c .before .before .before .before .before .before .before .if1 .left) (c .before .before .before .refine .ensures .0) (c .before .before .before .refine .ensures .1), refine-stock _ _ (c .before .before .before .before .before .before .before .before .before .before .restock .ensures .0) (c .before .before .before .refine .ensures .0))
 
 pub refine-spec : {M : Type 1} → statement M
 refine-spec =
