@@ -26,7 +26,7 @@ use Rattle.editing.specs.Tables.{Spot, Lending, kidAt, freeFrom, supplied, supp
 use Rattle.editing.proofs.Spots.{put-same, put-other}
 use Rattle.editing.proofs.Written.{word-other, word-either, wind-word}
 use Rattle.editing.proofs.Lengths.{length-unnamed, length-takeOut}
-use Rattle.edit.specs.Plain.{Plain}
+use Rattle.table.specs.Plain.{Plain}
 
 -- ---- one word
 

@@ -15,7 +15,7 @@ use Rattle.table.specs.Words.{wordOf, linkOf}
 use Rattle.editing.specs.Tables.{Lowers, kidSpots, wantedSpots, suppliedAll, putCells, putValues, refreshNear, dropAt, kidStatus, refineTable, refineValues, removeTable}
 use Rattle.editing.proofs.Lowering.{lowers-nothing, lowers-then, lowers-none, frees-cells, frees-near}
 use Rattle.edit.specs.Lent.{lending, cornerSpots}
-use Rattle.edit.specs.Plain.{Plain}
+use Rattle.table.specs.Plain.{Plain}
 use Rattle.edit.proofs.PlainRows.{no-spot, and-spot, plain-supply, plain-cells, plain-dropped}
 use Rattle.edit.proofs.Nearby.{wanted-is, supply-append, drop-append}
 

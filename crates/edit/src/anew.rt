@@ -9,7 +9,10 @@ ghost use Rattle.table.specs.Words.{linkOf, flagOf};
 ghost use Rattle.table.specs.Worked.{edgeH, edgeV, innerH, innerV};
 ghost use Rattle.editing.specs.Anew.{flagsAnew, refreshed, wallsAnew, marksAnew, wallRow, markRow};
 ghost use Rattle.editing.specs.Tables.{refreshUnlessNil};
-ghost use Rattle.edit.specs.Plain.{Plain};
+ghost use Rattle.table.specs.Plain.{Plain};
+use crate::walls::edge;
+use crate::walls::meets;
+use table::plain;
 use table::words::flag;
 use table::words::link;
 use table::worked::digits_of_four;
@@ -86,11 +89,11 @@ fn walls_anew(t: &[i32], cap: usize, d: u32, n: usize, sentenced: bool) -> u32
     requires { ⌜ (cap * rowWords + rowWords ≤ length (now t)) × (cap ≤ 4095) × (n ≤ cap) × (d ≤ 32) × Plain (now t) cap ⌝ }
     ensures { λ r. ⌜ (r < 8192) × (r ≡ digits (wallsAnew (now (t .entry)) cap d n sentenced)) ⌝ }
 {
-    let c = crate::plain::flag(t, cap, 0, n);
-    let a = crate::plain::flag(t, cap, 0, crate::plain::link(t, cap, n, 7));
-    let b = crate::plain::flag(t, cap, 0, crate::plain::link(t, cap, n, 8));
-    let h = crate::plain::edge(t, cap, d, n, c != a, 11, 4);
-    let v = crate::plain::edge(t, cap, d, n, c != b, 10, 5);
+    let c = plain::flag(t, cap, 0, n);
+    let a = plain::flag(t, cap, 0, plain::link(t, cap, n, 7));
+    let b = plain::flag(t, cap, 0, plain::link(t, cap, n, 8));
+    let h = edge(t, cap, d, n, c != a, 11, 4);
+    let v = edge(t, cap, d, n, c != b, 10, 5);
     digits_of_four(c, c | a, c | b, false)
         + 16 * digits_of_four(h, v, false, false)
         + 256 * digits_of_four((c != a) & !h, (c != b) & !v, false, false)
@@ -102,24 +105,24 @@ fn marks_anew(t: &[i32], cap: usize, n: usize) -> u32
     requires { ⌜ (cap * rowWords + rowWords ≤ length (now t)) × (cap ≤ 4095) × (n ≤ cap) × Plain (now t) cap ⌝ }
     ensures { λ r. ⌜ (r < 8192) × (r ≡ digits (marksAnew (now (t .entry)) cap n)) ⌝ }
 {
-    let c = crate::plain::flag(t, cap, 0, n);
-    let h = crate::plain::flag(t, cap, 4, n);
-    let v = crate::plain::flag(t, cap, 5, n);
-    let i = crate::plain::flag(t, cap, 8, n);
-    let j = crate::plain::flag(t, cap, 9, n);
-    let edges = crate::plain::meets(t, cap, 4, n, 8, 7, h, v);
-    let inners = crate::plain::meets(t, cap, 8, n, 8, 7, i, j);
-    let edged = c & crate::plain::meets(t, cap, 4, n, 5, 6, h, v);
-    let fenced = c & crate::plain::meets(t, cap, 8, n, 5, 6, i, j);
+    let c = plain::flag(t, cap, 0, n);
+    let h = plain::flag(t, cap, 4, n);
+    let v = plain::flag(t, cap, 5, n);
+    let i = plain::flag(t, cap, 8, n);
+    let j = plain::flag(t, cap, 9, n);
+    let edges = meets(t, cap, 4, n, 8, 7, h, v);
+    let inners = meets(t, cap, 8, n, 8, 7, i, j);
+    let edged = c & meets(t, cap, 4, n, 5, 6, h, v);
+    let fenced = c & meets(t, cap, 8, n, 5, 6, i, j);
     digits_of_four(
         c,
-        crate::plain::flag(t, cap, 1, n),
-        crate::plain::flag(t, cap, 2, n),
+        plain::flag(t, cap, 1, n),
+        plain::flag(t, cap, 2, n),
         edges,
     )
         + 16 * digits_of_four(h, v, edged, inners)
         + 256 * digits_of_four(i, j, fenced, false)
-        + weigh(crate::plain::flag(t, cap, 12, n), 4096)
+        + weigh(plain::flag(t, cap, 12, n), 4096)
 }
 
 // The row n with its walls anew, unless n is 0; its own mark Sentenced stays.
@@ -130,7 +133,7 @@ pub fn wall_row(t: &mut [i32], cap: usize, d: u32, n: usize)
     if n == 0 {
         return;
     }
-    let sentenced = crate::plain::flag(t, cap, 12, n);
+    let sentenced = plain::flag(t, cap, 12, n);
     let x = walls_anew(t, cap, d, n, sentenced);
     put(t, n, 12, x);
 }

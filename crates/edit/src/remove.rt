@@ -5,7 +5,7 @@ ghost use lib.ListN.{length};
 ghost use Rattle.mesh.specs.Picture.{rowWords};
 ghost use Rattle.editing.specs.Tables.{spot, kidAt, kidSpots, touchedRow, dropUntouched, dropAt, Lowers, removeTable, removeValues};
 ghost use Rattle.edit.specs.Lent.{cornerSpots};
-ghost use Rattle.edit.specs.Plain.{Plain};
+ghost use Rattle.table.specs.Plain.{Plain};
 use crate::spots::kid;
 use crate::spots::put_cells;
 use crate::spots::put_values;

@@ -7,10 +7,11 @@ ghost use Rattle.mesh.specs.Picture.{rowWords};
 ghost use Rattle.editing.specs.Anew.{wallRow, markRow};
 ghost use Rattle.editing.specs.Tables.{spot, kidAt, kidSpots, eachAt, refreshNear, putCells, putValues};
 ghost use Rattle.edit.specs.Lent.{cornerSpots, sideSpots};
-ghost use Rattle.edit.specs.Plain.{Plain};
+ghost use Rattle.table.specs.Plain.{Plain};
 use crate::anew::mark_row;
 use crate::anew::wall_row;
 use crate::steps::put_unless_nil;
+use table::plain;
 use table::words::link;
 use table::worked::kid_word;
 use table::writes::put_value;
@@ -27,7 +28,7 @@ fn plain_kid(t: &[i32], cap: usize, p: usize, l: u32, m: u32) -> usize
     requires { ⌜ (cap * rowWords + rowWords ≤ length (now t)) × (cap ≤ 4095) × (p ≤ cap) × (m < 2) × Plain (now t) cap ⌝ }
     ensures { λ r. ⌜ (r ≤ cap) × (r ≡ kidAt (now (t .entry)) cap (spot p l m)) ⌝ }
 {
-    crate::plain::link(t, cap, p, kid_word(l, m))
+    plain::link(t, cap, p, kid_word(l, m))
 }
 
 // Walls anew.
@@ -123,11 +124,11 @@ pub fn refresh_near(t: &mut [i32], cap: usize, d: u32, n: usize)
     requires { ⌜ (cap * rowWords + rowWords ≤ length (now t)) × (cap ≤ 4095) × (n ≤ cap) × (d ≤ 32) × Plain (now t) cap ⌝ }
     ensures { λ _. ⌜ now (t .exit) ≡ refreshNear (now (t .entry)) cap d n ⌝ }
 {
-    let north = crate::plain::link(t, cap, n, 5);
-    let east = crate::plain::link(t, cap, n, 6);
-    let both = crate::plain::link(t, cap, east, 5);
-    let south = crate::plain::link(t, cap, n, 7);
-    let west = crate::plain::link(t, cap, n, 8);
+    let north = plain::link(t, cap, n, 5);
+    let east = plain::link(t, cap, n, 6);
+    let both = plain::link(t, cap, east, 5);
+    let south = plain::link(t, cap, n, 7);
+    let west = plain::link(t, cap, n, 8);
     wall_near(t, cap, d, n, north, east, both);
     mark_near(t, cap, n, north, east, both);
     mark_sides(t, cap, south, west);

@@ -9,14 +9,15 @@ ghost use Rattle.table.specs.Worked.{flagsFrom};
 ghost use Rattle.sound.specs.Parts.{pair, edgeAt};
 ghost use Rattle.sound.specs.Plain.{Plain, Levelled};
 use crate::plain::depth;
-use crate::plain::flag;
-use crate::plain::link;
-use crate::plain::word;
+use crate::plain::index;
+use table::plain::flag;
+use table::plain::flags;
+use table::plain::link;
 use table::worked::weigh;
 
 // Whether a wall is boundary, if it has one cell: on level 0, and above where the wall of the parent is, by its bit k, and the word w is even.
 fn edge(t: &[i32], cap: usize, d: u32, n: usize, one: bool, w: usize, k: u32) -> bool
-    requires { ⌜ Plain (now t) cap × Levelled (now t) cap d × (n ≤ cap) × (9 < w) × (w < 13) × (k < 32) ⌝ }
+    requires { ⌜ Plain (now t) cap × Levelled (now t) cap d × (n ≤ cap) × (9 < w) × (w < 12) × (k < 32) ⌝ }
     ensures { λ r. ⌜ r ≡ edgeAt (now (t .entry)) cap d n one w k ⌝ }
 {
     if !one {
@@ -25,12 +26,12 @@ fn edge(t: &[i32], cap: usize, d: u32, n: usize, one: bool, w: usize, k: u32) ->
     if depth(t, cap, d, n) == d {
         return true;
     }
-    (word(t, cap, n, w) % 2 == 0) & flag(t, cap, k, link(t, cap, n, 0))
+    (index(t, cap, n, w) % 2 == 0) & flag(t, cap, k, link(t, cap, n, 0))
 }
 
 // A wall of the row that has one cell, if it has one: 1 where it is boundary, 16 where it is green.
 fn own(t: &[i32], cap: usize, d: u32, n: usize, one: bool, w: usize, k: u32) -> u32
-    requires { ⌜ Plain (now t) cap × Levelled (now t) cap d × (n ≤ cap) × (9 < w) × (w < 13) × (k < 32) ⌝ }
+    requires { ⌜ Plain (now t) cap × Levelled (now t) cap d × (n ≤ cap) × (9 < w) × (w < 12) × (k < 32) ⌝ }
     ensures { λ r. ⌜ (r < 32) × (r ≡ pair (edgeAt (now (t .entry)) cap d n one w k) (one && not (edgeAt (now (t .entry)) cap d n one w k))) ⌝ }
 {
     if !one {
@@ -47,7 +48,7 @@ fn wall(t: &[i32], cap: usize, k: u32, n: usize) -> u32
     requires { ⌜ Plain (now t) cap × (n ≤ cap) × (k < 28) ⌝ }
     ensures { λ r. ⌜ (r < 32) × (r ≡ pair (flagOf (now (t .entry)) k n) (flagOf (now (t .entry)) (k + 4) n)) ⌝ }
 {
-    let w = word(t, cap, n, 12);
+    let w = flags(t, cap, n);
     (w >> k) % 2 + 16 * ((w >> (k + 4)) % 2)
 }
 

@@ -1,5 +1,6 @@
 -- Laws of signed words, of tests and of floats by their bits, for the functions of the table.
 pub mod Signed
+pub mod Unsigned
 pub mod Tests
 pub mod Bits
 pub mod Flags

@@ -5,7 +5,7 @@ use mathlib.Core.List.{List}
 use Prim.Native.Nat.{ℕ, suc, _+_, _-_, _<_, _≤_}
 use native.Mathlib.Omega.{arith}
 use native.Mathlib.Decide.{decLt}
-use borrow.Author.Tests.{lt-ltb, le-ltb}
+use borrow.Author.Tests.{le-leb, lt-ltb, le-ltb}
 use lib.IntN.{ℤ, subℕ}
 use Rattle.table.specs.Words.{code, wordOf, linkOf, depthFrom}
 use Rattle.table.proofs.Tests.{kept-within}
@@ -13,6 +13,11 @@ use Rattle.table.proofs.Tests.{kept-within}
 pub link-within : (t : List ℤ) (cap n w : ℕ) → linkOf t cap n w ≤ cap
 unfolding linkOf
 link-within t cap n w = kept-within (wordOf t n w) cap
+
+-- a word within the capacity is the link itself
+pub link-word : (t : List ℤ) (cap n w : ℕ) → wordOf t n w ≤ cap → linkOf t cap n w ≡ wordOf t n w
+unfolding linkOf
+link-word t cap n w h = rw (le-leb (wordOf t n w) cap h)
 
 -- the depth comes back from the level's word
 pub depth-back : (d e : ℕ) → e < 2147483648 → depthFrom d (code (subℕ e d)) ≡ e

@@ -6,8 +6,8 @@ use borrow.Author.Needs.{needs}
 use Rattle.sound.proofs.flags.wall.Statement.{statement}
 use Rattle.sound.proofs.flags.wall.Tie as tie
 
-word-requires : tie.Need-word-requires
-word-requires c κs = search needs
+flags-requires : tie.Need-flags-requires
+flags-requires c κs = search needs
 
 shr-result : tie.Need-shr-result
 shr-result c = search needs
@@ -26,9 +26,9 @@ add-result-2 c = search needs
 
 returns : tie.Need-returns
 unfolding flagOf
-returns c = rw (c .word .ensures) (wall-is _ _)
+returns c = rw (c .flags .ensures) (wall-is _ _)
 
 pub wall-spec : {M : Type 1} → statement M
 wall-spec =
     tie.close
-    (tie.spec word-requires shr-result add-result shr-result-2 mul-result add-result-2 returns)
+    (tie.spec flags-requires shr-result add-result shr-result-2 mul-result add-result-2 returns)

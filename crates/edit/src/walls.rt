@@ -1,4 +1,4 @@
-// Links and flags that are read as they stand.
+// Walls off links and flags that are read as they stand.
 ghost use mathlib.Core.Path.{_≡_};
 ghost use mathlib.Core.Bool.{_&&_, _||_};
 ghost use Prim.Native.Nat.{_+_, _*_, _%_, _<_, _≤_};
@@ -6,33 +6,11 @@ ghost use lib.Dec.{eqb};
 ghost use lib.ListN.{length};
 ghost use Rattle.mesh.specs.Picture.{rowWords};
 ghost use Rattle.table.specs.Words.{wordOf, linkOf, flagOf, depthOf};
-ghost use Rattle.edit.specs.Plain.{Plain};
+ghost use Rattle.table.specs.Plain.{Plain};
+use table::plain::flag;
+use table::plain::link;
 use table::words::depth;
-use table::words::raw;
-
-// The row that the word w of the row n names, or 0.
-pub fn link(t: &[i32], cap: usize, n: usize, w: usize) -> usize
-    requires { ⌜ (cap * rowWords + rowWords ≤ length (now t)) × (cap ≤ 4095) × (n ≤ cap) × (w < 9) × Plain (now t) cap ⌝ }
-    ensures { λ r. ⌜ (r ≤ cap) × (r ≡ linkOf (now (t .entry)) cap n w) ⌝ }
-{
-    raw(t, n, w) as usize
-}
-
-// The flags of the row n.
-fn flags(t: &[i32], cap: usize, n: usize) -> u32
-    requires { ⌜ (cap * rowWords + rowWords ≤ length (now t)) × (n ≤ cap) × Plain (now t) cap ⌝ }
-    ensures { λ r. ⌜ r ≡ wordOf (now (t .entry)) n 12 ⌝ }
-{
-    raw(t, n, 12) as u32
-}
-
-// The flag of bit k.
-pub fn flag(t: &[i32], cap: usize, k: u32, n: usize) -> bool
-    requires { ⌜ (cap * rowWords + rowWords ≤ length (now t)) × (n ≤ cap) × (k < 32) × Plain (now t) cap ⌝ }
-    ensures { λ r. ⌜ r ≡ flagOf (now (t .entry)) k n ⌝ }
-{
-    (flags(t, cap, n) >> k) % 2 == 1
-}
+use table::words::word;
 
 // Whether a wall is boundary, if it has one cell: on level 0, and above where the wall of the parent is, by its bit k, and the word w is even.
 pub fn edge(t: &[i32], cap: usize, d: u32, n: usize, one: bool, w: usize, k: u32) -> bool
@@ -45,7 +23,7 @@ pub fn edge(t: &[i32], cap: usize, d: u32, n: usize, one: bool, w: usize, k: u32
     if depth(t, d, n) == d {
         return true;
     }
-    (table::words::word(t, n, w) % 2 == 0) & flag(t, cap, k, link(t, cap, n, 0))
+    (word(t, n, w) % 2 == 0) & flag(t, cap, k, link(t, cap, n, 0))
 }
 
 // Whether one of the walls that meet is of the kind of bit k: h and v are the row's own, and the words x and y name its neighbours.

@@ -1,9 +1,9 @@
--- `edit::plain::flag` meets its contract.
+-- `table::plain::flag` meets its contract.
 -- Assumes nothing.
 use Rattle.table.specs.Words.{flagOf}
 use borrow.Author.Needs.{needs}
-use Rattle.edit.proofs.plain.flag.Statement.{statement}
-use Rattle.edit.proofs.plain.flag.Tie as tie
+use Rattle.table.proofs.plain.flag.Statement.{statement}
+use Rattle.table.proofs.plain.flag.Tie as tie
 
 flags-requires : tie.Need-flags-requires
 flags-requires c κs = search needs

@@ -1,10 +1,10 @@
--- `edit::plain::edge` meets its contract: three cases of the definition.
+-- `edit::walls::edge` meets its contract: three cases of the definition.
 -- Assumes nothing.
 use borrow.Author.Tests.{not-true, not-false}
 use Rattle.table.proofs.Tests.{is-eq, is-other}
 use borrow.Author.Needs.{needs}
-use Rattle.edit.proofs.plain.edge.Statement.{statement}
-use Rattle.edit.proofs.plain.edge.Tie as tie
+use Rattle.edit.proofs.walls.edge.Statement.{statement}
+use Rattle.edit.proofs.walls.edge.Tie as tie
 
 returns : tie.Need-returns
 returns c =

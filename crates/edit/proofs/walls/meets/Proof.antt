@@ -1,8 +1,8 @@
--- `edit::plain::meets` meets its contract.
+-- `edit::walls::meets` meets its contract.
 -- Assumes nothing.
 use borrow.Author.Needs.{needs}
-use Rattle.edit.proofs.plain.meets.Statement.{statement}
-use Rattle.edit.proofs.plain.meets.Tie as tie
+use Rattle.edit.proofs.walls.meets.Statement.{statement}
+use Rattle.edit.proofs.walls.meets.Tie as tie
 
 link-requires : tie.Need-link-requires
 link-requires c κs = search needs
