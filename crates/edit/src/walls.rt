@@ -9,7 +9,7 @@ ghost use Rattle.table.specs.Words.{wordOf, linkOf, flagOf, depthOf};
 ghost use Rattle.table.specs.Plain.{Plain};
 use table::plain::flag;
 use table::plain::link;
-use table::words::depth;
+use table::words::says;
 use table::words::word;
 
 // Whether a wall is boundary, if it has one cell: on level 0, and above where the wall of the parent is, by its bit k, and the word w is even.
@@ -20,7 +20,7 @@ pub fn edge(t: &[i32], cap: usize, d: u32, n: usize, one: bool, w: usize, k: u32
     if !one {
         return false;
     }
-    if depth(t, d, n) == d {
+    if says(t, n, 9, 0) {
         return true;
     }
     (word(t, n, w) % 2 == 0) & flag(t, cap, k, link(t, cap, n, 0))
