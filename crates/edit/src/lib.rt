@@ -1,5 +1,6 @@
 // What an accepted refinement, removal or kill does to a lent table and its values.
 pub mod anew;
+pub mod checked;
 pub mod kill;
 pub mod refine;
 pub mod remove;

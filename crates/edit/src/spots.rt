@@ -24,7 +24,7 @@ pub fn kid(t: &[i32], cap: usize, p: usize, l: u32, m: u32) -> usize
     link(t, cap, p, kid_word(l, m))
 }
 
-fn plain_kid(t: &[i32], cap: usize, p: usize, l: u32, m: u32) -> usize
+pub fn plain_kid(t: &[i32], cap: usize, p: usize, l: u32, m: u32) -> usize
     requires { ⌜ (cap * rowWords + rowWords ≤ length (now t)) × (cap ≤ 4095) × (p ≤ cap) × (m < 2) × Plain (now t) cap ⌝ }
     ensures { λ r. ⌜ (r ≤ cap) × (r ≡ kidAt (now (t .entry)) cap (spot p l m)) ⌝ }
 {
