@@ -6,13 +6,13 @@ ghost use Rattle.mesh.specs.Picture.{rowWords};
 ghost use Rattle.editing.specs.Tables.{spot, kidAt, kidSpots, touchedRow, dropUntouched, dropAt, Lowers, removeTable, removeValues};
 ghost use Rattle.edit.specs.Lent.{cornerSpots};
 ghost use Rattle.table.specs.Plain.{Plain};
-use crate::spots::plain_kid;
 use crate::spots::put_cells;
 use crate::spots::put_values;
 use crate::spots::refresh_near;
 use crate::steps::take_out;
 use table::plain::flag;
 use table::plain::link;
+use table::worked::kid_word;
 
 // Whether a cell touches the patch of the row n.
 fn touched_row(t: &[i32], cap: usize, d: u32, n: usize) -> bool
@@ -43,7 +43,7 @@ fn drop_kid(t: &mut [i32], cap: usize, d: u32, p: usize, l: u32, m: u32, low: us
     requires { ⌜ (cap * rowWords + rowWords ≤ length (now t)) × (cap ≤ 4095) × (p ≤ cap) × (m < 2) × Plain (now t) cap ⌝ }
     ensures { λ r. ⌜ (now (t .exit) ≡ dropUntouched (now (t .entry)) cap d (kidAt (now (t .entry)) cap (spot p l m))) × Lowers (now (t .entry)) (now (t .exit)) low r × Plain (now (t .exit)) cap ⌝ }
 {
-    let k = plain_kid(t, cap, p, l, m);
+    let k = link(t, cap, p, kid_word(l, m));
     drop_untouched(t, cap, d, k, low)
 }
 
