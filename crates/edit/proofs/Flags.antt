@@ -4,15 +4,14 @@ use mathlib.Core.Path.{_≡_}
 use mathlib.Core.Logic.{_≢_}
 use mathlib.Core.Bool.{Bool, false, not, cond, _&&_, _||_, Bool·beq}
 use mathlib.Core.List.{List}
-use Prim.Native.Nat.{ℕ, _+_, _*_, _%_}
+use Prim.Native.Nat.{ℕ, _+_, _*_}
 use native.Mathlib.Omega.{arith}
 use borrow.Author.Tests.{eq-eqb, ne-eqb}
-use lib.Dec.{eqb}
 use lib.IntN.{ℤ}
 use Rattle.mesh.specs.Tools.{digits}
-use Rattle.table.specs.Digits.{four}
-use Rattle.table.specs.Words.{wordOf, linkOf, flagOf, depthOf}
-use Rattle.table.specs.Worked.{edgeH, edgeV, innerH, innerV}
+use Rattle.table.specs.Digits.{four, pair}
+use Rattle.table.specs.Words.{linkOf, flagOf}
+use Rattle.table.specs.Worked.{edgeAt, edgeH, edgeV, innerH, innerV}
 use Rattle.editing.specs.Steps.{putWord}
 use Rattle.editing.specs.Anew.{flagsAnew, refreshed, wallsAnew, marksAnew, wallRow, markRow}
 
@@ -61,15 +60,15 @@ module _ (t : List ℤ) (cap d n : ℕ) where
 
   -- ---- walls first
 
-  walls-by-four : (sentenced : Bool) →
+  walls-counted : (sentenced : Bool) →
       let c = flagOf t 0 n in
       four c (c || flagOf t 0 (linkOf t cap n 7)) (c || flagOf t 0 (linkOf t cap n 8)) false
-      + 16 * four (edgeH t cap d n) (edgeV t cap d n) false false
-      + 256 * four (innerH t cap d n) (innerV t cap d n) false false
+      + 16 * pair (edgeH t cap d n) (innerH t cap d n)
+      + 32 * pair (edgeV t cap d n) (innerV t cap d n)
       + 4096 * cond sentenced 1 0
       ≡ digits (wallsAnew t cap d n sentenced)
   unfolding four wallsAnew
-  walls-by-four sentenced = omega arith
+  walls-counted sentenced = omega arith
 
   pub walls-sum : (sentenced : Bool) {south west : ℕ} {c a b h v : Bool} {p q r u : ℕ} →
       c ≡ flagOf t 0 n →
@@ -77,15 +76,15 @@ module _ (t : List ℤ) (cap d n : ℕ) where
       a ≡ flagOf t 0 south →
       west ≡ linkOf t cap n 8 →
       b ≡ flagOf t 0 west →
-      h ≡ (not (Bool·beq c a) && (eqb (depthOf t d n) d || (eqb (wordOf t n 11 % 2) 0 && flagOf t 4 (linkOf t cap n 0)))) →
-      v ≡ (not (Bool·beq c b) && (eqb (depthOf t d n) d || (eqb (wordOf t n 10 % 2) 0 && flagOf t 5 (linkOf t cap n 0)))) →
+      h ≡ edgeAt t cap d n (not (Bool·beq c a)) 11 4 →
+      v ≡ edgeAt t cap d n (not (Bool·beq c b)) 10 5 →
       p ≡ four c (c || a) (c || b) false →
-      q ≡ four h v false false →
-      r ≡ four (not (Bool·beq c a) && not h) (not (Bool·beq c b) && not v) false false →
+      q ≡ pair h (not (Bool·beq c a) && not h) →
+      r ≡ pair v (not (Bool·beq c b) && not v) →
       u ≡ 4096 * cond sentenced 1 0 →
-      p + 16 * q + 256 * r + u ≡ digits (wallsAnew t cap d n sentenced)
+      p + 16 * q + 32 * r + u ≡ digits (wallsAnew t cap d n sentenced)
   unfolding edgeH edgeV innerH innerV
-  walls-sum sentenced a1 a2 a3 a4 a5 a6 a7 a8 a9 a10 a11 = cc (walls-by-four sentenced)
+  walls-sum sentenced a1 a2 a3 a4 a5 a6 a7 a8 a9 a10 a11 = cc (walls-counted sentenced)
 
   marks-by-four :
       let c = flagOf t 0 n in

@@ -14,6 +14,7 @@ use crate::walls::meets;
 use table::plain;
 use table::words::flag;
 use table::words::link;
+use table::worked::counted;
 use table::worked::digits_of_four;
 use table::worked::edge_h;
 use table::worked::edge_v;
@@ -94,8 +95,8 @@ fn walls_anew(t: &[i32], cap: usize, d: u32, n: usize, sentenced: bool) -> u32
     let h = edge(t, cap, d, n, c != a, 11, 4);
     let v = edge(t, cap, d, n, c != b, 10, 5);
     digits_of_four(c, c | a, c | b, false)
-        + 16 * digits_of_four(h, v, false, false)
-        + 256 * digits_of_four((c != a) & !h, (c != b) & !v, false, false)
+        + 16 * counted(c != a, h)
+        + 32 * counted(c != b, v)
         + weigh(sentenced, 4096)
 }
 

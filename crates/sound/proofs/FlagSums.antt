@@ -11,11 +11,10 @@ use lib.Dec.{eqb}
 use borrow.Author.Tests.{eqb-true, eqb-false}
 use lib.IntN.{ℤ}
 use Rattle.mesh.specs.Tools.{digits}
-use Rattle.table.specs.Digits.{four}
+use Rattle.table.specs.Digits.{four, pair}
 use Rattle.table.specs.Words.{linkOf, flagOf}
-use Rattle.table.specs.Worked.{edgeH, edgeV, innerH, innerV, flagsFrom}
+use Rattle.table.specs.Worked.{edgeAt, edgeH, edgeV, innerH, innerV, flagsFrom}
 use Rattle.table.proofs.Flags.{flags-sum}
-use Rattle.sound.specs.Parts.{pair, edgeAt}
 
 -- a wall beside a cell has one cell where the other side is none, and beside none where it is one
 beq-true : (x : Bool) → Bool·beq true x ≡ x
@@ -67,25 +66,6 @@ pub corner-is : (t : List ℤ) (cap n a b : ℕ) {x y i j r : ℕ} →
     r ≡ bitOr i j →
     r ≡ pair (flagOf t 4 (linkOf t cap n a) || flagOf t 5 (linkOf t cap n b)) (flagOf t 8 (linkOf t cap n a) || flagOf t 9 (linkOf t cap n b))
 corner-is t cap n a b x i y j r = r ∙ rw (i, j, x, y) (or-pair (flagOf t 4 (linkOf t cap n a)) (flagOf t 8 (linkOf t cap n a)) (flagOf t 5 (linkOf t cap n b)) (flagOf t 9 (linkOf t cap n b)))
-
--- a wall of the row itself, in each arm of the tests
-module _ (t : List ℤ) (cap d n : ℕ) (one : Bool) (w k : ℕ) where
-  abbrev OwnIs : ℕ → Type 0
-  OwnIs r = (r < 32) × (r ≡ pair (edgeAt t cap d n one w k) (one && not (edgeAt t cap d n one w k)))
-
-  pub own-none : one ≡ false → OwnIs 0
-  own-none o = (omega arith, rw o)
-
-  module _ {b : Bool} (edge : b ≡ edgeAt t cap d n one w k) where
-    pub own-edge : b ≡ true → OwnIs 1
-    own-edge h = (omega arith, rw (← edge, h) (go one))
-      where
-        go : (x : Bool) → 1 ≡ pair true (x && false)
-        go true = refl
-        go false = refl
-
-    pub own-inner : one ≡ true → b ≡ false → OwnIs 16
-    own-inner o h = (omega arith, rw (← edge, h, o))
 
 -- all the walls that meet at a corner: the row's own, and those of two neighbours
 swap : (h v a b : Bool) → ((h || v) || (a || b)) ≡ (h || (a || (v || b)))

@@ -5,14 +5,15 @@ ghost use Prim.Native.Nat.{_+_, _≤_, _<_};
 ghost use lib.Bits.{bitOr};
 ghost use Rattle.mesh.specs.Tools.{digits};
 ghost use Rattle.table.specs.Words.{linkOf, flagOf};
-ghost use Rattle.table.specs.Worked.{flagsFrom};
-ghost use Rattle.sound.specs.Parts.{pair, edgeAt};
+ghost use Rattle.table.specs.Digits.{pair};
+ghost use Rattle.table.specs.Worked.{edgeAt, flagsFrom};
 ghost use Rattle.sound.specs.Plain.{Plain, Levelled};
 use crate::plain::depth;
 use crate::plain::index;
 use table::plain::flag;
 use table::plain::flags;
 use table::plain::link;
+use table::worked::counted;
 use table::worked::weigh;
 
 // Whether a wall is boundary, if it has one cell: on level 0, and above where the wall of the parent is, by its bit k, and the word w is even.
@@ -34,13 +35,7 @@ fn own(t: &[i32], cap: usize, d: u32, n: usize, one: bool, w: usize, k: u32) -> 
     requires { ⌜ Plain (now t) cap × Levelled (now t) cap d × (n ≤ cap) × (9 < w) × (w < 12) × (k < 32) ⌝ }
     ensures { λ r. ⌜ (r < 32) × (r ≡ pair (edgeAt (now (t .entry)) cap d n one w k) (one && not (edgeAt (now (t .entry)) cap d n one w k))) ⌝ }
 {
-    if !one {
-        return 0;
-    }
-    if edge(t, cap, d, n, one, w, k) {
-        return 1;
-    }
-    16
+    counted(one, edge(t, cap, d, n, one, w, k))
 }
 
 // The wall of bit k of the row n, boundary or green.

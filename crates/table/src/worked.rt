@@ -1,16 +1,15 @@
 // The words that are worked out from other rows' words: neighbours and flags.
 ghost use mathlib.Core.Path.{_≡_};
-ghost use mathlib.Core.Bool.{cond, _&&_, _||_};
-ghost use Prim.Native.Nat.{_+_, _*_, _%_, _<_, _≤_};
-ghost use lib.Dec.{eqb};
+ghost use mathlib.Core.Bool.{cond, not, _&&_};
+ghost use Prim.Native.Nat.{_+_, _*_, _<_, _≤_};
 ghost use lib.ListN.{length, getD};
 ghost use Rattle.mesh.specs.Place.{NE};
 ghost use Rattle.mesh.specs.Winds.{winds};
 ghost use Rattle.mesh.specs.Picture.{rowWords};
-ghost use Rattle.table.specs.Digits.{four};
-ghost use Rattle.table.specs.Words.{wordOf, linkOf, flagOf, depthOf};
+ghost use Rattle.table.specs.Digits.{four, pair};
+ghost use Rattle.table.specs.Words.{linkOf};
 ghost use Rattle.table.specs.Sides.{sideBy};
-ghost use Rattle.table.specs.Worked.{kidWord, staysIn, edgeH, edgeV, innerH, innerV};
+ghost use Rattle.table.specs.Worked.{kidWord, staysIn, edgeAt, edgeH, edgeV, innerH, innerV};
 use crate::words::flag;
 use crate::words::link;
 use crate::words::says;
@@ -55,7 +54,7 @@ pub fn side_by(t: &[i32], cap: usize, p: usize, l: u32, m: u32, w: usize) -> usi
 // Whether a wall is boundary, if it has one cell: on level 0, and above where the wall of the parent is, by its bit k, and the word w is even.
 pub fn edge(t: &[i32], cap: usize, d: u32, n: usize, one: bool, w: usize, k: u32) -> bool
     requires { ⌜ (cap * rowWords + rowWords ≤ length (now t)) × (cap ≤ 4095) × (n ≤ cap) × (d ≤ 32) × (w < rowWords) × (k < 32) ⌝ }
-    ensures { λ r. ⌜ r ≡ (one && (eqb (depthOf (now (t .entry)) d n) d || (eqb (wordOf (now (t .entry)) n w % 2) 0 && flagOf (now (t .entry)) k (linkOf (now (t .entry)) cap n 0)))) ⌝ }
+    ensures { λ r. ⌜ r ≡ edgeAt (now (t .entry)) cap d n one w k ⌝ }
 {
     if !one {
         return false;
@@ -112,4 +111,14 @@ pub fn weigh(b: bool, w: u32) -> u32
     ensures { λ r. ⌜ (r ≤ w) × (r ≡ w * cond b 1 0) ⌝ }
 {
     if b { w } else { 0 }
+}
+
+// A wall that has one cell, if it has one: 1 where it is boundary, 16 where it is green.
+pub fn counted(one: bool, edge: bool) -> u32
+    ensures { λ r. ⌜ (r < 32) × (r ≡ pair edge (one && not edge)) ⌝ }
+{
+    if edge {
+        return 1;
+    }
+    weigh(one, 16)
 }
