@@ -10,11 +10,13 @@ ghost use Rattle.editing.specs.Anew.{flagsAnew, refreshed, wallsAnew, marksAnew
 ghost use Rattle.editing.specs.Tables.{refreshUnlessNil};
 ghost use Rattle.table.specs.Plain.{Plain};
 use crate::walls::edge;
-use crate::walls::meets;
+use table::pairs::corner;
+use table::pairs::counted;
+use table::pairs::join;
+use table::pairs::wall;
 use table::plain;
 use table::words::flag;
 use table::words::link;
-use table::worked::counted;
 use table::worked::digits_of_four;
 use table::worked::edge_h;
 use table::worked::edge_v;
@@ -105,23 +107,19 @@ fn marks_anew(t: &[i32], cap: usize, n: usize) -> u32
     requires { ⌜ (cap * rowWords + rowWords ≤ length (now t)) × (cap ≤ 4095) × (n ≤ cap) × Plain (now t) cap ⌝ }
     ensures { λ r. ⌜ (r < 8192) × (r ≡ digits (marksAnew (now (t .entry)) cap n)) ⌝ }
 {
+    let h = wall(t, cap, 4, n);
+    let v = wall(t, cap, 5, n);
+    let own = join(h, v);
+    let near = join(own, corner(t, cap, n, 8, 7));
+    let far = join(own, corner(t, cap, n, 5, 6));
     let c = plain::flag(t, cap, 0, n);
-    let h = plain::flag(t, cap, 4, n);
-    let v = plain::flag(t, cap, 5, n);
-    let i = plain::flag(t, cap, 8, n);
-    let j = plain::flag(t, cap, 9, n);
-    let edges = meets(t, cap, 4, n, 8, 7, h, v);
-    let inners = meets(t, cap, 8, n, 8, 7, i, j);
-    let edged = c & meets(t, cap, 4, n, 5, 6, h, v);
-    let fenced = c & meets(t, cap, 8, n, 5, 6, i, j);
-    digits_of_four(
-        c,
-        plain::flag(t, cap, 1, n),
-        plain::flag(t, cap, 2, n),
-        edges,
-    )
-        + 16 * digits_of_four(h, v, edged, inners)
-        + 256 * digits_of_four(i, j, fenced, false)
+    let south = plain::flag(t, cap, 1, n);
+    let west = plain::flag(t, cap, 2, n);
+    digits_of_four(c, south, west, false)
+        + 8 * near
+        + 16 * h
+        + 32 * v
+        + weigh(c, 64 * far)
         + weigh(plain::flag(t, cap, 12, n), 4096)
 }
 

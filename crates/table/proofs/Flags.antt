@@ -1,13 +1,13 @@
--- The flags of a row, four at a time, and those of a wall.
+-- The flags of a row, four at a time.
 -- Assumes nothing.
-use mathlib.Core.Path.{_≡_, refl}
-use mathlib.Core.Bool.{Bool, true, false, not, cond, _&&_, _||_}
+use mathlib.Core.Path.{_≡_}
+use mathlib.Core.Bool.{Bool, false, cond, _&&_, _||_}
 use mathlib.Core.List.{List}
-use Prim.Native.Nat.{ℕ, _+_, _*_, _<_}
+use Prim.Native.Nat.{ℕ, _+_, _*_}
 use native.Mathlib.Omega.{arith}
 use lib.IntN.{ℤ}
 use Rattle.mesh.specs.Tools.{digits}
-use Rattle.table.specs.Digits.{four, pair}
+use Rattle.table.specs.Digits.{four}
 use Rattle.table.specs.Words.{linkOf, flagOf}
 use Rattle.table.specs.Worked.{edgeH, edgeV, innerH, innerV, flagsFrom}
 
@@ -48,19 +48,3 @@ pub flags-sum : (t : List ℤ) (cap d n : ℕ) (sentenced : Bool) {h v i j south
     u ≡ 4096 * cond sentenced 1 0 →
     p + 16 * q + 256 * r + u ≡ digits (flagsFrom t cap d n sentenced)
 flags-sum t cap d n sentenced a1 a2 a3 a4 a5 a6 a7 a8 a9 a10 a11 a12 a13 a14 a15 = cc (flags-by-four t cap d n sentenced)
-
--- ---- the two flags of a wall
-
-pub counted-edge : (one : Bool) {e : Bool} → e ≡ true → (1 < 32) × (1 ≡ pair e (one && not e))
-counted-edge one h = (omega arith, rw h (go one))
-  where
-    go : (x : Bool) → 1 ≡ pair true (x && false)
-    go true = refl
-    go false = refl
-
-pub counted-green : (one : Bool) {e : Bool} {r : ℕ} → e ≡ false → r ≡ 16 * cond one 1 0 → (r < 32) × (r ≡ pair e (one && not e))
-counted-green one {r = r} h i = rw h (go one i)
-  where
-    go : (x : Bool) → r ≡ 16 * cond x 1 0 → (r < 32) × (r ≡ pair false (x && true))
-    go true i = (omega arith, omega arith)
-    go false i = (omega arith, omega arith)

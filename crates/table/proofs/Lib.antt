@@ -4,6 +4,7 @@ pub mod Unsigned
 pub mod Tests
 pub mod Bits
 pub mod Flags
+pub mod Paired
 pub mod Offsets
 pub mod Links
 pub mod Rows

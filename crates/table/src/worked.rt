@@ -1,12 +1,12 @@
 // The words that are worked out from other rows' words: neighbours and flags.
 ghost use mathlib.Core.Path.{_≡_};
-ghost use mathlib.Core.Bool.{cond, not, _&&_};
+ghost use mathlib.Core.Bool.{cond};
 ghost use Prim.Native.Nat.{_+_, _*_, _<_, _≤_};
 ghost use lib.ListN.{length, getD};
 ghost use Rattle.mesh.specs.Place.{NE};
 ghost use Rattle.mesh.specs.Winds.{winds};
 ghost use Rattle.mesh.specs.Picture.{rowWords};
-ghost use Rattle.table.specs.Digits.{four, pair};
+ghost use Rattle.table.specs.Digits.{four};
 ghost use Rattle.table.specs.Words.{linkOf};
 ghost use Rattle.table.specs.Sides.{sideBy};
 ghost use Rattle.table.specs.Worked.{kidWord, staysIn, edgeAt, edgeH, edgeV, innerH, innerV};
@@ -111,14 +111,4 @@ pub fn weigh(b: bool, w: u32) -> u32
     ensures { λ r. ⌜ (r ≤ w) × (r ≡ w * cond b 1 0) ⌝ }
 {
     if b { w } else { 0 }
-}
-
-// A wall that has one cell, if it has one: 1 where it is boundary, 16 where it is green.
-pub fn counted(one: bool, edge: bool) -> u32
-    ensures { λ r. ⌜ (r < 32) × (r ≡ pair edge (one && not edge)) ⌝ }
-{
-    if edge {
-        return 1;
-    }
-    weigh(one, 16)
 }

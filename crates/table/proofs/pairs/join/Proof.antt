@@ -1,9 +1,9 @@
--- `sound::join` meets its contract.
+-- `table::pairs::join` meets its contract.
 -- Assumes nothing.
 use mathlib.Core.Path.{refl}
-use Rattle.sound.proofs.FlagSums.{join-small}
-use Rattle.sound.proofs.flags.join.Statement.{statement}
-use Rattle.sound.proofs.flags.join.Tie as tie
+use Rattle.table.proofs.Paired.{join-small}
+use Rattle.table.proofs.pairs.join.Statement.{statement}
+use Rattle.table.proofs.pairs.join.Tie as tie
 
 returns : tie.Need-returns
 returns c = (join-small _ _ (c .pre .0) (c .pre .1), refl)

@@ -1,10 +1,10 @@
--- `sound::wall` meets its contract: two digits.
+-- `table::pairs::wall` meets its contract: two digits.
 -- Assumes nothing.
 use Rattle.table.specs.Words.{flagOf}
-use Rattle.sound.proofs.FlagSums.{wall-is}
+use Rattle.table.proofs.Paired.{wall-is}
 use borrow.Author.Needs.{needs}
-use Rattle.sound.proofs.flags.wall.Statement.{statement}
-use Rattle.sound.proofs.flags.wall.Tie as tie
+use Rattle.table.proofs.pairs.wall.Statement.{statement}
+use Rattle.table.proofs.pairs.wall.Tie as tie
 
 flags-requires : tie.Need-flags-requires
 flags-requires c κs = search needs

@@ -1,9 +1,9 @@
--- `sound::corner` meets its contract: one wall of each neighbour.
+-- `table::pairs::corner` meets its contract: one wall of each neighbour.
 -- Assumes nothing.
-use Rattle.sound.proofs.FlagSums.{corner-is}
+use Rattle.table.proofs.Paired.{corner-is}
 use borrow.Author.Needs.{needs}
-use Rattle.sound.proofs.flags.corner.Statement.{statement}
-use Rattle.sound.proofs.flags.corner.Tie as tie
+use Rattle.table.proofs.pairs.corner.Statement.{statement}
+use Rattle.table.proofs.pairs.corner.Tie as tie
 
 link-requires : tie.Need-link-requires
 link-requires c κs = search needs

@@ -1,9 +1,9 @@
--- `table::worked::counted` meets its contract.
+-- `table::pairs::counted` meets its contract.
 -- Assumes nothing.
 use borrow.Author.Needs.{needs}
-use Rattle.table.proofs.Flags.{counted-edge, counted-green}
-use Rattle.table.proofs.worked.counted.Statement.{statement}
-use Rattle.table.proofs.worked.counted.Tie as tie
+use Rattle.table.proofs.Paired.{counted-edge, counted-green}
+use Rattle.table.proofs.pairs.counted.Statement.{statement}
+use Rattle.table.proofs.pairs.counted.Tie as tie
 
 returns : tie.Need-returns
 returns c = counted-edge (c .before .args .one) (c .if1 .taken)
