@@ -5,11 +5,10 @@ ghost use Prim.Native.Nat.{_+_, _*_, _<_, _≤_};
 ghost use lib.ListN.{length};
 ghost use Rattle.mesh.specs.Tools.{digits};
 ghost use Rattle.mesh.specs.Picture.{rowWords};
-ghost use Rattle.table.specs.Worked.{edgeH, edgeV, innerH, innerV};
+ghost use Rattle.table.specs.Worked.{edgeAt, edgeH, edgeV, innerH, innerV};
 ghost use Rattle.editing.specs.Anew.{flagsAnew, refreshed, wallsAnew, marksAnew, wallRow, markRow};
 ghost use Rattle.editing.specs.Tables.{refreshUnlessNil};
 ghost use Rattle.table.specs.Plain.{Plain};
-use crate::walls::edge;
 use table::pairs::corner;
 use table::pairs::counted;
 use table::pairs::join;
@@ -17,6 +16,8 @@ use table::pairs::wall;
 use table::plain;
 use table::words::flag;
 use table::words::link;
+use table::words::says;
+use table::words::word;
 use table::worked::digits_of_four;
 use table::worked::edge_h;
 use table::worked::edge_v;
@@ -84,6 +85,20 @@ pub fn refresh_unless_nil(t: &mut [i32], cap: usize, d: u32, n: usize)
         return;
     }
     refresh(t, cap, d, n);
+}
+
+// Whether a wall is boundary, if it has one cell: on level 0, and above where the wall of the parent is, by its bit k, and the word w is even.
+fn edge(t: &[i32], cap: usize, d: u32, n: usize, one: bool, w: usize, k: u32) -> bool
+    requires { ⌜ (cap * rowWords + rowWords ≤ length (now t)) × (cap ≤ 4095) × (n ≤ cap) × (d ≤ 32) × (w < rowWords) × (k < 32) × Plain (now t) cap ⌝ }
+    ensures { λ r. ⌜ r ≡ edgeAt (now (t .entry)) cap d n one w k ⌝ }
+{
+    if !one {
+        return false;
+    }
+    if says(t, n, 9, 0) {
+        return true;
+    }
+    (word(t, n, w) % 2 == 0) & plain::flag(t, cap, k, plain::link(t, cap, n, 0))
 }
 
 // The walls of a row anew, without the points and the cell that the walls around it make.

@@ -7,4 +7,3 @@ pub mod remove;
 pub mod spots;
 pub mod steps;
 pub mod supply;
-pub mod walls;

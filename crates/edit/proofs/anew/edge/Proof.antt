@@ -1,10 +1,10 @@
--- `edit::walls::edge` meets its contract: three cases of the definition.
+-- `edit::anew::edge` meets its contract: three cases of the definition.
 -- Assumes nothing.
 use borrow.Author.Tests.{not-true, not-false}
 use Rattle.table.proofs.Links.{level-zero}
 use borrow.Author.Needs.{needs}
-use Rattle.edit.proofs.walls.edge.Statement.{statement}
-use Rattle.edit.proofs.walls.edge.Tie as tie
+use Rattle.edit.proofs.anew.edge.Statement.{statement}
+use Rattle.edit.proofs.anew.edge.Tie as tie
 
 returns : tie.Need-returns
 returns c =
