@@ -17,7 +17,7 @@ use Rattle.editing.specs.Built.{Growth, eachRow, rootTable, growLevels, groundF
 use Rattle.editing.proofs.Building.{build-table, build-next, ground-linked}
 use Rattle.editing.proofs.Sprouts.{LevelsToGrow, levels-start}
 use Rattle.editing.proofs.Blank.{built-amounts}
-use Rattle.edit.specs.Plain.{Plain}
+use Rattle.table.specs.Plain.{Plain}
 use Rattle.edit.proofs.PlainRows.{linked-plain}
 use Rattle.build.specs.Steps.{growth, Reached, Made}
 

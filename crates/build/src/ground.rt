@@ -6,7 +6,7 @@ ghost use Rattle.mesh.specs.Place.{rectangle};
 ghost use Rattle.mesh.specs.Picture.{rowWords};
 ghost use Rattle.editing.specs.Anew.{wallRow, markRow};
 ghost use Rattle.editing.specs.Built.{eachRow, groundRow};
-ghost use Rattle.edit.specs.Plain.{Plain};
+ghost use Rattle.table.specs.Plain.{Plain};
 use edit::anew::mark_row;
 use edit::anew::wall_row;
 use table::words::word;

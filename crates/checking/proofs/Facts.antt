@@ -62,10 +62,6 @@ module _ (t : List ℤ) (cap : ℕ) where
       go (yes h) = rw (le-leb (wordOf t n w) cap h) h
       go (no h) = rw (lt-leb (wordOf t n w) cap (omega (arith, h))) (omega arith)
 
-  pub link-word : (n w : ℕ) → wordOf t n w ≤ cap → linkOf t cap n w ≡ wordOf t n w
-  unfolding linkOf
-  link-word n w h = rw (le-leb (wordOf t n w) cap h)
-
   -- a link that is not 0 names a row of the table
   pub link-used : (n w : ℕ) → linkOf t cap n w ≢ 0 → wordOf t (linkOf t cap n w) 12 ≢ 8192 → Used cap t (linkOf t cap n w)
   link-used n w z f = record { low = omega (arith, z); high = link-high n w; taken = f }

@@ -19,10 +19,11 @@ use Rattle.mesh.specs.Mesh.{on}
 use Rattle.mesh.specs.State.{Entry, Cell, placeOf, cellOf, entry, cells, number, numberOf}
 use Rattle.table.specs.Words.{wordOf, linkOf, flagOf}
 use Rattle.table.specs.Worked.{kidWord, sideOf}
+use Rattle.table.proofs.Links.{link-word}
 use Rattle.geometry.proofs.Kids.{up, parent-depth, no-parent, up-is}
 use Rattle.geometry.proofs.Digits.{kidBy, kid-by-parent, kid-by-digits, parent-by, aside, stays, step-digits, step-depth}
 use Rattle.numbering.proofs.Numbers.{number-place, place-number, cells-contents}
-use Rattle.checking.proofs.Facts.{Used, spot, link-high, link-word}
+use Rattle.checking.proofs.Facts.{Used, spot, link-high}
 use Rattle.checking.proofs.Climbing.{spot-col, spot-row, root-spot, not-root, child-depth, depth-zero, spot-once}
 use Rattle.checking.proofs.Words.{flag-zero}
 use Rattle.checking.proofs.Patches.{by-kid}

@@ -1,18 +1,19 @@
 -- The flags of a row anew, four at a time, and the row with them.
 -- Assumes nothing.
-use mathlib.Core.Path.{_≡_}
+use mathlib.Core.Path.{_≡_, _∙_}
 use mathlib.Core.Logic.{_≢_}
-use mathlib.Core.Bool.{Bool, false, not, cond, _&&_, _||_, Bool·beq}
+use mathlib.Core.Bool.{Bool, true, false, not, cond, _&&_, _||_, Bool·beq}
 use mathlib.Core.List.{List}
-use Prim.Native.Nat.{ℕ, _+_, _*_, _%_}
+use Prim.Native.Nat.{ℕ, _+_, _*_}
 use native.Mathlib.Omega.{arith}
 use borrow.Author.Tests.{eq-eqb, ne-eqb}
-use lib.Dec.{eqb}
+use lib.Bits.{bitOr}
 use lib.IntN.{ℤ}
 use Rattle.mesh.specs.Tools.{digits}
-use Rattle.table.specs.Digits.{four}
-use Rattle.table.specs.Words.{wordOf, linkOf, flagOf, depthOf}
-use Rattle.table.specs.Worked.{edgeH, edgeV, innerH, innerV}
+use Rattle.table.specs.Digits.{four, pair}
+use Rattle.table.specs.Words.{linkOf, flagOf}
+use Rattle.table.specs.Worked.{edgeAt, edgeH, edgeV, innerH, innerV}
+use Rattle.table.proofs.Paired.{meet}
 use Rattle.editing.specs.Steps.{putWord}
 use Rattle.editing.specs.Anew.{flagsAnew, refreshed, wallsAnew, marksAnew, wallRow, markRow}
 
@@ -61,15 +62,15 @@ module _ (t : List ℤ) (cap d n : ℕ) where
 
   -- ---- walls first
 
-  walls-by-four : (sentenced : Bool) →
+  walls-counted : (sentenced : Bool) →
       let c = flagOf t 0 n in
       four c (c || flagOf t 0 (linkOf t cap n 7)) (c || flagOf t 0 (linkOf t cap n 8)) false
-      + 16 * four (edgeH t cap d n) (edgeV t cap d n) false false
-      + 256 * four (innerH t cap d n) (innerV t cap d n) false false
+      + 16 * pair (edgeH t cap d n) (innerH t cap d n)
+      + 32 * pair (edgeV t cap d n) (innerV t cap d n)
       + 4096 * cond sentenced 1 0
       ≡ digits (wallsAnew t cap d n sentenced)
   unfolding four wallsAnew
-  walls-by-four sentenced = omega arith
+  walls-counted sentenced = omega arith
 
   pub walls-sum : (sentenced : Bool) {south west : ℕ} {c a b h v : Bool} {p q r u : ℕ} →
       c ≡ flagOf t 0 n →
@@ -77,17 +78,19 @@ module _ (t : List ℤ) (cap d n : ℕ) where
       a ≡ flagOf t 0 south →
       west ≡ linkOf t cap n 8 →
       b ≡ flagOf t 0 west →
-      h ≡ (not (Bool·beq c a) && (eqb (depthOf t d n) d || (eqb (wordOf t n 11 % 2) 0 && flagOf t 4 (linkOf t cap n 0)))) →
-      v ≡ (not (Bool·beq c b) && (eqb (depthOf t d n) d || (eqb (wordOf t n 10 % 2) 0 && flagOf t 5 (linkOf t cap n 0)))) →
+      h ≡ edgeAt t cap d n (not (Bool·beq c a)) 11 4 →
+      v ≡ edgeAt t cap d n (not (Bool·beq c b)) 10 5 →
       p ≡ four c (c || a) (c || b) false →
-      q ≡ four h v false false →
-      r ≡ four (not (Bool·beq c a) && not h) (not (Bool·beq c b) && not v) false false →
+      q ≡ pair h (not (Bool·beq c a) && not h) →
+      r ≡ pair v (not (Bool·beq c b) && not v) →
       u ≡ 4096 * cond sentenced 1 0 →
-      p + 16 * q + 256 * r + u ≡ digits (wallsAnew t cap d n sentenced)
+      p + 16 * q + 32 * r + u ≡ digits (wallsAnew t cap d n sentenced)
   unfolding edgeH edgeV innerH innerV
-  walls-sum sentenced a1 a2 a3 a4 a5 a6 a7 a8 a9 a10 a11 = cc (walls-by-four sentenced)
+  walls-sum sentenced a1 a2 a3 a4 a5 a6 a7 a8 a9 a10 a11 = cc (walls-counted sentenced)
 
-  marks-by-four :
+  -- ---- then the walls that meet
+
+  marks-paired :
       let c = flagOf t 0 n in
       let h = flagOf t 4 n in
       let v = flagOf t 5 n in
@@ -97,33 +100,42 @@ module _ (t : List ℤ) (cap d n : ℕ) where
       let east = linkOf t cap n 6 in
       let south = linkOf t cap n 7 in
       let west = linkOf t cap n 8 in
-      four c (flagOf t 1 n) (flagOf t 2 n) (h || (flagOf t 4 west || (v || flagOf t 5 south)))
-      + 16 * four h v (c && (h || (flagOf t 4 north || (v || flagOf t 5 east)))) (i || (flagOf t 8 west || (j || flagOf t 9 south)))
-      + 256 * four i j (c && (i || (flagOf t 8 north || (j || flagOf t 9 east)))) false
+      four c (flagOf t 1 n) (flagOf t 2 n) false
+      + 8 * pair (h || (flagOf t 4 west || (v || flagOf t 5 south))) (i || (flagOf t 8 west || (j || flagOf t 9 south)))
+      + 16 * pair h i
+      + 32 * pair v j
+      + 64 * pair (c && (h || (flagOf t 4 north || (v || flagOf t 5 east)))) (c && (i || (flagOf t 8 north || (j || flagOf t 9 east))))
       + 4096 * cond (flagOf t 12 n) 1 0
       ≡ digits (marksAnew t cap n)
   unfolding four marksAnew
-  marks-by-four = omega arith
+  marks-paired = omega arith
 
-  pub marks-sum : {c h v i j edges inners edged fenced a b e : Bool} {p q r u : ℕ} →
+  -- of a point that is no cell the far walls do not count
+  far-counted : (c x y : Bool) {far r : ℕ} → far ≡ pair x y → r ≡ 64 * far * cond c 1 0 → r ≡ 64 * pair (c && x) (c && y)
+  far-counted true x y e h = h ∙ rw e (omega arith)
+  far-counted false x y e h = h ∙ omega arith
+
+  pub marks-sum : {c south west s : Bool} {h v own a near b far p q u : ℕ} →
+      h ≡ pair (flagOf t 4 n) (flagOf t 8 n) →
+      v ≡ pair (flagOf t 5 n) (flagOf t 9 n) →
+      own ≡ bitOr h v →
+      a ≡ pair (flagOf t 4 (linkOf t cap n 8) || flagOf t 5 (linkOf t cap n 7)) (flagOf t 8 (linkOf t cap n 8) || flagOf t 9 (linkOf t cap n 7)) →
+      near ≡ bitOr own a →
+      b ≡ pair (flagOf t 4 (linkOf t cap n 5) || flagOf t 5 (linkOf t cap n 6)) (flagOf t 8 (linkOf t cap n 5) || flagOf t 9 (linkOf t cap n 6)) →
+      far ≡ bitOr own b →
       c ≡ flagOf t 0 n →
-      h ≡ flagOf t 4 n →
-      v ≡ flagOf t 5 n →
-      i ≡ flagOf t 8 n →
-      j ≡ flagOf t 9 n →
-      edges ≡ (h || (flagOf t 4 (linkOf t cap n 8) || (v || flagOf t 5 (linkOf t cap n 7)))) →
-      inners ≡ (i || (flagOf t 8 (linkOf t cap n 8) || (j || flagOf t 9 (linkOf t cap n 7)))) →
-      edged ≡ (h || (flagOf t 4 (linkOf t cap n 5) || (v || flagOf t 5 (linkOf t cap n 6)))) →
-      fenced ≡ (i || (flagOf t 8 (linkOf t cap n 5) || (j || flagOf t 9 (linkOf t cap n 6)))) →
-      a ≡ flagOf t 1 n →
-      b ≡ flagOf t 2 n →
-      p ≡ four c a b edges →
-      q ≡ four h v (c && edged) inners →
-      r ≡ four i j (c && fenced) false →
-      e ≡ flagOf t 12 n →
-      u ≡ 4096 * cond e 1 0 →
-      p + 16 * q + 256 * r + u ≡ digits (marksAnew t cap n)
-  marks-sum a1 a2 a3 a4 a5 a6 a7 a8 a9 a10 a11 a12 a13 a14 a15 a16 = cc marks-by-four
+      south ≡ flagOf t 1 n →
+      west ≡ flagOf t 2 n →
+      p ≡ four c south west false →
+      q ≡ 64 * far * cond c 1 0 →
+      s ≡ flagOf t 12 n →
+      u ≡ 4096 * cond s 1 0 →
+      p + 8 * near + 16 * h + 32 * v + q + u ≡ digits (marksAnew t cap n)
+  marks-sum {c} a1 a2 a3 a4 a5 a6 a7 a8 a9 a10 a11 a12 a13 a14 =
+      let e = meet (flagOf t 4 n) (flagOf t 5 n) (flagOf t 8 n) (flagOf t 9 n) (flagOf t 4 (linkOf t cap n 8)) (flagOf t 5 (linkOf t cap n 7)) (flagOf t 8 (linkOf t cap n 8)) (flagOf t 9 (linkOf t cap n 7)) a1 a2 a3 a4 a5 in
+      let f = meet (flagOf t 4 n) (flagOf t 5 n) (flagOf t 8 n) (flagOf t 9 n) (flagOf t 4 (linkOf t cap n 5)) (flagOf t 5 (linkOf t cap n 6)) (flagOf t 8 (linkOf t cap n 5)) (flagOf t 9 (linkOf t cap n 6)) a1 a2 a3 a6 a7 in
+      let g = far-counted c (flagOf t 4 n || (flagOf t 4 (linkOf t cap n 5) || (flagOf t 5 n || flagOf t 5 (linkOf t cap n 6)))) (flagOf t 8 n || (flagOf t 8 (linkOf t cap n 5) || (flagOf t 9 n || flagOf t 9 (linkOf t cap n 6)))) f a12 in
+      rw (a11, e, a1, a2, g, a14, a8, a9, a10, a13) marks-paired
 
   -- ---- the row
 

@@ -7,7 +7,6 @@ pub mod Small
 pub mod Supplying
 pub mod Dropping
 pub mod Borders
-pub mod Signs
 pub mod PlainRows
 pub mod Requests
 pub mod Meeting

@@ -2,10 +2,10 @@
 -- Assumes nothing.
 use mathlib.Core.Path.{_≡_, refl, ap}
 use mathlib.Core.Logic.{_≢_}
-use mathlib.Core.Bool.{Bool, true, false, _||_, cond}
+use mathlib.Core.Bool.{Bool, true, false, cond}
 use mathlib.Core.Option.{none}
 use mathlib.Core.List.{List, [], _∷_}
-use Prim.Native.Nat.{ℕ, zero, suc, _+_, _-_, _*_, _%_, _≤_, _<_}
+use Prim.Native.Nat.{ℕ, zero, suc, _+_, _-_, _*_, _≤_, _<_}
 use native.Mathlib.Omega.{arith}
 use native.Mathlib.Decide.{ℕ-discrete}
 use lib.Dec.{eqb}
@@ -21,17 +21,16 @@ use Rattle.table.specs.Writes.{putRow, freeRow}
 use Rattle.table.proofs.Links.{link-within}
 use Rattle.pictures.proofs.Linked.{kid-word-lt}
 use Rattle.pictures.proofs.Pictured as pictured
-use Rattle.editing.specs.Steps.{putWord, putUnlessNil, linkSide, placeIn, linkIn, dropSide, takeOut}
 use Rattle.stock.specs.Free.{freeFrom}
-use Rattle.editing.specs.Tables.{Spot, Lending, kidAt, supplied, suppliedAll, putCells, touchedRow, dropAt}
+use Rattle.editing.specs.Steps.{putWord, putUnlessNil, linkSide, placeIn, linkIn, dropSide}
+use Rattle.editing.specs.Tables.{Spot, Lending, kidAt, kidSpots, supplied, suppliedAll, putCells}
 use Rattle.editing.specs.Linked.{Flags, tableWith}
 use Rattle.editing.proofs.Spots.{put-same, put-other}
 use Rattle.editing.proofs.Written.{word-other, word-either, wind-word}
 use Rattle.editing.proofs.Linked.{number-of, flags-of, word-free, word-nil}
 use Rattle.editing.proofs.Rooted.{Rooted, number-le}
-use Rattle.editing.proofs.Lengths.{length-unnamed, length-takeOut}
 use Rattle.editing.proofs.Freeing.{free-link}
-use Rattle.edit.specs.Plain.{Plain}
+use Rattle.table.specs.Plain.{Plain}
 
 -- ---- one word
 
@@ -73,6 +72,10 @@ module _ (cap : ℕ) where
       let k = kidAt t cap x in
       let q : Plain (putUnlessNil t k 12 f) cap = plain-either p (eqb k 0) (plain-flags p k f h) in
       plain-cells f st h xs (plain-either q (eqb k 0) (plain-else q k 13 (pos st) (omega arith) (λ e. omega arith) (omega arith)))
+
+-- kids that are no cells any more
+pub plain-kids : {t u : List ℤ} {cap : ℕ} (n : ℕ) → Plain t cap → u ≡ putCells (kidSpots t cap n) t cap 0 0 → Plain u cap
+plain-kids {t} {cap = cap} n p e = rw e (plain-cells cap 0 0 (omega arith) (kidSpots t cap n) p)
 
 -- ---- a patch that comes
 
@@ -136,9 +139,22 @@ module _ (cap d : ℕ) where
 
 -- ---- a patch that goes
 
-plain-freed : {t : List ℤ} {cap : ℕ} → Plain t cap → (k : ℕ) → k * rowWords + rowWords ≤ length t → Plain (putRow t k freeRow) cap
+-- the parent does not name it any more
+pub plain-unnamed : {t u : List ℤ} {cap : ℕ} (n w : ℕ) → Plain t cap → u ≡ putWord t n w 0 → w < 9 → Plain u cap
+plain-unnamed n w p e h = rw e (plain-link p n w 0 h (omega arith))
+
+-- nor does a neighbour
+pub plain-drop : {t u : List ℤ} {cap : ℕ} (k : ℕ) (w : Wind) → Plain t cap → u ≡ dropSide t cap k w → Plain u cap
+unfolding dropSide
+plain-drop {t} {cap = cap} k w p e =
+    rw e
+    (plain-either p (eqb (linkOf t cap k (wordOfWind w)) 0) (plain-link p _ (wordOfWind (compass w .opposite)) 0 (wind-word (compass w .opposite)) (omega arith)))
+
+-- its row is free
+pub plain-freed : {t u : List ℤ} {cap : ℕ} (k : ℕ) → Plain t cap → u ≡ putRow t k freeRow → k * rowWords + rowWords ≤ length t → Plain u cap
 unfolding wordOf
-plain-freed {t} {cap} p k fits = record { links = λ m i h l. link m i h l (ℕ-discrete m k); flags = λ m h. flag m h (ℕ-discrete m k) }
+plain-freed {t} {cap = cap} k p e fits =
+    rw e (record { links = λ m i h l. link m i h l (ℕ-discrete m k); flags = λ m h. flag m h (ℕ-discrete m k) })
   where
     link : (m i : ℕ) → m ≤ cap → i < 9 → Dec (m ≡ k) → wordOf (putRow t k freeRow) m i ≤ cap
     link m i h l (yes e) = rw (e, put-same t freeRow k refl fits i (omega arith), free-link i l) (omega arith)
@@ -147,30 +163,6 @@ plain-freed {t} {cap} p k fits = record { links = λ m i h l. link m i h l (ℕ-
     flag : (m : ℕ) → m ≤ cap → Dec (m ≡ k) → wordOf (putRow t k freeRow) m 12 < 2147483648
     flag m h (yes e) = rw (e, put-same t freeRow k refl fits 12 (omega arith)) (omega arith)
     flag m h (no e) = rw (put-other t freeRow k refl fits m 12 (omega arith) e) (p .flags m h)
-
-plain-drop : {t : List ℤ} {cap : ℕ} → Plain t cap → (k : ℕ) (w : Wind) → Plain (dropSide t cap k w) cap
-unfolding dropSide
-plain-drop {t} {cap} p k w = plain-either p (eqb (linkOf t cap k (wordOfWind w)) 0) (plain-link p _ (wordOfWind (compass w .opposite)) 0 (wind-word (compass w .opposite)) (omega arith))
-
-plain-out : {t : List ℤ} {cap : ℕ} → Plain t cap → (k : ℕ) → k ≤ cap → cap * rowWords + rowWords ≤ length t → Plain (takeOut t cap k) cap
-unfolding takeOut
-plain-out {t} {cap} p k h fits =
-    plain-freed (plain-drop (plain-drop (plain-drop (plain-drop
-    (plain-link p (linkOf t cap k 0) (kidWord (wordOf t k 10 % 2) (wordOf t k 11 % 2)) 0 (kid-word-lt (wordOf t k 10 % 2) (wordOf t k 11 % 2) (omega arith)) (omega arith))
-    k N) k E) k S) k W) k (omega (arith, length-unnamed t cap k))
-
-module _ (cap d : ℕ) where
-  pub plain-dropped : (xs : List Spot) {t : List ℤ} → Plain t cap → cap * rowWords + rowWords ≤ length t → Plain (dropAt xs t cap d) cap
-  unfolding dropAt
-  plain-dropped [] p fits = p
-  plain-dropped (x ∷ xs) {t} p fits =
-      let k = kidAt t cap x in
-      let (q, l) = one (eqb k 0 || touchedRow t cap d k) in
-      plain-dropped xs q l
-    where
-      one : (b : Bool) → Plain (cond b t (takeOut t cap (kidAt t cap x))) cap × (cap * rowWords + rowWords ≤ length (cond b t (takeOut t cap (kidAt t cap x))))
-      one true = (p, fits)
-      one false = (plain-out p (kidAt t cap x) (link-within t cap _ _) fits, omega (arith, length-takeOut t cap fits (kidAt t cap x) (link-within t cap _ _)))
 
 -- ---- a linked table, and a picture
 

@@ -3,20 +3,19 @@
 use mathlib.Core.Path.{_≡_, sym, ap, subst, _∙_}
 use mathlib.Core.Logic.{_≢_}
 use mathlib.Core.List.{List}
-use Prim.Native.Nat.{ℕ, _+_, _*_, _≤_}
+use Prim.Native.Nat.{ℕ, _+_, _≤_}
 use native.Mathlib.Omega.{arith}
 use borrow.Author.Tests.{eq-eqb, ne-eqb}
 use lib.IntN.{ℤ}
-use lib.ListN.{length, getD}
+use lib.ListN.{getD}
 use lib.Ieee.{Float}
 use Rattle.mesh.specs.State.{plusZero}
-use Rattle.mesh.specs.Picture.{rowWords}
 use Rattle.table.specs.Words.{wordOf, linkOf}
 use Rattle.editing.specs.Tables.{Lowers, kidSpots, wantedSpots, suppliedAll, putCells, putValues, refreshNear, dropAt, kidStatus, refineTable, refineValues, removeTable}
 use Rattle.editing.proofs.Lowering.{lowers-nothing, lowers-then, lowers-none, frees-cells, frees-near}
 use Rattle.edit.specs.Lent.{lending, cornerSpots}
-use Rattle.edit.specs.Plain.{Plain}
-use Rattle.edit.proofs.PlainRows.{no-spot, and-spot, plain-supply, plain-cells, plain-dropped}
+use Rattle.table.specs.Plain.{Plain}
+use Rattle.edit.proofs.PlainRows.{no-spot, and-spot, plain-supply, plain-cells}
 use Rattle.edit.proofs.Nearby.{wanted-is, supply-append, drop-append}
 
 module _ (t : List ℤ) (cap d n low : ℕ) where
@@ -71,16 +70,6 @@ module _ (t : List ℤ) (cap d n : ℕ) where
   removed {north} {east} {both} {t₁} {t₂} {t₃} h1 h2 h3 h4 h5 h6 h7 =
       let gone : dropAt (wantedSpots t₁ cap n) t₁ cap d ≡ t₃ = ap (λ xs. dropAt xs t₁ cap d) (wanted-is t₁ cap n h2 h3 h4) ∙ drop-append cap d (kidSpots t₁ cap n) (cornerSpots north east both) t₁ ∙ ap (λ u. dropAt (cornerSpots north east both) u cap d) (sym h5) ∙ sym h6 in
       rw (← h1, gone, h7)
-
-  pub removed-plain : (north east both : ℕ) {t₁ t₂ t₃ : List ℤ} → Plain t cap → cap * rowWords + rowWords ≤ length t₁ → cap * rowWords + rowWords ≤ length t₂ →
-      t₁ ≡ putCells (kidSpots t cap n) t cap 0 0 →
-      t₂ ≡ dropAt (kidSpots t₁ cap n) t₁ cap d →
-      t₃ ≡ dropAt (cornerSpots north east both) t₂ cap d →
-      Plain t₃ cap
-  removed-plain north east both {t₁} {t₂} p l1 l2 e f g =
-      let q : Plain t₁ cap = subst (λ u. Plain u cap) (sym e) (plain-cells cap 0 0 (omega arith) (kidSpots t cap n) p) in
-      let r : Plain t₂ cap = subst (λ u. Plain u cap) (sym f) (plain-dropped cap d (kidSpots t₁ cap n) q l1) in
-      subst (λ u. Plain u cap) (sym g) (plain-dropped cap d (cornerSpots north east both) r l2)
 
   -- the numbers that are freed are those of the kids and the corners that go
   pub removed-lowers : {low a b : ℕ} {t₁ t₂ t₃ t₄ : List ℤ} →

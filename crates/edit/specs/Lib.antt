@@ -3,4 +3,3 @@ pub mod Small
 pub mod Lent
 pub mod Edges
 pub mod Links
-pub mod Plain

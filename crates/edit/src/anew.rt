@@ -1,17 +1,23 @@
 // The flags of a row worked out anew from the cells of its level and the walls of the level below.
 ghost use mathlib.Core.Path.{_≡_};
-ghost use mathlib.Core.Bool.{_&&_, _||_};
+ghost use mathlib.Core.Bool.{_||_};
 ghost use Prim.Native.Nat.{_+_, _*_, _<_, _≤_};
 ghost use lib.ListN.{length};
 ghost use Rattle.mesh.specs.Tools.{digits};
 ghost use Rattle.mesh.specs.Picture.{rowWords};
-ghost use Rattle.table.specs.Words.{linkOf, flagOf};
-ghost use Rattle.table.specs.Worked.{edgeH, edgeV, innerH, innerV};
+ghost use Rattle.table.specs.Worked.{edgeAt, edgeH, edgeV, innerH, innerV};
 ghost use Rattle.editing.specs.Anew.{flagsAnew, refreshed, wallsAnew, marksAnew, wallRow, markRow};
 ghost use Rattle.editing.specs.Tables.{refreshUnlessNil};
-ghost use Rattle.edit.specs.Plain.{Plain};
+ghost use Rattle.table.specs.Plain.{Plain};
+use table::pairs::corner;
+use table::pairs::counted;
+use table::pairs::join;
+use table::pairs::wall;
+use table::plain;
 use table::words::flag;
 use table::words::link;
+use table::words::says;
+use table::words::word;
 use table::worked::digits_of_four;
 use table::worked::edge_h;
 use table::worked::edge_v;
@@ -81,19 +87,33 @@ pub fn refresh_unless_nil(t: &mut [i32], cap: usize, d: u32, n: usize)
     refresh(t, cap, d, n);
 }
 
+// Whether a wall is boundary, if it has one cell: on level 0, and above where the wall of the parent is, by its bit k, and the word w is even.
+fn edge(t: &[i32], cap: usize, d: u32, n: usize, one: bool, w: usize, k: u32) -> bool
+    requires { ⌜ (cap * rowWords + rowWords ≤ length (now t)) × (cap ≤ 4095) × (n ≤ cap) × (d ≤ 32) × (w < rowWords) × (k < 32) × Plain (now t) cap ⌝ }
+    ensures { λ r. ⌜ r ≡ edgeAt (now (t .entry)) cap d n one w k ⌝ }
+{
+    if !one {
+        return false;
+    }
+    if says(t, n, 9, 0) {
+        return true;
+    }
+    (word(t, n, w) % 2 == 0) & plain::flag(t, cap, k, plain::link(t, cap, n, 0))
+}
+
 // The walls of a row anew, without the points and the cell that the walls around it make.
 fn walls_anew(t: &[i32], cap: usize, d: u32, n: usize, sentenced: bool) -> u32
     requires { ⌜ (cap * rowWords + rowWords ≤ length (now t)) × (cap ≤ 4095) × (n ≤ cap) × (d ≤ 32) × Plain (now t) cap ⌝ }
     ensures { λ r. ⌜ (r < 8192) × (r ≡ digits (wallsAnew (now (t .entry)) cap d n sentenced)) ⌝ }
 {
-    let c = crate::plain::flag(t, cap, 0, n);
-    let a = crate::plain::flag(t, cap, 0, crate::plain::link(t, cap, n, 7));
-    let b = crate::plain::flag(t, cap, 0, crate::plain::link(t, cap, n, 8));
-    let h = crate::plain::edge(t, cap, d, n, c != a, 11, 4);
-    let v = crate::plain::edge(t, cap, d, n, c != b, 10, 5);
+    let c = plain::flag(t, cap, 0, n);
+    let a = plain::flag(t, cap, 0, plain::link(t, cap, n, 7));
+    let b = plain::flag(t, cap, 0, plain::link(t, cap, n, 8));
+    let h = edge(t, cap, d, n, c != a, 11, 4);
+    let v = edge(t, cap, d, n, c != b, 10, 5);
     digits_of_four(c, c | a, c | b, false)
-        + 16 * digits_of_four(h, v, false, false)
-        + 256 * digits_of_four((c != a) & !h, (c != b) & !v, false, false)
+        + 16 * counted(c != a, h)
+        + 32 * counted(c != b, v)
         + weigh(sentenced, 4096)
 }
 
@@ -102,24 +122,20 @@ fn marks_anew(t: &[i32], cap: usize, n: usize) -> u32
     requires { ⌜ (cap * rowWords + rowWords ≤ length (now t)) × (cap ≤ 4095) × (n ≤ cap) × Plain (now t) cap ⌝ }
     ensures { λ r. ⌜ (r < 8192) × (r ≡ digits (marksAnew (now (t .entry)) cap n)) ⌝ }
 {
-    let c = crate::plain::flag(t, cap, 0, n);
-    let h = crate::plain::flag(t, cap, 4, n);
-    let v = crate::plain::flag(t, cap, 5, n);
-    let i = crate::plain::flag(t, cap, 8, n);
-    let j = crate::plain::flag(t, cap, 9, n);
-    let edges = crate::plain::meets(t, cap, 4, n, 8, 7, h, v);
-    let inners = crate::plain::meets(t, cap, 8, n, 8, 7, i, j);
-    let edged = c & crate::plain::meets(t, cap, 4, n, 5, 6, h, v);
-    let fenced = c & crate::plain::meets(t, cap, 8, n, 5, 6, i, j);
-    digits_of_four(
-        c,
-        crate::plain::flag(t, cap, 1, n),
-        crate::plain::flag(t, cap, 2, n),
-        edges,
-    )
-        + 16 * digits_of_four(h, v, edged, inners)
-        + 256 * digits_of_four(i, j, fenced, false)
-        + weigh(crate::plain::flag(t, cap, 12, n), 4096)
+    let h = wall(t, cap, 4, n);
+    let v = wall(t, cap, 5, n);
+    let own = join(h, v);
+    let near = join(own, corner(t, cap, n, 8, 7));
+    let far = join(own, corner(t, cap, n, 5, 6));
+    let c = plain::flag(t, cap, 0, n);
+    let south = plain::flag(t, cap, 1, n);
+    let west = plain::flag(t, cap, 2, n);
+    digits_of_four(c, south, west, false)
+        + 8 * near
+        + 16 * h
+        + 32 * v
+        + weigh(c, 64 * far)
+        + weigh(plain::flag(t, cap, 12, n), 4096)
 }
 
 // The row n with its walls anew, unless n is 0; its own mark Sentenced stays.
@@ -130,7 +146,7 @@ pub fn wall_row(t: &mut [i32], cap: usize, d: u32, n: usize)
     if n == 0 {
         return;
     }
-    let sentenced = crate::plain::flag(t, cap, 12, n);
+    let sentenced = plain::flag(t, cap, 12, n);
     let x = walls_anew(t, cap, d, n, sentenced);
     put(t, n, 12, x);
 }

@@ -1,6 +1,5 @@
 // An accepted kill.
 ghost use mathlib.Core.Path.{_≡_};
-ghost use mathlib.Core.List.{[], _∷_};
 ghost use Prim.Native.Nat.{_+_, _*_, _<_, _≤_};
 ghost use lib.Dec.{T};
 ghost use lib.ListN.{length, getD};
@@ -10,8 +9,8 @@ ghost use Rattle.table.specs.Words.{linkOf};
 ghost use Rattle.editing.specs.Tables.{Lowers, kidless, dropUp, dropCorner, refreshDown, refreshLevel, refreshLevels, stillUsed, killTable, killValues};
 ghost use Rattle.edit.specs.Edges.{ofRow, Within, borderOf, stillBorder, cleared};
 use crate::anew::refresh_unless_nil;
-use crate::remove::touched_row;
-use crate::steps::take_out;
+use crate::checked::take_out;
+use crate::checked::touched_row;
 use table::words::link;
 use table::words::word;
 use table::writes::put;

@@ -1,8 +1,8 @@
 // What an accepted refinement, removal or kill does to a lent table and its values.
 pub mod anew;
+pub mod checked;
 pub mod kill;
 pub mod near;
-pub mod plain;
 pub mod refine;
 pub mod remove;
 pub mod spots;

@@ -8,7 +8,7 @@ ghost use Rattle.stock.specs.Stock.{Stocked};
 ghost use Rattle.editing.specs.Tables.{kidStatus, refineTable, refineValues};
 ghost use Rattle.edit.specs.Small.{AllSmall};
 ghost use Rattle.edit.specs.Lent.{lending};
-ghost use Rattle.edit.specs.Plain.{Plain};
+ghost use Rattle.table.specs.Plain.{Plain};
 use crate::spots::put_cells;
 use crate::spots::put_values;
 use crate::spots::refresh_near;

@@ -5,30 +5,30 @@ ghost use lib.ListN.{length};
 ghost use Rattle.mesh.specs.Picture.{rowWords};
 ghost use Rattle.editing.specs.Tables.{spot, kidAt, kidSpots, touchedRow, dropUntouched, dropAt, Lowers, removeTable, removeValues};
 ghost use Rattle.edit.specs.Lent.{cornerSpots};
-ghost use Rattle.edit.specs.Plain.{Plain};
-use crate::spots::kid;
+ghost use Rattle.table.specs.Plain.{Plain};
 use crate::spots::put_cells;
 use crate::spots::put_values;
 use crate::spots::refresh_near;
 use crate::steps::take_out;
-use table::words::flag;
-use table::words::link;
+use table::plain::flag;
+use table::plain::link;
+use table::worked::kid_word;
 
 // Whether a cell touches the patch of the row n.
-pub fn touched_row(t: &[i32], cap: usize, d: u32, n: usize) -> bool
-    requires { ⌜ (cap * rowWords + rowWords ≤ length (now t)) × (cap ≤ 4095) × (n ≤ cap) ⌝ }
+fn touched_row(t: &[i32], cap: usize, d: u32, n: usize) -> bool
+    requires { ⌜ (cap * rowWords + rowWords ≤ length (now t)) × (cap ≤ 4095) × (n ≤ cap) × Plain (now t) cap ⌝ }
     ensures { λ r. ⌜ r ≡ touchedRow (now (t .entry)) cap d n ⌝ }
 {
     let west = link(t, cap, n, 8);
     let south = link(t, cap, n, 7);
     let both = link(t, cap, west, 7);
-    flag(t, 0, n) | (flag(t, 0, west) | (flag(t, 0, south) | flag(t, 0, both)))
+    flag(t, cap, 0, n) | (flag(t, cap, 0, west) | (flag(t, cap, 0, south) | flag(t, cap, 0, both)))
 }
 
 // A patch from level 0 up that no cell touches goes; the bound below which no number is free, after it.
 fn drop_untouched(t: &mut [i32], cap: usize, d: u32, n: usize, low: usize) -> usize
-    requires { ⌜ (cap * rowWords + rowWords ≤ length (now t)) × (cap ≤ 4095) × (n ≤ cap) ⌝ }
-    ensures { λ r. ⌜ (now (t .exit) ≡ dropUntouched (now (t .entry)) cap d n) × Lowers (now (t .entry)) (now (t .exit)) low r ⌝ }
+    requires { ⌜ (cap * rowWords + rowWords ≤ length (now t)) × (cap ≤ 4095) × (n ≤ cap) × Plain (now t) cap ⌝ }
+    ensures { λ r. ⌜ (now (t .exit) ≡ dropUntouched (now (t .entry)) cap d n) × Lowers (now (t .entry)) (now (t .exit)) low r × Plain (now (t .exit)) cap ⌝ }
 {
     if n == 0 {
         return low;
@@ -40,16 +40,16 @@ fn drop_untouched(t: &mut [i32], cap: usize, d: u32, n: usize, low: usize) -> us
 }
 
 fn drop_kid(t: &mut [i32], cap: usize, d: u32, p: usize, l: u32, m: u32, low: usize) -> usize
-    requires { ⌜ (cap * rowWords + rowWords ≤ length (now t)) × (cap ≤ 4095) × (p ≤ cap) × (m < 2) ⌝ }
-    ensures { λ r. ⌜ (now (t .exit) ≡ dropUntouched (now (t .entry)) cap d (kidAt (now (t .entry)) cap (spot p l m))) × Lowers (now (t .entry)) (now (t .exit)) low r ⌝ }
+    requires { ⌜ (cap * rowWords + rowWords ≤ length (now t)) × (cap ≤ 4095) × (p ≤ cap) × (m < 2) × Plain (now t) cap ⌝ }
+    ensures { λ r. ⌜ (now (t .exit) ≡ dropUntouched (now (t .entry)) cap d (kidAt (now (t .entry)) cap (spot p l m))) × Lowers (now (t .entry)) (now (t .exit)) low r × Plain (now (t .exit)) cap ⌝ }
 {
-    let k = kid(t, cap, p, l, m);
+    let k = link(t, cap, p, kid_word(l, m));
     drop_untouched(t, cap, d, k, low)
 }
 
 fn drop_kids(t: &mut [i32], cap: usize, d: u32, n: usize, low: usize) -> usize
-    requires { ⌜ (cap * rowWords + rowWords ≤ length (now t)) × (cap ≤ 4095) × (n ≤ cap) ⌝ }
-    ensures { λ r. ⌜ (now (t .exit) ≡ dropAt (kidSpots (now (t .entry)) cap n) (now (t .entry)) cap d) × Lowers (now (t .entry)) (now (t .exit)) low r ⌝ }
+    requires { ⌜ (cap * rowWords + rowWords ≤ length (now t)) × (cap ≤ 4095) × (n ≤ cap) × Plain (now t) cap ⌝ }
+    ensures { λ r. ⌜ (now (t .exit) ≡ dropAt (kidSpots (now (t .entry)) cap n) (now (t .entry)) cap d) × Lowers (now (t .entry)) (now (t .exit)) low r × Plain (now (t .exit)) cap ⌝ }
 {
     let a = drop_kid(t, cap, d, n, 0, 0, low);
     let b = drop_kid(t, cap, d, n, 1, 0, a);
@@ -66,8 +66,8 @@ fn drop_corners(
     both: usize,
     low: usize,
 ) -> usize
-    requires { ⌜ (cap * rowWords + rowWords ≤ length (now t)) × (cap ≤ 4095) × (north ≤ cap) × (east ≤ cap) × (both ≤ cap) ⌝ }
-    ensures { λ r. ⌜ (now (t .exit) ≡ dropAt (cornerSpots north east both) (now (t .entry)) cap d) × Lowers (now (t .entry)) (now (t .exit)) low r ⌝ }
+    requires { ⌜ (cap * rowWords + rowWords ≤ length (now t)) × (cap ≤ 4095) × (north ≤ cap) × (east ≤ cap) × (both ≤ cap) × Plain (now t) cap ⌝ }
+    ensures { λ r. ⌜ (now (t .exit) ≡ dropAt (cornerSpots north east both) (now (t .entry)) cap d) × Lowers (now (t .entry)) (now (t .exit)) low r × Plain (now (t .exit)) cap ⌝ }
 {
     let a = drop_kid(t, cap, d, north, 0, 0, low);
     let b = drop_kid(t, cap, d, north, 1, 0, a);

@@ -7,13 +7,24 @@ ghost use Rattle.mesh.specs.Picture.{rowWords};
 ghost use Rattle.editing.specs.Anew.{wallRow, markRow};
 ghost use Rattle.editing.specs.Tables.{spot, kidAt, kidSpots, eachAt, refreshNear, putCells, putValues};
 ghost use Rattle.edit.specs.Lent.{cornerSpots, sideSpots};
-ghost use Rattle.edit.specs.Plain.{Plain};
+ghost use Rattle.table.specs.Words.{linkOf};
+ghost use Rattle.table.specs.Plain.{Plain};
 use crate::anew::mark_row;
 use crate::anew::wall_row;
 use crate::steps::put_unless_nil;
+use table::plain;
 use table::words::link;
 use table::worked::kid_word;
 use table::writes::put_value;
+
+// The words of the kids.
+const NE: usize = 1;
+
+const SE: usize = 2;
+
+const SW: usize = 3;
+
+const NW: usize = 4;
 
 // The kid l, m of the row p, or 0.
 pub fn kid(t: &[i32], cap: usize, p: usize, l: u32, m: u32) -> usize
@@ -23,19 +34,12 @@ pub fn kid(t: &[i32], cap: usize, p: usize, l: u32, m: u32) -> usize
     link(t, cap, p, kid_word(l, m))
 }
 
-fn plain_kid(t: &[i32], cap: usize, p: usize, l: u32, m: u32) -> usize
-    requires { ⌜ (cap * rowWords + rowWords ≤ length (now t)) × (cap ≤ 4095) × (p ≤ cap) × (m < 2) × Plain (now t) cap ⌝ }
-    ensures { λ r. ⌜ (r ≤ cap) × (r ≡ kidAt (now (t .entry)) cap (spot p l m)) ⌝ }
+// Walls anew, of the kid that the word w of the row p names.
+fn wall_kid(t: &mut [i32], cap: usize, d: u32, p: usize, w: usize)
+    requires { ⌜ (cap * rowWords + rowWords ≤ length (now t)) × (cap ≤ 4095) × (p ≤ cap) × (w < 9) × (d ≤ 32) × Plain (now t) cap ⌝ }
+    ensures { λ _. ⌜ (now (t .exit) ≡ wallRow cap d (now (t .entry)) (linkOf (now (t .entry)) cap p w)) × Plain (now (t .exit)) cap ⌝ }
 {
-    crate::plain::link(t, cap, p, kid_word(l, m))
-}
-
-// Walls anew.
-fn wall_kid(t: &mut [i32], cap: usize, d: u32, p: usize, l: u32, m: u32)
-    requires { ⌜ (cap * rowWords + rowWords ≤ length (now t)) × (cap ≤ 4095) × (p ≤ cap) × (m < 2) × (d ≤ 32) × Plain (now t) cap ⌝ }
-    ensures { λ _. ⌜ (now (t .exit) ≡ wallRow cap d (now (t .entry)) (kidAt (now (t .entry)) cap (spot p l m))) × Plain (now (t .exit)) cap ⌝ }
-{
-    let k = plain_kid(t, cap, p, l, m);
+    let k = plain::link(t, cap, p, w);
     wall_row(t, cap, d, k);
 }
 
@@ -43,29 +47,29 @@ fn wall_kids(t: &mut [i32], cap: usize, d: u32, n: usize)
     requires { ⌜ (cap * rowWords + rowWords ≤ length (now t)) × (cap ≤ 4095) × (n ≤ cap) × (d ≤ 32) × Plain (now t) cap ⌝ }
     ensures { λ _. ⌜ (now (t .exit) ≡ eachAt (wallRow cap d) cap (kidSpots (now (t .entry)) cap n) (now (t .entry))) × Plain (now (t .exit)) cap ⌝ }
 {
-    wall_kid(t, cap, d, n, 0, 0);
-    wall_kid(t, cap, d, n, 1, 0);
-    wall_kid(t, cap, d, n, 0, 1);
-    wall_kid(t, cap, d, n, 1, 1);
+    wall_kid(t, cap, d, n, SW);
+    wall_kid(t, cap, d, n, SE);
+    wall_kid(t, cap, d, n, NW);
+    wall_kid(t, cap, d, n, NE);
 }
 
 fn wall_corners(t: &mut [i32], cap: usize, d: u32, north: usize, east: usize, both: usize)
     requires { ⌜ (cap * rowWords + rowWords ≤ length (now t)) × (cap ≤ 4095) × (north ≤ cap) × (east ≤ cap) × (both ≤ cap) × (d ≤ 32) × Plain (now t) cap ⌝ }
     ensures { λ _. ⌜ (now (t .exit) ≡ eachAt (wallRow cap d) cap (cornerSpots north east both) (now (t .entry))) × Plain (now (t .exit)) cap ⌝ }
 {
-    wall_kid(t, cap, d, north, 0, 0);
-    wall_kid(t, cap, d, north, 1, 0);
-    wall_kid(t, cap, d, east, 0, 1);
-    wall_kid(t, cap, d, east, 0, 0);
-    wall_kid(t, cap, d, both, 0, 0);
+    wall_kid(t, cap, d, north, SW);
+    wall_kid(t, cap, d, north, SE);
+    wall_kid(t, cap, d, east, NW);
+    wall_kid(t, cap, d, east, SW);
+    wall_kid(t, cap, d, both, SW);
 }
 
-// Points and cells anew.
-fn mark_kid(t: &mut [i32], cap: usize, p: usize, l: u32, m: u32)
-    requires { ⌜ (cap * rowWords + rowWords ≤ length (now t)) × (cap ≤ 4095) × (p ≤ cap) × (m < 2) × Plain (now t) cap ⌝ }
-    ensures { λ _. ⌜ (now (t .exit) ≡ markRow cap (now (t .entry)) (kidAt (now (t .entry)) cap (spot p l m))) × Plain (now (t .exit)) cap ⌝ }
+// Points and its cell anew.
+fn mark_kid(t: &mut [i32], cap: usize, p: usize, w: usize)
+    requires { ⌜ (cap * rowWords + rowWords ≤ length (now t)) × (cap ≤ 4095) × (p ≤ cap) × (w < 9) × Plain (now t) cap ⌝ }
+    ensures { λ _. ⌜ (now (t .exit) ≡ markRow cap (now (t .entry)) (linkOf (now (t .entry)) cap p w)) × Plain (now (t .exit)) cap ⌝ }
 {
-    let k = plain_kid(t, cap, p, l, m);
+    let k = plain::link(t, cap, p, w);
     mark_row(t, cap, k);
 }
 
@@ -73,31 +77,31 @@ fn mark_kids(t: &mut [i32], cap: usize, n: usize)
     requires { ⌜ (cap * rowWords + rowWords ≤ length (now t)) × (cap ≤ 4095) × (n ≤ cap) × Plain (now t) cap ⌝ }
     ensures { λ _. ⌜ (now (t .exit) ≡ eachAt (markRow cap) cap (kidSpots (now (t .entry)) cap n) (now (t .entry))) × Plain (now (t .exit)) cap ⌝ }
 {
-    mark_kid(t, cap, n, 0, 0);
-    mark_kid(t, cap, n, 1, 0);
-    mark_kid(t, cap, n, 0, 1);
-    mark_kid(t, cap, n, 1, 1);
+    mark_kid(t, cap, n, SW);
+    mark_kid(t, cap, n, SE);
+    mark_kid(t, cap, n, NW);
+    mark_kid(t, cap, n, NE);
 }
 
 fn mark_corners(t: &mut [i32], cap: usize, north: usize, east: usize, both: usize)
     requires { ⌜ (cap * rowWords + rowWords ≤ length (now t)) × (cap ≤ 4095) × (north ≤ cap) × (east ≤ cap) × (both ≤ cap) × Plain (now t) cap ⌝ }
     ensures { λ _. ⌜ (now (t .exit) ≡ eachAt (markRow cap) cap (cornerSpots north east both) (now (t .entry))) × Plain (now (t .exit)) cap ⌝ }
 {
-    mark_kid(t, cap, north, 0, 0);
-    mark_kid(t, cap, north, 1, 0);
-    mark_kid(t, cap, east, 0, 1);
-    mark_kid(t, cap, east, 0, 0);
-    mark_kid(t, cap, both, 0, 0);
+    mark_kid(t, cap, north, SW);
+    mark_kid(t, cap, north, SE);
+    mark_kid(t, cap, east, NW);
+    mark_kid(t, cap, east, SW);
+    mark_kid(t, cap, both, SW);
 }
 
 fn mark_sides(t: &mut [i32], cap: usize, south: usize, west: usize)
     requires { ⌜ (cap * rowWords + rowWords ≤ length (now t)) × (cap ≤ 4095) × (south ≤ cap) × (west ≤ cap) × Plain (now t) cap ⌝ }
     ensures { λ _. ⌜ (now (t .exit) ≡ eachAt (markRow cap) cap (sideSpots south west) (now (t .entry))) × Plain (now (t .exit)) cap ⌝ }
 {
-    mark_kid(t, cap, south, 0, 1);
-    mark_kid(t, cap, south, 1, 1);
-    mark_kid(t, cap, west, 1, 0);
-    mark_kid(t, cap, west, 1, 1);
+    mark_kid(t, cap, south, NW);
+    mark_kid(t, cap, south, NE);
+    mark_kid(t, cap, west, SE);
+    mark_kid(t, cap, west, NE);
 }
 
 // Of the nine rows that the kids of the row n want, the walls.
@@ -123,11 +127,11 @@ pub fn refresh_near(t: &mut [i32], cap: usize, d: u32, n: usize)
     requires { ⌜ (cap * rowWords + rowWords ≤ length (now t)) × (cap ≤ 4095) × (n ≤ cap) × (d ≤ 32) × Plain (now t) cap ⌝ }
     ensures { λ _. ⌜ now (t .exit) ≡ refreshNear (now (t .entry)) cap d n ⌝ }
 {
-    let north = crate::plain::link(t, cap, n, 5);
-    let east = crate::plain::link(t, cap, n, 6);
-    let both = crate::plain::link(t, cap, east, 5);
-    let south = crate::plain::link(t, cap, n, 7);
-    let west = crate::plain::link(t, cap, n, 8);
+    let north = plain::link(t, cap, n, 5);
+    let east = plain::link(t, cap, n, 6);
+    let both = plain::link(t, cap, east, 5);
+    let south = plain::link(t, cap, n, 7);
+    let west = plain::link(t, cap, n, 8);
     wall_near(t, cap, d, n, north, east, both);
     mark_near(t, cap, n, north, east, both);
     mark_sides(t, cap, south, west);

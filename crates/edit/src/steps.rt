@@ -5,12 +5,13 @@ ghost use lib.ListN.{length, getD};
 ghost use Rattle.mesh.specs.Place.{NE};
 ghost use Rattle.mesh.specs.Winds.{winds};
 ghost use Rattle.mesh.specs.Picture.{rowWords};
+ghost use Rattle.table.specs.Plain.{Plain};
 ghost use Rattle.editing.specs.Steps.{putUnlessNil, placeIn, linkIn, dropSide, takeOut};
 ghost use Rattle.editing.specs.Tables.{Lowers};
 ghost use Rattle.edit.specs.Links.{linkBy};
 ghost use Rattle.edit.specs.Small.{Small};
+use table::plain::link;
 use table::words::depth;
-use table::words::link;
 use table::words::word;
 use table::worked::kid_word;
 use table::worked::side_by;
@@ -71,8 +72,8 @@ pub fn link_in(t: &mut [i32], cap: usize, d: u32, p: usize, l: u32, m: u32, k: u
 
 // The neighbour in the wind at place w, if there is one, does not name the row k any more.
 fn drop_side(t: &mut [i32], cap: usize, k: usize, w: usize)
-    requires { ⌜ (cap * rowWords + rowWords ≤ length (now t)) × (cap ≤ 4095) × (k ≤ cap) × (w < 8) ⌝ }
-    ensures { λ _. ⌜ now (t .exit) ≡ dropSide (now (t .entry)) cap k (getD winds w NE) ⌝ }
+    requires { ⌜ (cap * rowWords + rowWords ≤ length (now t)) × (cap ≤ 4095) × (k ≤ cap) × (w < 8) × Plain (now t) cap ⌝ }
+    ensures { λ _. ⌜ (now (t .exit) ≡ dropSide (now (t .entry)) cap k (getD winds w NE)) × Plain (now (t .exit)) cap ⌝ }
 {
     let x = link(t, cap, k, w + 1);
     let c = mesh::wind(w);
@@ -80,7 +81,7 @@ fn drop_side(t: &mut [i32], cap: usize, k: usize, w: usize)
     put_unless_nil(t, x, o + 1, 0);
 }
 
-fn lesser(a: usize, b: usize) -> usize
+pub fn lesser(a: usize, b: usize) -> usize
     ensures { λ r. ⌜ r ≡ a - (a - b) ⌝ }
 {
     if a < b { a } else { b }
@@ -88,8 +89,8 @@ fn lesser(a: usize, b: usize) -> usize
 
 // The row k, which has no kids, is free; the bound below which none is, with it.
 pub fn take_out(t: &mut [i32], cap: usize, k: usize, low: usize) -> usize
-    requires { ⌜ (cap * rowWords + rowWords ≤ length (now t)) × (cap ≤ 4095) × (1 ≤ k) × (k ≤ cap) ⌝ }
-    ensures { λ r. ⌜ (now (t .exit) ≡ takeOut (now (t .entry)) cap k) × Lowers (now (t .entry)) (now (t .exit)) low r ⌝ }
+    requires { ⌜ (cap * rowWords + rowWords ≤ length (now t)) × (cap ≤ 4095) × (1 ≤ k) × (k ≤ cap) × Plain (now t) cap ⌝ }
+    ensures { λ r. ⌜ (now (t .exit) ≡ takeOut (now (t .entry)) cap k) × Lowers (now (t .entry)) (now (t .exit)) low r × Plain (now (t .exit)) cap ⌝ }
 {
     let p = link(t, cap, k, 0);
     let w = kid_word(word(t, k, 10) % 2, word(t, k, 11) % 2);

@@ -4,18 +4,16 @@
 use mathlib.Core.Path.{_≡_, refl, sym, ap, _∙_}
 use mathlib.Core.Bool.{Bool, true, false, not, _&&_, _||_, cond, Bool·beq}
 use mathlib.Core.List.{List}
-use Prim.Native.Nat.{ℕ, _+_, _*_, _%_, _<_}
+use Prim.Native.Nat.{ℕ, _+_, _*_}
 use native.Mathlib.Omega.{arith}
-use lib.Bits.{bitOr, or-lt}
-use lib.Dec.{eqb}
-use borrow.Author.Tests.{eqb-true, eqb-false}
+use lib.Bits.{bitOr}
 use lib.IntN.{ℤ}
 use Rattle.mesh.specs.Tools.{digits}
-use Rattle.table.specs.Digits.{four}
+use Rattle.table.specs.Digits.{four, pair}
 use Rattle.table.specs.Words.{linkOf, flagOf}
-use Rattle.table.specs.Worked.{edgeH, edgeV, innerH, innerV, flagsFrom}
+use Rattle.table.specs.Worked.{edgeAt, edgeH, edgeV, innerH, innerV, flagsFrom}
 use Rattle.table.proofs.Flags.{flags-sum}
-use Rattle.sound.specs.Parts.{pair, edgeAt}
+use Rattle.table.proofs.Paired.{meet}
 
 -- a wall beside a cell has one cell where the other side is none, and beside none where it is one
 beq-true : (x : Bool) → Bool·beq true x ≡ x
@@ -27,81 +25,6 @@ beq-false true = refl
 beq-false false = refl
 
 -- ---- flags as numbers
-
-last-digit : (x : ℕ) → x % 2 ≡ cond (eqb (x % 2) 1) 1 0
-last-digit x = go (eqb (x % 2) 1) refl
-  where
-    go : (b : Bool) → eqb (x % 2) 1 ≡ b → x % 2 ≡ cond b 1 0
-    go true e = eqb-true (x % 2) 1 e
-    go false e = omega (arith, eqb-false (x % 2) 1 e)
-
-pub wall-is : (x y : ℕ) → (x % 2 + 16 * (y % 2) < 32) × (x % 2 + 16 * (y % 2) ≡ pair (eqb (x % 2) 1) (eqb (y % 2) 1))
-wall-is x y = (omega arith, omega (arith, last-digit x, last-digit y))
-
-or-pair : (x y z u : Bool) → bitOr (pair x y) (pair z u) ≡ pair (x || z) (y || u)
-or-pair true true true true = refl
-or-pair true true true false = refl
-or-pair true true false true = refl
-or-pair true true false false = refl
-or-pair true false true true = refl
-or-pair true false true false = refl
-or-pair true false false true = refl
-or-pair true false false false = refl
-or-pair false true true true = refl
-or-pair false true true false = refl
-or-pair false true false true = refl
-or-pair false true false false = refl
-or-pair false false true true = refl
-or-pair false false true false = refl
-or-pair false false false true = refl
-or-pair false false false false = refl
-
-pub join-small : (a b : ℕ) → a < 32 → b < 32 → bitOr a b < 32
-join-small a b h k = or-lt 5 a b h k
-
-pub corner-is : (t : List ℤ) (cap n a b : ℕ) {x y i j r : ℕ} →
-    x ≡ linkOf t cap n a →
-    i ≡ pair (flagOf t 4 x) (flagOf t 8 x) →
-    y ≡ linkOf t cap n b →
-    j ≡ pair (flagOf t 5 y) (flagOf t 9 y) →
-    r ≡ bitOr i j →
-    r ≡ pair (flagOf t 4 (linkOf t cap n a) || flagOf t 5 (linkOf t cap n b)) (flagOf t 8 (linkOf t cap n a) || flagOf t 9 (linkOf t cap n b))
-corner-is t cap n a b x i y j r = r ∙ rw (i, j, x, y) (or-pair (flagOf t 4 (linkOf t cap n a)) (flagOf t 8 (linkOf t cap n a)) (flagOf t 5 (linkOf t cap n b)) (flagOf t 9 (linkOf t cap n b)))
-
--- a wall of the row itself, in each arm of the tests
-module _ (t : List ℤ) (cap d n : ℕ) (one : Bool) (w k : ℕ) where
-  abbrev OwnIs : ℕ → Type 0
-  OwnIs r = (r < 32) × (r ≡ pair (edgeAt t cap d n one w k) (one && not (edgeAt t cap d n one w k)))
-
-  pub own-none : one ≡ false → OwnIs 0
-  own-none o = (omega arith, rw o)
-
-  module _ {b : Bool} (edge : b ≡ edgeAt t cap d n one w k) where
-    pub own-edge : b ≡ true → OwnIs 1
-    own-edge h = (omega arith, rw (← edge, h) (go one))
-      where
-        go : (x : Bool) → 1 ≡ pair true (x && false)
-        go true = refl
-        go false = refl
-
-    pub own-inner : one ≡ true → b ≡ false → OwnIs 16
-    own-inner o h = (omega arith, rw (← edge, h, o))
-
--- all the walls that meet at a corner: the row's own, and those of two neighbours
-swap : (h v a b : Bool) → ((h || v) || (a || b)) ≡ (h || (a || (v || b)))
-swap true v a b = refl
-swap false true true b = refl
-swap false true false b = refl
-swap false false a b = refl
-
-meet : (h v i j a b c e : Bool) {hh vv x near r : ℕ} →
-    hh ≡ pair h i →
-    vv ≡ pair v j →
-    x ≡ bitOr hh vv →
-    near ≡ pair (a || b) (c || e) →
-    r ≡ bitOr x near →
-    r ≡ pair (h || (a || (v || b))) (i || (c || (j || e)))
-meet h v i j a b c e p q x n r = r ∙ rw (x, p, q, n, or-pair h i v j, or-pair (h || v) (i || j) (a || b) (c || e), swap h v a b, swap i j c e)
 
 -- the walls of both kinds at once are the flags four at a time
 pairs-four : (p q r h v i j e f d n : Bool) →

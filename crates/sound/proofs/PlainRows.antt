@@ -17,12 +17,12 @@ use Rattle.mesh.specs.Picture.{rowWords}
 use Rattle.mesh.specs.Winds.{wordOfWind}
 use Rattle.table.specs.Words.{wordOf, linkOf, depthOf}
 use Rattle.table.specs.Worked.{kidWord, sideOf}
-use Rattle.table.proofs.Links.{link-within}
+use Rattle.table.proofs.Links.{link-within, link-word}
 use Rattle.geometry.proofs.Base.{Rectangle}
 use Rattle.geometry.proofs.Bools.{and-left, and-right, is-yes, yes-is}
 use Rattle.geometry.proofs.Digits.{aside}
 use Rattle.checking.specs.Rowwise.{below, rowwise}
-use Rattle.checking.proofs.Facts.{Used, Empty, Tested, below-at, link-word, rowwise-tested}
+use Rattle.checking.proofs.Facts.{Used, Empty, Tested, below-at, rowwise-tested}
 use Rattle.checking.proofs.Climbing.{spot-small}
 use Rattle.checking.proofs.Reading.{flags-small}
 use Rattle.sound.specs.Parts.{linked}
@@ -105,23 +105,27 @@ module _ (t : List ℤ) (cap : ℕ) where
     row-at n l = yes-is _ (below-at (suc cap) (plainRow t cap d) (is-yes _ all) n (omega arith))
 
     pub plain-table : cap * rowWords + rowWords ≤ length t → cap ≤ 4095 → Plain t cap
-    plain-table l s = record { words = l; small = s; links = λ n w h. plain-parts d n (row-at n h) .0 w; signs = λ n w h. signs n w (plain-parts d n (row-at n h)) }
+    plain-table l s =
+        record {
+          words = l;
+          small = s;
+          read = record { links = λ n w h. plain-parts d n (row-at n h) .0 w; flags = λ n h. plain-parts d n (row-at n h) .4 };
+          indices = λ n w h. index n w (plain-parts d n (row-at n h) .2) (plain-parts d n (row-at n h) .3);
+        }
       where
-        signs : (n w : ℕ) → ((w : ℕ) → w < 9 → wordOf t n w ≤ cap) × (depthOf t d n ≤ d + 12) × (wordOf t n 10 < 2147483648) × (wordOf t n 11 < 2147483648) × (wordOf t n 12 < 2147483648) → 9 < w → w < 13 → wordOf t n w < 2147483648
-        signs n w (x, y, i, j, k) a b = go (ℕ-discrete w 10) (ℕ-discrete w 11) (ℕ-discrete w 12)
+        index : (n w : ℕ) → wordOf t n 10 < 2147483648 → wordOf t n 11 < 2147483648 → 9 < w → w < 12 → wordOf t n w < 2147483648
+        index n w i j a b = go (ℕ-discrete w 10)
           where
-            go : Dec (w ≡ 10) → Dec (w ≡ 11) → Dec (w ≡ 12) → wordOf t n w < 2147483648
-            go (yes e) q r = rw e i
-            go (no p) (yes e) r = rw e j
-            go (no p) (no q) (yes e) = rw e k
-            go (no p) (no q) (no r) = absurd (omega (arith, p, q, r))
+            go : Dec (w ≡ 10) → wordOf t n w < 2147483648
+            go (yes e) = rw e i
+            go (no q) = let e : w ≡ 11 = omega (arith, q) in rw e j
 
     pub levelled-table : d ≤ 32 → Levelled t cap d
     levelled-table h = record { shallow = h; deep = λ n l. plain-parts d n (row-at n l) .1 }
 
 -- a link is the word itself
 pub kept-as-is : {t : List ℤ} {cap n : ℕ} → Plain t cap → n ≤ cap → (w : ℕ) → w < 9 → linkOf t cap n w ≡ wordOf t n w
-kept-as-is {t} {cap} {n} p h w l = link-word t cap n w (p .links n w h l)
+kept-as-is {t} {cap} {n} p h w l = link-word t cap n w (p .read .links n w h l)
 
 -- ---- what passes the test of rows
 

@@ -1,12 +1,12 @@
--- Words that are read as they stand: what the test of a sign says, and what a word with no sign is as a number, a link or a depth.
+-- Words that are read as they stand: what the test of a sign says, and what depth a level is.
 -- Assumes nothing.
-use mathlib.Core.Path.{_≡_, refl, sym, _∙_}
+use mathlib.Core.Path.{_≡_, sym, _∙_}
 use mathlib.Core.Bool.{true, not, cond}
 use mathlib.Core.List.{List}
 use Prim.Native.Nat.{ℕ, _+_, _-_, _*_, _≤_, _<_}
 use native.Mathlib.Omega.{arith}
 use native.Mathlib.Decide.{decLt, ℕ-discrete}
-use lib.Dec.{eqb, leb, ltb}
+use lib.Dec.{eqb, ltb}
 use lib.ListN.{getD}
 use lib.IntN.{ℤ, pos, negsuc, natAbs}
 use lib.Signed.{leZ}
@@ -27,25 +27,7 @@ sign-is {z} f = rw (toZ-ofZ f) (go z f)
     go (pos n) f = le-leb 0 n (omega arith) ∙ sym (lt-ltb n 2147483648 (f .sfits))
     go (negsuc n) f = sym (le-ltb (2147483648 + n) 2147483648 (omega arith))
 
--- a word without a sign
-pub unsigned : (z : ℤ) → code z < 2147483648 → Plus z
-unsigned (pos n) h = record { size = n; is = refl; small = h }
-unsigned (negsuc n) h = absurd (omega arith)
-
-pub size-code : (z : ℤ) → code z < 2147483648 → natAbs z ≡ code z
-size-code (pos n) h = refl
-size-code (negsuc n) h = absurd (omega arith)
-
--- a word within the capacity is the link itself
-pub link-as-is : (m : ℕ) → m ≤ 4095 → (z : ℤ) → code z ≤ m → (natAbs z ≤ m) × (natAbs z ≡ cond (leb (code z) m) (code z) 0)
-link-as-is m h (pos n) l = (l, rw (le-leb n m l))
-link-as-is m h (negsuc n) l = absurd (omega arith)
-
--- the word at its place in the list
-pub word-there : (t : List ℤ) (n w b : ℕ) {z : ℤ} → z ≡ getD t (n * rowWords + w) (pos 0) → wordOf t n w ≤ b → code z ≤ b
-unfolding wordOf
-word-there t n w b e h = rw e h
-
+-- the level at its place in the list
 pub depth-there : (t : List ℤ) (d n b : ℕ) {z : ℤ} → z ≡ getD t (n * rowWords + 9) (pos 0) → depthOf t d n ≤ b → depthFrom d (code z) ≤ b
 unfolding depthOf wordOf
 depth-there t d n b e h = rw e h

@@ -1,7 +1,7 @@
 -- Parts of the tests of a row that have no name there.
 -- Assumes nothing.
-use Prim.Native.Nat.{ℕ, _+_, _*_, _%_}
-use mathlib.Core.Bool.{Bool, not, _&&_, _||_, cond}
+use Prim.Native.Nat.{ℕ}
+use mathlib.Core.Bool.{Bool, not, _&&_, cond}
 use mathlib.Core.List.{List, [], _∷_}
 use lib.Dec.{eqb, ltb}
 use lib.ListN.{getD}
@@ -15,15 +15,7 @@ use Rattle.table.specs.Words.{wordOf, linkOf, flagOf, depthOf}
 use Rattle.table.specs.Sides.{sideBy}
 use Rattle.checking.specs.Rowwise.{below, kidCellsAre}
 
--- a boundary wall and a green one, as one number
-abbrev pub pair : Bool → Bool → ℕ
-pair x y = cond x 1 0 + 16 * cond y 1 0
-
 module _ (t : List ℤ) (cap : ℕ) where
-  -- a wall that is boundary if it has one cell: on level 0, and above where the wall of bit k of the parent is and the word w is even
-  abbrev pub edgeAt : ℕ → ℕ → Bool → ℕ → ℕ → Bool
-  edgeAt d n one w k = one && (eqb (depthOf t d n) d || (eqb (wordOf t n w % 2) 0 && flagOf t k (linkOf t cap n 0)))
-
   -- each of the four kids is a cell, or none is: the rectangle and the values play no part
   abbrev pub kidCells : ℕ → Bool → Bool
   kidCells n b = kidCellsAre (rectangle 0 0) cap t [] n b

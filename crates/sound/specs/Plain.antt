@@ -8,6 +8,7 @@ use lib.ListN.{length}
 use lib.IntN.{ℤ}
 use Rattle.mesh.specs.Picture.{rowWords}
 use Rattle.table.specs.Words.{wordOf, depthOf}
+use Rattle.table.specs.Plain as Table
 use Rattle.sound.specs.Parts.{linked}
 
 -- a word that is not negative
@@ -22,8 +23,8 @@ plainRow t cap d n = linked t cap n && leb (depthOf t d n) (d + 12) && positive 
 pub record Plain (t : List ℤ) (cap : ℕ) : Type 0 where
   pub words : cap * rowWords + rowWords ≤ length t
   pub small : cap ≤ 4095
-  pub links : (n w : ℕ) → n ≤ cap → w < 9 → wordOf t n w ≤ cap
-  pub signs : (n w : ℕ) → n ≤ cap → 9 < w → w < 13 → wordOf t n w < 2147483648
+  pub read : Table.Plain t cap
+  pub indices : (n w : ℕ) → n ≤ cap → 9 < w → w < 12 → wordOf t n w < 2147483648
 
 -- and their levels, with level 0 at depth d
 pub record Levelled (t : List ℤ) (cap d : ℕ) : Type 0 where

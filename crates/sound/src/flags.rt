@@ -1,22 +1,24 @@
 // The flags of a cell, and of a point that is none. Boundary and green walls are counted together, as 1 and as 16: their flags stand four bits apart.
 ghost use mathlib.Core.Path.{_≡_};
-ghost use mathlib.Core.Bool.{true, false, not, _&&_, _||_};
+ghost use mathlib.Core.Bool.{true, false, not, _&&_};
 ghost use Prim.Native.Nat.{_+_, _≤_, _<_};
-ghost use lib.Bits.{bitOr};
 ghost use Rattle.mesh.specs.Tools.{digits};
 ghost use Rattle.table.specs.Words.{linkOf, flagOf};
-ghost use Rattle.table.specs.Worked.{flagsFrom};
-ghost use Rattle.sound.specs.Parts.{pair, edgeAt};
+ghost use Rattle.table.specs.Digits.{pair};
+ghost use Rattle.table.specs.Worked.{edgeAt, flagsFrom};
 ghost use Rattle.sound.specs.Plain.{Plain, Levelled};
 use crate::plain::depth;
-use crate::plain::flag;
-use crate::plain::link;
-use crate::plain::word;
+use crate::plain::index;
+use table::pairs::corner;
+use table::pairs::counted;
+use table::pairs::join;
+use table::plain::flag;
+use table::plain::link;
 use table::worked::weigh;
 
 // Whether a wall is boundary, if it has one cell: on level 0, and above where the wall of the parent is, by its bit k, and the word w is even.
 fn edge(t: &[i32], cap: usize, d: u32, n: usize, one: bool, w: usize, k: u32) -> bool
-    requires { ⌜ Plain (now t) cap × Levelled (now t) cap d × (n ≤ cap) × (9 < w) × (w < 13) × (k < 32) ⌝ }
+    requires { ⌜ Plain (now t) cap × Levelled (now t) cap d × (n ≤ cap) × (9 < w) × (w < 12) × (k < 32) ⌝ }
     ensures { λ r. ⌜ r ≡ edgeAt (now (t .entry)) cap d n one w k ⌝ }
 {
     if !one {
@@ -25,49 +27,15 @@ fn edge(t: &[i32], cap: usize, d: u32, n: usize, one: bool, w: usize, k: u32) ->
     if depth(t, cap, d, n) == d {
         return true;
     }
-    (word(t, cap, n, w) % 2 == 0) & flag(t, cap, k, link(t, cap, n, 0))
+    (index(t, cap, n, w) % 2 == 0) & flag(t, cap, k, link(t, cap, n, 0))
 }
 
 // A wall of the row that has one cell, if it has one: 1 where it is boundary, 16 where it is green.
 fn own(t: &[i32], cap: usize, d: u32, n: usize, one: bool, w: usize, k: u32) -> u32
-    requires { ⌜ Plain (now t) cap × Levelled (now t) cap d × (n ≤ cap) × (9 < w) × (w < 13) × (k < 32) ⌝ }
+    requires { ⌜ Plain (now t) cap × Levelled (now t) cap d × (n ≤ cap) × (9 < w) × (w < 12) × (k < 32) ⌝ }
     ensures { λ r. ⌜ (r < 32) × (r ≡ pair (edgeAt (now (t .entry)) cap d n one w k) (one && not (edgeAt (now (t .entry)) cap d n one w k))) ⌝ }
 {
-    if !one {
-        return 0;
-    }
-    if edge(t, cap, d, n, one, w, k) {
-        return 1;
-    }
-    16
-}
-
-// The wall of bit k of the row n, boundary or green.
-fn wall(t: &[i32], cap: usize, k: u32, n: usize) -> u32
-    requires { ⌜ Plain (now t) cap × (n ≤ cap) × (k < 28) ⌝ }
-    ensures { λ r. ⌜ (r < 32) × (r ≡ pair (flagOf (now (t .entry)) k n) (flagOf (now (t .entry)) (k + 4) n)) ⌝ }
-{
-    let w = word(t, cap, n, 12);
-    (w >> k) % 2 + 16 * ((w >> (k + 4)) % 2)
-}
-
-// Two walls that meet.
-fn join(a: u32, b: u32) -> u32
-    requires { ⌜ (a < 32) × (b < 32) ⌝ }
-    ensures { λ r. ⌜ (r < 32) × (r ≡ bitOr a b) ⌝ }
-{
-    a | b
-}
-
-// The walls that the neighbours at the words a and b have at a corner: an H-wall and a V-wall.
-fn corner(t: &[i32], cap: usize, n: usize, a: usize, b: usize) -> u32
-    requires { ⌜ Plain (now t) cap × (n ≤ cap) × (a < 9) × (b < 9) ⌝ }
-    ensures { λ r. ⌜ (r < 32) × (r ≡ pair (flagOf (now (t .entry)) 4 (linkOf (now (t .entry)) cap n a) || flagOf (now (t .entry)) 5 (linkOf (now (t .entry)) cap n b)) (flagOf (now (t .entry)) 8 (linkOf (now (t .entry)) cap n a) || flagOf (now (t .entry)) 9 (linkOf (now (t .entry)) cap n b))) ⌝ }
-{
-    join(
-        wall(t, cap, 4, link(t, cap, n, a)),
-        wall(t, cap, 5, link(t, cap, n, b)),
-    )
+    counted(one, edge(t, cap, d, n, one, w, k))
 }
 
 // The flags of a cell whose own walls have two cells: only the walls of its neighbours play a part.

@@ -3,10 +3,11 @@ ghost use mathlib.Core.Path.{_≡_};
 ghost use Prim.Native.Nat.{_+_, _*_, _≤_, _<_, suc};
 ghost use lib.ListN.{length};
 ghost use Rattle.mesh.specs.Picture.{rowWords};
-ghost use Rattle.table.specs.Words.{wordOf, linkOf, flagOf, depthOf};
+ghost use Rattle.table.specs.Words.{wordOf, depthOf};
 ghost use Rattle.checking.specs.Rowwise.{below};
 ghost use Rattle.sound.specs.Plain.{positive, plainRow, Plain, Levelled};
 use crate::tree::linked_ok;
+use table::plain::word;
 use table::words::raw;
 
 // Whether the word w of the row n is not negative.
@@ -44,28 +45,12 @@ pub fn plain(t: &[i32], cap: usize, d: u32) -> bool
     true
 }
 
-// The row that the word w of the row n names, or 0.
-pub fn link(t: &[i32], cap: usize, n: usize, w: usize) -> usize
-    requires { ⌜ Plain (now t) cap × (n ≤ cap) × (w < 9) ⌝ }
-    ensures { λ r. ⌜ (r ≤ cap) × (r ≡ linkOf (now (t .entry)) cap n w) ⌝ }
-{
-    raw(t, n, w) as usize
-}
-
-// An index of the row n, or its flags.
-pub fn word(t: &[i32], cap: usize, n: usize, w: usize) -> u32
-    requires { ⌜ Plain (now t) cap × (n ≤ cap) × (9 < w) × (w < 13) ⌝ }
+// An index of the row n.
+pub fn index(t: &[i32], cap: usize, n: usize, w: usize) -> u32
+    requires { ⌜ Plain (now t) cap × (n ≤ cap) × (9 < w) × (w < 12) ⌝ }
     ensures { λ r. ⌜ r ≡ wordOf (now (t .entry)) n w ⌝ }
 {
-    raw(t, n, w) as u32
-}
-
-// The flag of bit k.
-pub fn flag(t: &[i32], cap: usize, k: u32, n: usize) -> bool
-    requires { ⌜ Plain (now t) cap × (n ≤ cap) × (k < 32) ⌝ }
-    ensures { λ r. ⌜ r ≡ flagOf (now (t .entry)) k n ⌝ }
-{
-    (word(t, cap, n, 12) >> k) % 2 == 1
+    word(t, n, w)
 }
 
 // The depth of the row n. Both arms are one sum to the compiler.

@@ -10,10 +10,10 @@ ghost use Rattle.sound.specs.Plain.{Plain, Levelled};
 use crate::flags::bare_flags;
 use crate::flags::cell_flags;
 use crate::plain::depth;
-use crate::plain::flag;
-use crate::plain::link;
-use crate::plain::word;
+use crate::plain::index;
 use crate::tree::no_kids;
+use table::plain::flag;
+use table::plain::link;
 use table::words::says;
 
 // A ghost has flags 0 and a kid.
@@ -77,7 +77,7 @@ fn inside(t: &[i32], cap: usize, columns: u32, rows: u32, d: u32, n: usize) -> b
     ensures { λ r. ⌜ r ≡ insideOf (now (t .entry)) cap columns rows d n ⌝ }
 {
     if depth(t, cap, d, n) == d {
-        return (word(t, cap, n, 10) < columns) & (word(t, cap, n, 11) < rows);
+        return (index(t, cap, n, 10) < columns) & (index(t, cap, n, 11) < rows);
     }
     flag(t, cap, 0, link(t, cap, n, 0))
 }

@@ -14,8 +14,8 @@ ghost use Rattle.sound.specs.Lent.{Lent};
 ghost use Rattle.sound.specs.Parts.{linked, noKids, sidesBy};
 ghost use Rattle.sound.specs.Plain.{Plain, Levelled};
 use crate::plain::depth;
-use crate::plain::link;
-use crate::plain::word;
+use crate::plain::index;
+use table::plain::link;
 use table::words::named;
 use table::words::says;
 use table::worked::kid_word;
@@ -68,11 +68,11 @@ pub fn child_ok(t: &[i32], v: &[f64], cap: usize, columns: u32, rows: u32, d: u3
     if !is_above(t, cap, d, p, n) {
         return false;
     }
-    let i = word(t, cap, n, 10);
+    let i = index(t, cap, n, 10);
     if !says(t, p, 10, i / 2) {
         return false;
     }
-    let j = word(t, cap, n, 11);
+    let j = index(t, cap, n, 11);
     if !says(t, p, 11, j / 2) {
         return false;
     }
@@ -121,8 +121,8 @@ pub fn kid_ok(
     }
     !says(t, k, 12, 8192)
         & says(t, k, 0, n as u32)
-        & (word(t, cap, k, 10) % 2 == l)
-        & (word(t, cap, k, 11) % 2 == m)
+        & (index(t, cap, k, 10) % 2 == l)
+        & (index(t, cap, k, 11) % 2 == m)
 }
 
 // Whether no kid word names a row.
@@ -192,8 +192,8 @@ pub fn sides_ok(t: &[i32], v: &[f64], cap: usize, columns: u32, rows: u32, d: u3
 {
     // Digits that are written out make the choice of the parent's neighbours one of the compiler's.
     let p = link(t, cap, n, 0);
-    let i = word(t, cap, n, 10);
-    let j = word(t, cap, n, 11);
+    let i = index(t, cap, n, 10);
+    let j = index(t, cap, n, 11);
     if i % 2 == 0 {
         if j % 2 == 0 {
             return sides_by(t, cap, n, p, 0, 0);

@@ -4,3 +4,4 @@ pub mod Words
 pub mod Worked
 pub mod Sides
 pub mod Writes
+pub mod Plain

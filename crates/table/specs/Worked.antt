@@ -2,11 +2,10 @@
 -- and the parent's walls.
 -- Assumes nothing.
 use Prim.Native.Nat.{ℕ, _+_, _-_, _%_}
-use mathlib.Core.Bool.{Bool, true, false, not, _&&_, _||_, cond, Bool·beq}
+use mathlib.Core.Bool.{Bool, false, not, _&&_, _||_, cond, Bool·beq}
 use mathlib.Core.List.{List, [], _∷_}
 use lib.Dec.{eqb, leb}
 use lib.IntN.{ℤ}
-use Rattle.mesh.specs.Tools.{digits}
 use Rattle.mesh.specs.Place.{Wind, compass}
 use Rattle.mesh.specs.Winds.{wordOfWind}
 use Rattle.table.specs.Words.{wordOf, linkOf, flagOf, depthOf}
@@ -36,12 +35,16 @@ module _ (t : List ℤ) (cap d : ℕ) where
   abbrev pub cellIn : ℕ → Bool
   cellIn n = flagOf t 0 n
 
-  -- a wall of the row with one cell: it is boundary on level 0, and above where it lies on a boundary wall of the parent
+  -- a wall that is boundary if it has one cell: on level 0, and above where the wall of bit k of the parent is and the word w is even
+  abbrev pub edgeAt : ℕ → Bool → ℕ → ℕ → Bool
+  edgeAt n one w k = one && (eqb (depthOf t d n) d || (eqb (wordOf t n w % 2) 0 && flagOf t k (linkOf t cap n 0)))
+
+  -- a wall of the row with one cell that is boundary: below the place, and left of it
   unfoldable pub edgeH : ℕ → Bool
-  edgeH n = not (Bool·beq (cellIn n) (cellIn (linkOf t cap n 7))) && (eqb (depthOf t d n) d || (eqb (wordOf t n 11 % 2) 0 && flagOf t 4 (linkOf t cap n 0)))
+  edgeH n = edgeAt n (not (Bool·beq (cellIn n) (cellIn (linkOf t cap n 7)))) 11 4
 
   unfoldable pub edgeV : ℕ → Bool
-  edgeV n = not (Bool·beq (cellIn n) (cellIn (linkOf t cap n 8))) && (eqb (depthOf t d n) d || (eqb (wordOf t n 10 % 2) 0 && flagOf t 5 (linkOf t cap n 0)))
+  edgeV n = edgeAt n (not (Bool·beq (cellIn n) (cellIn (linkOf t cap n 8)))) 10 5
 
   unfoldable pub innerH : ℕ → Bool
   innerH n = not (Bool·beq (cellIn n) (cellIn (linkOf t cap n 7))) && not (edgeH n)

@@ -1,4 +1,6 @@
 // The lent table: every read and write of its words and values.
+pub mod pairs;
+pub mod plain;
 pub mod values;
 pub mod words;
 pub mod worked;

@@ -1,20 +1,18 @@
 // The words that are worked out from other rows' words: neighbours and flags.
 ghost use mathlib.Core.Path.{_≡_};
-ghost use mathlib.Core.Bool.{cond, _&&_, _||_};
-ghost use Prim.Native.Nat.{_+_, _*_, _%_, _<_, _≤_};
-ghost use lib.Dec.{eqb};
+ghost use mathlib.Core.Bool.{cond};
+ghost use Prim.Native.Nat.{_+_, _*_, _<_, _≤_};
 ghost use lib.ListN.{length, getD};
-ghost use Rattle.mesh.specs.Tools.{digits};
 ghost use Rattle.mesh.specs.Place.{NE};
 ghost use Rattle.mesh.specs.Winds.{winds};
 ghost use Rattle.mesh.specs.Picture.{rowWords};
 ghost use Rattle.table.specs.Digits.{four};
-ghost use Rattle.table.specs.Words.{wordOf, linkOf, flagOf, depthOf};
+ghost use Rattle.table.specs.Words.{linkOf};
 ghost use Rattle.table.specs.Sides.{sideBy};
-ghost use Rattle.table.specs.Worked.{kidWord, staysIn, edgeH, edgeV, innerH, innerV, flagsFrom};
-use crate::words::depth;
+ghost use Rattle.table.specs.Worked.{kidWord, staysIn, edgeAt, edgeH, edgeV, innerH, innerV};
 use crate::words::flag;
 use crate::words::link;
+use crate::words::says;
 use crate::words::word;
 
 // The word of the kid whose column ends in the digit l and whose row ends in the digit m.
@@ -56,12 +54,12 @@ pub fn side_by(t: &[i32], cap: usize, p: usize, l: u32, m: u32, w: usize) -> usi
 // Whether a wall is boundary, if it has one cell: on level 0, and above where the wall of the parent is, by its bit k, and the word w is even.
 pub fn edge(t: &[i32], cap: usize, d: u32, n: usize, one: bool, w: usize, k: u32) -> bool
     requires { ⌜ (cap * rowWords + rowWords ≤ length (now t)) × (cap ≤ 4095) × (n ≤ cap) × (d ≤ 32) × (w < rowWords) × (k < 32) ⌝ }
-    ensures { λ r. ⌜ r ≡ (one && (eqb (depthOf (now (t .entry)) d n) d || (eqb (wordOf (now (t .entry)) n w % 2) 0 && flagOf (now (t .entry)) k (linkOf (now (t .entry)) cap n 0)))) ⌝ }
+    ensures { λ r. ⌜ r ≡ edgeAt (now (t .entry)) cap d n one w k ⌝ }
 {
     if !one {
         return false;
     }
-    if depth(t, d, n) == d {
+    if says(t, n, 9, 0) {
         return true;
     }
     (word(t, n, w) % 2 == 0) & flag(t, k, link(t, cap, n, 0))
@@ -101,34 +99,6 @@ pub fn inner_v(t: &[i32], cap: usize, d: u32, n: usize) -> bool
     one & !edge_v(t, cap, d, n)
 }
 
-// Whether a cell stands under the number or under its neighbour of the word w.
-fn beside(t: &[i32], cap: usize, n: usize, w: usize) -> bool
-    requires { ⌜ (cap * rowWords + rowWords ≤ length (now t)) × (cap ≤ 4095) × (n ≤ cap) × (w < rowWords) ⌝ }
-    ensures { λ r. ⌜ r ≡ (flagOf (now (t .entry)) 0 n || flagOf (now (t .entry)) 0 (linkOf (now (t .entry)) cap n w)) ⌝ }
-{
-    flag(t, 0, n) | flag(t, 0, link(t, cap, n, w))
-}
-
-// Whether one of the walls that meet at the place is of the kind of bit k: h and v are the row's own.
-pub fn meets(t: &[i32], cap: usize, k: u32, n: usize, h: bool, v: bool) -> bool
-    requires { ⌜ (cap * rowWords + rowWords ≤ length (now t)) × (cap ≤ 4095) × (n ≤ cap) × (k < 31) ⌝ }
-    ensures { λ r. ⌜ r ≡ (h || (flagOf (now (t .entry)) k (linkOf (now (t .entry)) cap n 8) || (v || flagOf (now (t .entry)) (k + 1) (linkOf (now (t .entry)) cap n 7)))) ⌝ }
-{
-    let a = link(t, cap, n, 8);
-    let b = link(t, cap, n, 7);
-    h | (flag(t, k, a) | (v | flag(t, k + 1, b)))
-}
-
-// Whether one of the walls of the far corners is, with those of the row.
-pub fn meets_far(t: &[i32], cap: usize, k: u32, n: usize, h: bool, v: bool) -> bool
-    requires { ⌜ (cap * rowWords + rowWords ≤ length (now t)) × (cap ≤ 4095) × (n ≤ cap) × (k < 31) ⌝ }
-    ensures { λ r. ⌜ r ≡ (h || (flagOf (now (t .entry)) k (linkOf (now (t .entry)) cap n 5) || (v || flagOf (now (t .entry)) (k + 1) (linkOf (now (t .entry)) cap n 6)))) ⌝ }
-{
-    let a = link(t, cap, n, 5);
-    let b = link(t, cap, n, 6);
-    h | (flag(t, k, a) | (v | flag(t, k + 1, b)))
-}
-
 // The number whose four binary digits these are, lowest first.
 pub fn digits_of_four(a: bool, b: bool, c: bool, e: bool) -> u32
     ensures { λ r. ⌜ (r < 16) × (r ≡ four a b c e) ⌝ }
@@ -141,26 +111,4 @@ pub fn weigh(b: bool, w: u32) -> u32
     ensures { λ r. ⌜ (r ≤ w) × (r ≡ w * cond b 1 0) ⌝ }
 {
     if b { w } else { 0 }
-}
-
-// The flags of a row from level 0 up.
-pub fn flags_from(t: &[i32], cap: usize, d: u32, n: usize, sentenced: bool) -> u32
-    requires { ⌜ (cap * rowWords + rowWords ≤ length (now t)) × (cap ≤ 4095) × (n ≤ cap) × (d ≤ 32) ⌝ }
-    ensures { λ r. ⌜ r ≡ digits (flagsFrom (now (t .entry)) cap d n sentenced) ⌝ }
-{
-    let h = edge_h(t, cap, d, n);
-    let v = edge_v(t, cap, d, n);
-    let i = inner_h(t, cap, d, n);
-    let j = inner_v(t, cap, d, n);
-    let south = beside(t, cap, n, 7);
-    let west = beside(t, cap, n, 8);
-    let edges = meets(t, cap, 4, n, h, v);
-    let inners = meets(t, cap, 8, n, i, j);
-    let c = flag(t, 0, n);
-    let edged = c & meets_far(t, cap, 4, n, h, v);
-    let fenced = c & meets_far(t, cap, 8, n, i, j);
-    digits_of_four(c, south, west, edges)
-        + 16 * digits_of_four(h, v, edged, inners)
-        + 256 * digits_of_four(i, j, fenced, false)
-        + weigh(sentenced, 4096)
 }

@@ -12,7 +12,7 @@ use Rattle.mesh.specs.Valid.{Valid}
 use Rattle.mesh.specs.Picture.{rowWords, table, amounts}
 use Rattle.table.specs.Words.{wordOf}
 use Rattle.edit.specs.Small.{AllSmall}
-use Rattle.edit.specs.Plain.{Plain}
+use Rattle.table.specs.Plain.{Plain}
 
 -- the header, the words and the values are those of the state
 pub record Drawn (s : State) (columns rows mark cap : ℕ) (t : List ℤ) (v : List Float) : Type 0 where

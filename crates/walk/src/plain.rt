@@ -5,6 +5,7 @@ ghost use lib.Dec.{leb};
 ghost use Rattle.table.specs.Words.{linkOf, flagOf, depthOf};
 ghost use Rattle.walk.specs.Rows.{leafRow};
 ghost use Rattle.walk.specs.Plain.{Plain};
+use table::plain::word;
 use table::words::raw;
 
 // The row that the kid word w of the row n names, or 0.
@@ -12,7 +13,7 @@ pub fn link(t: &[i32], cap: usize, d: u32, n: usize, w: usize) -> usize
     requires { ⌜ Plain (now t) cap d × (n ≤ cap) × (w < 5) ⌝ }
     ensures { λ r. ⌜ (r ≤ cap) × (r ≡ linkOf (now (t .entry)) cap n w) ⌝ }
 {
-    raw(t, n, w) as usize
+    word(t, n, w) as usize
 }
 
 // The flag of bit k.
@@ -20,7 +21,7 @@ pub fn flag(t: &[i32], cap: usize, d: u32, k: u32, n: usize) -> bool
     requires { ⌜ Plain (now t) cap d × (n ≤ cap) × (k < 32) ⌝ }
     ensures { λ r. ⌜ r ≡ flagOf (now (t .entry)) k n ⌝ }
 {
-    (raw(t, n, 12) as u32 >> k) % 2 == 1
+    (word(t, n, 12) >> k) % 2 == 1
 }
 
 // Whether the row n is a leaf.

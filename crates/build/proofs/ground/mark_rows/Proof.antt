@@ -5,7 +5,7 @@ use mathlib.Core.Path.{_≡_, refl, sym, _∙_}
 use lib.ListN.{length}
 use Rattle.editing.specs.Anew.{markRow}
 use Rattle.editing.specs.Built.{eachRow}
-use Rattle.edit.specs.Plain.{Plain}
+use Rattle.table.specs.Plain.{Plain}
 use Rattle.build.proofs.Turns.{rows-on, rows-done}
 use native.Mathlib.Omega.{arith}
 use Rattle.build.proofs.ground.mark_rows.Statement.{statement}

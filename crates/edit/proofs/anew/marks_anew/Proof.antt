@@ -1,10 +1,31 @@
--- `edit::anew::marks_anew` meets its contract.
+-- `edit::anew::marks_anew` meets its contract: the walls of both kinds at once.
 -- Assumes nothing.
 use native.Mathlib.Omega.{arith}
 use borrow.Author.Needs.{needs}
 use Rattle.edit.proofs.Flags.{marks-sum}
 use Rattle.edit.proofs.anew.marks_anew.Statement.{statement}
 use Rattle.edit.proofs.anew.marks_anew.Tie as tie
+
+wall-requires : tie.Need-wall-requires
+wall-requires c κs = search needs
+
+wall-requires-2 : tie.Need-wall-requires-2
+wall-requires-2 c κs = search needs
+
+join-requires : tie.Need-join-requires
+join-requires c κs = search needs
+
+corner-requires : tie.Need-corner-requires
+corner-requires c κs = search needs
+
+join-requires-2 : tie.Need-join-requires-2
+join-requires-2 c κs = search needs
+
+corner-requires-2 : tie.Need-corner-requires-2
+corner-requires-2 c κs = search needs
+
+join-requires-3 : tie.Need-join-requires-3
+join-requires-3 c κs = search needs
 
 flag-requires : tie.Need-flag-requires
 flag-requires c κs = search needs
@@ -15,35 +36,8 @@ flag-requires-2 c κs = search needs
 flag-requires-3 : tie.Need-flag-requires-3
 flag-requires-3 c κs = search needs
 
-flag-requires-4 : tie.Need-flag-requires-4
-flag-requires-4 c κs = search needs
-
-flag-requires-5 : tie.Need-flag-requires-5
-flag-requires-5 c κs = search needs
-
-meets-requires : tie.Need-meets-requires
-meets-requires c κs = search needs
-
-meets-requires-2 : tie.Need-meets-requires-2
-meets-requires-2 c κs = search needs
-
-meets-requires-3 : tie.Need-meets-requires-3
-meets-requires-3 c κs = search needs
-
-meets-requires-4 : tie.Need-meets-requires-4
-meets-requires-4 c κs = search needs
-
-flag-requires-6 : tie.Need-flag-requires-6
-flag-requires-6 c κs = search needs
-
-flag-requires-7 : tie.Need-flag-requires-7
-flag-requires-7 c κs = search needs
-
 digits-of-four-requires : tie.Need-digits-of-four-requires
 digits-of-four-requires c κs = search needs
-
-digits-of-four-requires-2 : tie.Need-digits-of-four-requires-2
-digits-of-four-requires-2 c κs = search needs
 
 mul-result : tie.Need-mul-result
 mul-result c = search needs
@@ -51,68 +45,86 @@ mul-result c = search needs
 add-result : tie.Need-add-result
 add-result c = search needs
 
-digits-of-four-requires-3 : tie.Need-digits-of-four-requires-3
-digits-of-four-requires-3 c κs = search needs
-
 mul-result-2 : tie.Need-mul-result-2
 mul-result-2 c = search needs
 
 add-result-2 : tie.Need-add-result-2
 add-result-2 c = search needs
 
-flag-requires-8 : tie.Need-flag-requires-8
-flag-requires-8 c κs = let p = c .before .before .before .before .before .before .before .before .before .before .before .before .before .before .pre in (omega (arith, p .0), omega (arith, p .2), omega arith, p .3)
-
-weigh-requires : tie.Need-weigh-requires
-weigh-requires c κs = search needs
+mul-result-3 : tie.Need-mul-result-3
+mul-result-3 c = search needs
 
 add-result-3 : tie.Need-add-result-3
 add-result-3 c = search needs
 
+mul-weigh : tie.Need-mul-weigh
+mul-weigh c = search needs
+
+weigh-requires : tie.Need-weigh-requires
+weigh-requires c κs = search needs
+
+add-result-4 : tie.Need-add-result-4
+add-result-4 c = search needs
+
+flag-requires-4 : tie.Need-flag-requires-4
+flag-requires-4 c κs = search needs
+
+weigh-requires-2 : tie.Need-weigh-requires-2
+weigh-requires-2 c κs = search needs
+
+add-result-5 : tie.Need-add-result-5
+add-result-5 c =
+    let b₁ = c .before .before in
+    let b₂ = b₁ .before in
+    let b₃ = b₂ .before .before .before .before in
+    let b₄ = b₃ .before .before in
+    let b₅ = b₄ .before .before .before in
+    omega (arith, b₅ .before .wall .ensures .0, b₅ .wall2 .ensures .0, b₄ .join2 .ensures .0, b₃ .join3 .ensures .0, b₂ .digits-of-four .ensures .0, b₁ .weigh .ensures .0, c .weigh2 .ensures .0)
+
 returns : tie.Need-returns
-returns c = (
-  omega arith,
-  let b₁ = c .before in
-      let b₂ = b₁ .before in
-      let b₃ = b₂ .before in
-      let b₄ = b₃ .before in
-      let b₅ = b₄ .before in
-      let b₆ = b₅ .before in
-      let b₇ = b₆ .before in
-      let b₈ = b₇ .before in
-      let b₉ = b₈ .before in
-      let b₁₀ = b₉ .before in
-      let b₁₁ = b₁₀ .before in
-      let b₁₂ = b₁₁ .before in
-      let b₁₃ = b₁₂ .before in
-      let b₁₄ = b₁₃ .before in
-      let b₁₅ = b₁₄ .before in
-      marks-sum _ _ 0 _ (b₁₅ .flag .ensures) (b₁₄ .flag2 .ensures) (b₁₃ .flag3 .ensures) (b₁₂ .flag4 .ensures) (b₁₁ .flag5 .ensures) (b₁₀ .meets .ensures) (b₉ .meets2 .ensures) (b₈ .meets3 .ensures) (b₇ .meets4 .ensures) (b₆ .flag6 .ensures) (b₅ .flag7 .ensures) (b₄ .digits-of-four .ensures .1) (b₃ .digits-of-four2 .ensures .1) (b₂ .digits-of-four3 .ensures .1) (b₁ .flag8 .ensures) (c .weigh .ensures .1),
-)
+returns c =
+    let b₁ = c .before in
+    let b₂ = b₁ .before in
+    let b₃ = b₂ .before in
+    let b₄ = b₃ .before in
+    let b₅ = b₄ .before in
+    let b₆ = b₅ .before in
+    let b₇ = b₆ .before in
+    let b₈ = b₇ .before in
+    let b₉ = b₈ .before in
+    let b₁₀ = b₉ .before in
+    let b₁₁ = b₁₀ .before in
+    let b₁₂ = b₁₁ .before in
+    let b₁₃ = b₁₂ .before in (
+      omega (arith, b₁₃ .wall .ensures .0, b₁₂ .wall2 .ensures .0, b₉ .join2 .ensures .0, b₇ .join3 .ensures .0, b₃ .digits-of-four .ensures .0, b₂ .weigh .ensures .0, c .weigh2 .ensures .0),
+      marks-sum _ _ 0 _ (b₁₃ .wall .ensures .1) (b₁₂ .wall2 .ensures .1) (b₁₁ .join .ensures .1) (b₁₀ .corner .ensures .1) (b₉ .join2 .ensures .1) (b₈ .corner2 .ensures .1) (b₇ .join3 .ensures .1) (b₆ .flag .ensures) (b₅ .flag2 .ensures) (b₄ .flag3 .ensures) (b₃ .digits-of-four .ensures .1) (b₂ .weigh .ensures .1) (b₁ .flag4 .ensures) (c .weigh2 .ensures .1),
+    )
 
 pub marks-anew-spec : {M : Type 1} → statement M
 marks-anew-spec =
     tie.close
     (tie.spec
+    wall-requires
+    wall-requires-2
+    join-requires
+    corner-requires
+    join-requires-2
+    corner-requires-2
+    join-requires-3
     flag-requires
     flag-requires-2
     flag-requires-3
-    flag-requires-4
-    flag-requires-5
-    meets-requires
-    meets-requires-2
-    meets-requires-3
-    meets-requires-4
-    flag-requires-6
-    flag-requires-7
     digits-of-four-requires
-    digits-of-four-requires-2
     mul-result
     add-result
-    digits-of-four-requires-3
     mul-result-2
     add-result-2
-    flag-requires-8
-    weigh-requires
+    mul-result-3
     add-result-3
+    mul-weigh
+    weigh-requires
+    add-result-4
+    flag-requires-4
+    weigh-requires-2
+    add-result-5
     returns)

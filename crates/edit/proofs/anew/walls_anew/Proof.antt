@@ -30,8 +30,8 @@ edge-requires-2 c κs = search needs
 digits-of-four-requires : tie.Need-digits-of-four-requires
 digits-of-four-requires c κs = search needs
 
-digits-of-four-requires-2 : tie.Need-digits-of-four-requires-2
-digits-of-four-requires-2 c κs = search needs
+counted-requires : tie.Need-counted-requires
+counted-requires c κs = search needs
 
 mul-result : tie.Need-mul-result
 mul-result c = search needs
@@ -39,8 +39,8 @@ mul-result c = search needs
 add-result : tie.Need-add-result
 add-result c = search needs
 
-digits-of-four-requires-3 : tie.Need-digits-of-four-requires-3
-digits-of-four-requires-3 c κs = search needs
+counted-requires-2 : tie.Need-counted-requires-2
+counted-requires-2 c κs = search needs
 
 mul-result-2 : tie.Need-mul-result-2
 mul-result-2 c = search needs
@@ -68,7 +68,7 @@ returns c = (
       let b₉ = b₈ .before in
       let b₁₀ = b₉ .before in
       let b₁₁ = b₁₀ .before in
-      walls-sum _ _ _ _ (b₁₁ .args .sentenced) (b₁₀ .flag .ensures) (b₉ .link .ensures .1) (b₈ .flag2 .ensures) (b₇ .link2 .ensures .1) (b₆ .flag3 .ensures) (b₅ .edge .ensures) (b₄ .edge2 .ensures) (b₃ .digits-of-four .ensures .1) (b₂ .digits-of-four2 .ensures .1) (b₁ .digits-of-four3 .ensures .1) (c .weigh .ensures .1),
+      walls-sum _ _ _ _ (b₁₁ .args .sentenced) (b₁₀ .flag .ensures) (b₉ .link .ensures .1) (b₈ .flag2 .ensures) (b₇ .link2 .ensures .1) (b₆ .flag3 .ensures) (b₅ .edge .ensures) (b₄ .edge2 .ensures) (b₃ .digits-of-four .ensures .1) (b₂ .counted .ensures .1) (b₁ .counted2 .ensures .1) (c .weigh .ensures .1),
 )
 
 pub walls-anew-spec : {M : Type 1} → statement M
@@ -83,10 +83,10 @@ walls-anew-spec =
     edge-requires
     edge-requires-2
     digits-of-four-requires
-    digits-of-four-requires-2
+    counted-requires
     mul-result
     add-result
-    digits-of-four-requires-3
+    counted-requires-2
     mul-result-2
     add-result-2
     weigh-requires

@@ -2,7 +2,8 @@
 -- Assumes nothing.
 use native.Mathlib.Omega.{arith}
 use borrow.Author.Needs.{needs}
-use Rattle.edit.proofs.Requests.{removed, removed-plain, removed-lowers}
+use Rattle.edit.proofs.Requests.{removed, removed-lowers}
+use Rattle.edit.proofs.PlainRows.{plain-kids}
 use Rattle.edit.proofs.remove.remove_table.Statement.{statement}
 use Rattle.edit.proofs.remove.remove_table.Tie as tie
 
@@ -10,28 +11,30 @@ put-cells-requires : tie.Need-put-cells-requires
 put-cells-requires c κs = search needs
 
 link-requires : tie.Need-link-requires
-link-requires c κs = search needs
+link-requires c κs =
+    let b = c .before .before in
+    (omega arith, omega arith, omega arith, omega arith, plain-kids _ (b .before .before .pre .4) (b .put-cells .ensures))
 
 link-requires-2 : tie.Need-link-requires-2
-link-requires-2 c κs = search needs
+link-requires-2 c κs =
+    let b = c .before .before .before .before in
+    (omega arith, omega arith, omega arith, omega arith, plain-kids _ (b .before .before .pre .4) (b .put-cells .ensures))
 
 link-requires-3 : tie.Need-link-requires-3
-link-requires-3 c κs = search needs
+link-requires-3 c κs =
+    let b = c .before .before .before .before .before .before in
+    (omega arith, omega arith, omega arith, omega arith, plain-kids _ (b .before .before .pre .4) (b .put-cells .ensures))
 
 drop-kids-requires : tie.Need-drop-kids-requires
-drop-kids-requires c κs = search needs
+drop-kids-requires c κs =
+    let b = c .before .before .before .before .before .before .before .before in
+    (omega arith, omega arith, omega arith, plain-kids _ (b .before .before .pre .4) (b .put-cells .ensures))
 
 drop-corners-requires : tie.Need-drop-corners-requires
-drop-corners-requires c κs = search needs
+drop-corners-requires c κs = (omega arith, omega arith, omega arith, omega arith, omega arith, c .before .before .drop-kids .ensures .2)
 
 refresh-near-requires : tie.Need-refresh-near-requires
-refresh-near-requires c κs =
-    let b₁ = c .before .before in
-    let b₂ = b₁ .before .before .before in
-    let b₃ = b₂ .before .before .before .before .before .before .before .before .before in
-    let b₄ = b₃ .before .before in
-    let k = removed-plain _ _ _ _ _ _ _ (b₄ .pre .4) (omega arith) (omega arith) (b₃ .put-cells .ensures) (b₂ .drop-kids .ensures .0) (b₁ .drop-corners .ensures .0) in
-    (omega arith, omega arith, omega arith, omega arith, k)
+refresh-near-requires c κs = (omega arith, omega arith, omega arith, omega arith, c .before .before .drop-corners .ensures .2)
 
 same-length : tie.Need-same-length
 same-length c = search needs

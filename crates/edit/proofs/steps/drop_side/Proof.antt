@@ -3,6 +3,7 @@
 use native.Mathlib.Omega.{arith}
 use borrow.Author.Needs.{needs}
 use Rattle.edit.proofs.Linking.{side-dropped}
+use Rattle.edit.proofs.PlainRows.{plain-drop}
 use Rattle.edit.proofs.Opposite.{opposite-below}
 use Rattle.edit.proofs.steps.drop_side.Statement.{statement}
 use Rattle.edit.proofs.steps.drop_side.Tie as tie
@@ -31,7 +32,8 @@ returns c =
     let b₂ = b₁ .before .before in
     let b₃ = b₂ .before in
     let b₄ = b₃ .before .before in
-    side-dropped _ _ _ _ (b₄ .pre .3) (b₃ .link .ensures .1) (b₂ .wind .ensures) (b₁ .put-unless-nil .ensures)
+    let e = side-dropped _ _ _ _ (b₄ .pre .3) (b₃ .link .ensures .1) (b₂ .wind .ensures) (b₁ .put-unless-nil .ensures) in
+    (e, plain-drop _ _ (b₄ .pre .4) e)
 
 pub drop-side-spec : {M : Type 1} → statement M
 drop-side-spec =

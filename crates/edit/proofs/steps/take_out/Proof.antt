@@ -1,8 +1,10 @@
 -- `edit::steps::take_out` meets its contract.
 -- Assumes nothing.
+use native.Mathlib.Omega.{arith}
 use borrow.Author.Needs.{needs}
 use Rattle.editing.proofs.Lowering.{lowers-out}
 use Rattle.edit.proofs.Linking.{taken-out}
+use Rattle.edit.proofs.PlainRows.{plain-unnamed, plain-freed}
 use Rattle.edit.proofs.steps.take_out.Statement.{statement}
 use Rattle.edit.proofs.steps.take_out.Tie as tie
 
@@ -22,7 +24,11 @@ put-requires : tie.Need-put-requires
 put-requires c κs = search needs
 
 drop-side-requires : tie.Need-drop-side-requires
-drop-side-requires c κs = search needs
+drop-side-requires c κs =
+    let b₁ = c .before .before in
+    let b₂ = b₁ .before .before in
+    let pre = b₂ .before .before .before .before .before .before .before .pre in
+    (omega arith, omega arith, omega arith, omega arith, plain-unnamed _ _ (pre .4) (b₁ .put .ensures) (omega (arith, b₂ .kid-word .ensures .0)))
 
 drop-side-requires-2 : tie.Need-drop-side-requires-2
 drop-side-requires-2 c κs = search needs
@@ -34,7 +40,14 @@ drop-side-requires-4 : tie.Need-drop-side-requires-4
 drop-side-requires-4 c κs = search needs
 
 clear-row-requires : tie.Need-clear-row-requires
-clear-row-requires c κs = search needs
+clear-row-requires c κs =
+    let b₁ = c .before .before in
+    let b₂ = b₁ .before .before .before in
+    let b₃ = b₂ .before .before .before in
+    let b₄ = b₃ .before .before .before in
+    let b₅ = b₄ .before .before .before in
+    let pre = b₅ .before .before .before .before .before .before .before .before .before .pre in
+    omega (arith, pre .0, pre .3, b₁ .drop-side4 .kept, b₂ .drop-side3 .kept, b₃ .drop-side2 .kept, b₄ .drop-side .kept, b₅ .put .kept)
 
 lesser-requires : tie.Need-lesser-requires
 lesser-requires c κs = search needs
@@ -55,8 +68,8 @@ returns c =
     let b₉ = b₈ .before .before in
     let b₁₀ = b₉ .before .before in
     let pre = b₁₀ .before .before .pre in
-    let e = taken-out _ _ _ (b₁₀ .link .ensures .1) (b₉ .word .ensures) (b₈ .word2 .ensures) (b₇ .kid-word .ensures .1) (b₆ .put .ensures) (b₅ .drop-side .ensures) (b₄ .drop-side2 .ensures) (b₃ .drop-side3 .ensures) (b₂ .drop-side4 .ensures) (b₁ .clear-row .ensures) in
-    (e, lowers-out _ _ _ (pre .0) (pre .3) _ (pre .2) e (c .lesser .ensures))
+    let e = taken-out _ _ _ (b₁₀ .link .ensures .1) (b₉ .word .ensures) (b₈ .word2 .ensures) (b₇ .kid-word .ensures .1) (b₆ .put .ensures) (b₅ .drop-side .ensures .0) (b₄ .drop-side2 .ensures .0) (b₃ .drop-side3 .ensures .0) (b₂ .drop-side4 .ensures .0) (b₁ .clear-row .ensures) in
+    (e, lowers-out _ _ _ (pre .0) (pre .3) _ (pre .2) e (c .lesser .ensures), plain-freed _ (b₂ .drop-side4 .ensures .1) (b₁ .clear-row .ensures) (omega arith))
 
 pub take-out-spec : {M : Type 1} → statement M
 take-out-spec =

@@ -21,8 +21,8 @@ returns-2 c =
     let p3 = p2 .before in
     rw (not-false (p3 .args .one) (p2 .if1 .left), is-eq (p1 .depth .ensures .1) (c .if2 .taken))
 
-word-requires : tie.Need-word-requires
-word-requires c κs = search needs
+index-requires : tie.Need-index-requires
+index-requires c κs = search needs
 
 link-requires : tie.Need-link-requires
 link-requires c κs = search needs
@@ -38,9 +38,9 @@ returns-3 c =
     let p4 = p3 .before in
     let p5 = p4 .before in
     let p6 = p5 .before in
-    rw (not-false (p6 .args .one) (p5 .if1 .left), is-other (p4 .depth .ensures .1) (p3 .if2 .left), p2 .word .ensures, c .flag .ensures, p1 .link .ensures .1)
+    rw (not-false (p6 .args .one) (p5 .if1 .left), is-other (p4 .depth .ensures .1) (p3 .if2 .left), p2 .index .ensures, c .flag .ensures, p1 .link .ensures .1)
 
 pub edge-spec : {M : Type 1} → statement M
 edge-spec =
     tie.close
-    (tie.spec returns depth-requires returns-2 word-requires link-requires flag-requires returns-3)
+    (tie.spec returns depth-requires returns-2 index-requires link-requires flag-requires returns-3)

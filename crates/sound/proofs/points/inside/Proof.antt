@@ -8,18 +8,18 @@ use Rattle.sound.proofs.points.inside.Tie as tie
 depth-requires : tie.Need-depth-requires
 depth-requires c κs = search needs
 
-word-requires : tie.Need-word-requires
-word-requires c κs = search needs
+index-requires : tie.Need-index-requires
+index-requires c κs = search needs
 
-word-requires-2 : tie.Need-word-requires-2
-word-requires-2 c κs = search needs
+index-requires-2 : tie.Need-index-requires-2
+index-requires-2 c κs = search needs
 
 returns : tie.Need-returns
 returns c =
     let p1 = c .before in
     let p2 = p1 .before in
     let p3 = p2 .before in
-    rw (is-eq (p3 .depth .ensures .1) (p2 .if1 .taken), p1 .word .ensures, c .word2 .ensures)
+    rw (is-eq (p3 .depth .ensures .1) (p2 .if1 .taken), p1 .index .ensures, c .index2 .ensures)
 
 link-requires : tie.Need-link-requires
 link-requires c κs = search needs
@@ -39,8 +39,8 @@ inside-spec =
     tie.close
     (tie.spec
     depth-requires
-    word-requires
-    word-requires-2
+    index-requires
+    index-requires-2
     returns
     link-requires
     flag-requires

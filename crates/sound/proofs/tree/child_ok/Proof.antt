@@ -41,8 +41,8 @@ returns-3 c =
     let s = p5 .before .before in
     child-deep _ _ _ _ _ (s .pre .0 .depth) (p5 .link .ensures .1) (kept-as-is (s .pre .0 .plain) (s .pre .1) 0 (omega arith)) (p4 .if1 .left) (p3 .says .ensures) (p2 .if2 .left) (p1 .is-above .ensures) (not-true _ (c .if3 .taken))
 
-word-requires : tie.Need-word-requires
-word-requires c κs = search needs
+index-requires : tie.Need-index-requires
+index-requires c κs = search needs
 
 says-requires-2 : tie.Need-says-requires-2
 says-requires-2 c κs = search needs
@@ -58,10 +58,10 @@ returns-4 c =
     let p7 = p6 .before in
     let p8 = p7 .before in
     let s = p8 .before .before in
-    child-aside _ _ _ _ _ (s .pre .0 .depth) (p8 .link .ensures .1) (kept-as-is (s .pre .0 .plain) (s .pre .1) 0 (omega arith)) (p7 .if1 .left) (p6 .says .ensures) (p5 .if2 .left) (p4 .is-above .ensures) (not-false _ (p3 .if3 .left)) (p2 .word .ensures) (p1 .says2 .ensures) (not-true _ (c .if4 .taken))
+    child-aside _ _ _ _ _ (s .pre .0 .depth) (p8 .link .ensures .1) (kept-as-is (s .pre .0 .plain) (s .pre .1) 0 (omega arith)) (p7 .if1 .left) (p6 .says .ensures) (p5 .if2 .left) (p4 .is-above .ensures) (not-false _ (p3 .if3 .left)) (p2 .index .ensures) (p1 .says2 .ensures) (not-true _ (c .if4 .taken))
 
-word-requires-2 : tie.Need-word-requires-2
-word-requires-2 c κs = search needs
+index-requires-2 : tie.Need-index-requires-2
+index-requires-2 c κs = search needs
 
 says-requires-3 : tie.Need-says-requires-3
 says-requires-3 c κs = search needs
@@ -80,7 +80,7 @@ returns-5 c =
     let p10 = p9 .before in
     let p11 = p10 .before in
     let s = p11 .before .before in
-    child-off _ _ _ _ _ (s .pre .0 .depth) (p11 .link .ensures .1) (kept-as-is (s .pre .0 .plain) (s .pre .1) 0 (omega arith)) (p10 .if1 .left) (p9 .says .ensures) (p8 .if2 .left) (p7 .is-above .ensures) (not-false _ (p6 .if3 .left)) (p5 .word .ensures) (p4 .says2 .ensures) (not-false _ (p3 .if4 .left)) (p2 .word2 .ensures) (p1 .says3 .ensures) (not-true _ (c .if5 .taken))
+    child-off _ _ _ _ _ (s .pre .0 .depth) (p11 .link .ensures .1) (kept-as-is (s .pre .0 .plain) (s .pre .1) 0 (omega arith)) (p10 .if1 .left) (p9 .says .ensures) (p8 .if2 .left) (p7 .is-above .ensures) (not-false _ (p6 .if3 .left)) (p5 .index .ensures) (p4 .says2 .ensures) (not-false _ (p3 .if4 .left)) (p2 .index2 .ensures) (p1 .says3 .ensures) (not-true _ (c .if5 .taken))
 
 cast-says : tie.Need-cast-says
 cast-says c = search needs
@@ -105,7 +105,7 @@ returns-6 c =
     let p13 = p12 .before in
     let p14 = p13 .before in
     let s = p14 .before .before in
-    child-at _ _ _ _ _ (s .pre .0 .depth) (p14 .link .ensures .1) (kept-as-is (s .pre .0 .plain) (s .pre .1) 0 (omega arith)) (p13 .if1 .left) (p12 .says .ensures) (p11 .if2 .left) (p10 .is-above .ensures) (not-false _ (p9 .if3 .left)) (p8 .word .ensures) (p7 .says2 .ensures) (not-false _ (p6 .if4 .left)) (p5 .word2 .ensures) (p4 .says3 .ensures) (not-false _ (p3 .if5 .left)) 0 0 (p2 .if6 .taken) (p1 .if7 .taken) (c .says4 .ensures)
+    child-at _ _ _ _ _ (s .pre .0 .depth) (p14 .link .ensures .1) (kept-as-is (s .pre .0 .plain) (s .pre .1) 0 (omega arith)) (p13 .if1 .left) (p12 .says .ensures) (p11 .if2 .left) (p10 .is-above .ensures) (not-false _ (p9 .if3 .left)) (p8 .index .ensures) (p7 .says2 .ensures) (not-false _ (p6 .if4 .left)) (p5 .index2 .ensures) (p4 .says3 .ensures) (not-false _ (p3 .if5 .left)) 0 0 (p2 .if6 .taken) (p1 .if7 .taken) (c .says4 .ensures)
 
 cast-says-2 : tie.Need-cast-says-2
 cast-says-2 c = search needs
@@ -130,7 +130,7 @@ returns-7 c =
     let p13 = p12 .before in
     let p14 = p13 .before in
     let s = p14 .before .before in
-    child-at _ _ _ _ _ (s .pre .0 .depth) (p14 .link .ensures .1) (kept-as-is (s .pre .0 .plain) (s .pre .1) 0 (omega arith)) (p13 .if1 .left) (p12 .says .ensures) (p11 .if2 .left) (p10 .is-above .ensures) (not-false _ (p9 .if3 .left)) (p8 .word .ensures) (p7 .says2 .ensures) (not-false _ (p6 .if4 .left)) (p5 .word2 .ensures) (p4 .says3 .ensures) (not-false _ (p3 .if5 .left)) 0 1 (p2 .if6 .taken) (omega (arith, p1 .if7 .left)) (c .says5 .ensures)
+    child-at _ _ _ _ _ (s .pre .0 .depth) (p14 .link .ensures .1) (kept-as-is (s .pre .0 .plain) (s .pre .1) 0 (omega arith)) (p13 .if1 .left) (p12 .says .ensures) (p11 .if2 .left) (p10 .is-above .ensures) (not-false _ (p9 .if3 .left)) (p8 .index .ensures) (p7 .says2 .ensures) (not-false _ (p6 .if4 .left)) (p5 .index2 .ensures) (p4 .says3 .ensures) (not-false _ (p3 .if5 .left)) 0 1 (p2 .if6 .taken) (omega (arith, p1 .if7 .left)) (c .says5 .ensures)
 
 cast-says-3 : tie.Need-cast-says-3
 cast-says-3 c = search needs
@@ -155,7 +155,7 @@ returns-8 c =
     let p13 = p12 .before in
     let p14 = p13 .before in
     let s = p14 .before .before in
-    child-at _ _ _ _ _ (s .pre .0 .depth) (p14 .link .ensures .1) (kept-as-is (s .pre .0 .plain) (s .pre .1) 0 (omega arith)) (p13 .if1 .left) (p12 .says .ensures) (p11 .if2 .left) (p10 .is-above .ensures) (not-false _ (p9 .if3 .left)) (p8 .word .ensures) (p7 .says2 .ensures) (not-false _ (p6 .if4 .left)) (p5 .word2 .ensures) (p4 .says3 .ensures) (not-false _ (p3 .if5 .left)) 1 0 (omega (arith, p2 .if6 .left)) (p1 .if8 .taken) (c .says6 .ensures)
+    child-at _ _ _ _ _ (s .pre .0 .depth) (p14 .link .ensures .1) (kept-as-is (s .pre .0 .plain) (s .pre .1) 0 (omega arith)) (p13 .if1 .left) (p12 .says .ensures) (p11 .if2 .left) (p10 .is-above .ensures) (not-false _ (p9 .if3 .left)) (p8 .index .ensures) (p7 .says2 .ensures) (not-false _ (p6 .if4 .left)) (p5 .index2 .ensures) (p4 .says3 .ensures) (not-false _ (p3 .if5 .left)) 1 0 (omega (arith, p2 .if6 .left)) (p1 .if8 .taken) (c .says6 .ensures)
 
 cast-says-4 : tie.Need-cast-says-4
 cast-says-4 c = search needs
@@ -180,7 +180,7 @@ returns-9 c =
     let p13 = p12 .before in
     let p14 = p13 .before in
     let s = p14 .before .before in
-    child-at _ _ _ _ _ (s .pre .0 .depth) (p14 .link .ensures .1) (kept-as-is (s .pre .0 .plain) (s .pre .1) 0 (omega arith)) (p13 .if1 .left) (p12 .says .ensures) (p11 .if2 .left) (p10 .is-above .ensures) (not-false _ (p9 .if3 .left)) (p8 .word .ensures) (p7 .says2 .ensures) (not-false _ (p6 .if4 .left)) (p5 .word2 .ensures) (p4 .says3 .ensures) (not-false _ (p3 .if5 .left)) 1 1 (omega (arith, p2 .if6 .left)) (omega (arith, p1 .if8 .left)) (c .says7 .ensures)
+    child-at _ _ _ _ _ (s .pre .0 .depth) (p14 .link .ensures .1) (kept-as-is (s .pre .0 .plain) (s .pre .1) 0 (omega arith)) (p13 .if1 .left) (p12 .says .ensures) (p11 .if2 .left) (p10 .is-above .ensures) (not-false _ (p9 .if3 .left)) (p8 .index .ensures) (p7 .says2 .ensures) (not-false _ (p6 .if4 .left)) (p5 .index2 .ensures) (p4 .says3 .ensures) (not-false _ (p3 .if5 .left)) 1 1 (omega (arith, p2 .if6 .left)) (omega (arith, p1 .if8 .left)) (c .says7 .ensures)
 
 pub child-ok-spec : {M : Type 1} → statement M
 child-ok-spec =
@@ -192,10 +192,10 @@ child-ok-spec =
     returns-2
     is-above-requires
     returns-3
-    word-requires
+    index-requires
     says-requires-2
     returns-4
-    word-requires-2
+    index-requires-2
     says-requires-3
     returns-5
     cast-says

@@ -29,11 +29,11 @@ cast-says c = search needs
 says-requires-2 : tie.Need-says-requires-2
 says-requires-2 c κs = search needs
 
-word-requires : tie.Need-word-requires
-word-requires c κs = search needs
+index-requires : tie.Need-index-requires
+index-requires c κs = search needs
 
-word-requires-2 : tie.Need-word-requires-2
-word-requires-2 c κs = search needs
+index-requires-2 : tie.Need-index-requires-2
+index-requires-2 c κs = search needs
 
 returns-2 : tie.Need-returns-2
 returns-2 c =
@@ -44,7 +44,7 @@ returns-2 c =
     let p5 = p4 .before in
     let p6 = p5 .before in
     let s = p6 .before .before in
-    kid-some _ _ _ _ _ _ _ (p6 .kid-word .ensures .1) (p5 .link .ensures .1) (kept-as-is (s .pre .0 .plain) (s .pre .1) _ (omega (arith, p6 .kid-word .ensures .0))) (p4 .if1 .left) (p3 .says .ensures) (p2 .says2 .ensures) (p1 .word .ensures) (c .word2 .ensures)
+    kid-some _ _ _ _ _ _ _ (p6 .kid-word .ensures .1) (p5 .link .ensures .1) (kept-as-is (s .pre .0 .plain) (s .pre .1) _ (omega (arith, p6 .kid-word .ensures .0))) (p4 .if1 .left) (p3 .says .ensures) (p2 .says2 .ensures) (p1 .index .ensures) (c .index2 .ensures)
 
 pub kid-ok-spec : {M : Type 1} → statement M
 kid-ok-spec =
@@ -56,6 +56,6 @@ kid-ok-spec =
     says-requires
     cast-says
     says-requires-2
-    word-requires
-    word-requires-2
+    index-requires
+    index-requires-2
     returns-2)

@@ -9,11 +9,11 @@ use Rattle.sound.proofs.tree.sides_ok.Tie as tie
 link-requires : tie.Need-link-requires
 link-requires c κs = search needs
 
-word-requires : tie.Need-word-requires
-word-requires c κs = search needs
+index-requires : tie.Need-index-requires
+index-requires c κs = search needs
 
-word-requires-2 : tie.Need-word-requires-2
-word-requires-2 c κs = search needs
+index-requires-2 : tie.Need-index-requires-2
+index-requires-2 c κs = search needs
 
 sides-by-requires : tie.Need-sides-by-requires
 sides-by-requires c κs = search needs
@@ -25,7 +25,7 @@ returns c =
     let p3 = p2 .before in
     let p4 = p3 .before in
     let p5 = p4 .before in
-    sides-is _ _ _ _ _ 0 0 (p5 .link .ensures .1) (p4 .word .ensures) (p3 .word2 .ensures) (p2 .if1 .taken) (p1 .if2 .taken) (c .sides-by .ensures)
+    sides-is _ _ _ _ _ 0 0 (p5 .link .ensures .1) (p4 .index .ensures) (p3 .index2 .ensures) (p2 .if1 .taken) (p1 .if2 .taken) (c .sides-by .ensures)
 
 sides-by-requires-2 : tie.Need-sides-by-requires-2
 sides-by-requires-2 c κs = search needs
@@ -36,7 +36,7 @@ returns-2 c =
     let p3 = p2 .before in
     let p4 = p3 .before in
     let p5 = p4 .before in
-    sides-is _ _ _ _ _ 0 1 (p5 .link .ensures .1) (p4 .word .ensures) (p3 .word2 .ensures) (p2 .if1 .taken) (omega arith) (c .sides-by2 .ensures)
+    sides-is _ _ _ _ _ 0 1 (p5 .link .ensures .1) (p4 .index .ensures) (p3 .index2 .ensures) (p2 .if1 .taken) (omega arith) (c .sides-by2 .ensures)
 
 sides-by-requires-3 : tie.Need-sides-by-requires-3
 sides-by-requires-3 c κs = search needs
@@ -47,7 +47,7 @@ returns-3 c =
     let p3 = p1 .before .before in
     let p4 = p3 .before in
     let p5 = p4 .before in
-    sides-is _ _ _ _ _ 1 0 (p5 .link .ensures .1) (p4 .word .ensures) (p3 .word2 .ensures) (omega arith) (p1 .if3 .taken) (c .sides-by3 .ensures)
+    sides-is _ _ _ _ _ 1 0 (p5 .link .ensures .1) (p4 .index .ensures) (p3 .index2 .ensures) (omega arith) (p1 .if3 .taken) (c .sides-by3 .ensures)
 
 sides-by-requires-4 : tie.Need-sides-by-requires-4
 sides-by-requires-4 c κs = search needs
@@ -57,15 +57,15 @@ returns-4 c =
     let p3 = c .before .before .before in
     let p4 = p3 .before in
     let p5 = p4 .before in
-    sides-is _ _ _ _ _ 1 1 (p5 .link .ensures .1) (p4 .word .ensures) (p3 .word2 .ensures) (omega arith) (omega arith) (c .sides-by4 .ensures)
+    sides-is _ _ _ _ _ 1 1 (p5 .link .ensures .1) (p4 .index .ensures) (p3 .index2 .ensures) (omega arith) (omega arith) (c .sides-by4 .ensures)
 
 pub sides-ok-spec : {M : Type 1} → statement M
 sides-ok-spec =
     tie.close
     (tie.spec
     link-requires
-    word-requires
-    word-requires-2
+    index-requires
+    index-requires-2
     sides-by-requires
     returns
     sides-by-requires-2

@@ -1,7 +1,7 @@
 -- `table::edge` meets its contract: three cases of the definition.
 -- Assumes nothing.
 use borrow.Author.Tests.{not-true, not-false}
-use Rattle.table.proofs.Tests.{is-eq, is-other}
+use Rattle.table.proofs.Links.{level-zero}
 use borrow.Author.Needs.{needs}
 use Rattle.table.proofs.worked.edge.Statement.{statement}
 use Rattle.table.proofs.worked.edge.Tie as tie
@@ -11,15 +11,15 @@ returns c =
     let p1 = c .before in
     rw (not-true (p1 .args .one) (c .if1 .taken))
 
-depth-requires : tie.Need-depth-requires
-depth-requires c κs = search needs
+says-requires : tie.Need-says-requires
+says-requires c κs = search needs
 
 returns-2 : tie.Need-returns-2
 returns-2 c =
     let p1 = c .before in
     let p2 = p1 .before in
     let p3 = p2 .before in
-    rw (not-false (p3 .args .one) (p2 .if1 .left), is-eq (p1 .depth .ensures .1) (c .if2 .taken))
+    rw (not-false (p3 .args .one) (p2 .if1 .left), level-zero (p3 .args .t .now) (p3 .args .d) (p3 .args .n), ← p1 .says .ensures, c .if2 .taken)
 
 word-requires : tie.Need-word-requires
 word-requires c κs = search needs
@@ -38,9 +38,9 @@ returns-3 c =
     let p4 = p3 .before in
     let p5 = p4 .before in
     let p6 = p5 .before in
-    rw (not-false (p6 .args .one) (p5 .if1 .left), is-other (p4 .depth .ensures .1) (p3 .if2 .left), p2 .word .ensures, c .flag .ensures, p1 .link .ensures .1)
+    rw (not-false (p6 .args .one) (p5 .if1 .left), level-zero (p6 .args .t .now) (p6 .args .d) (p6 .args .n), ← p4 .says .ensures, p3 .if2 .left, p2 .word .ensures, c .flag .ensures, p1 .link .ensures .1)
 
 pub edge-spec : {M : Type 1} → statement M
 edge-spec =
     tie.close
-    (tie.spec returns depth-requires returns-2 word-requires link-requires flag-requires returns-3)
+    (tie.spec returns says-requires returns-2 word-requires link-requires flag-requires returns-3)

@@ -1,38 +1,26 @@
 -- `walk::plain::link` meets its contract: a word within the capacity is the link itself.
 -- Assumes nothing.
-use Prim.Native.Nat.{_≤_}
 use native.Mathlib.Omega.{arith}
-use mir.Facts.{toZ-ofZ}
-use borrow.Author.Needs.{sfits-of}
-use Rattle.table.specs.Words.{code, wordOf, linkOf}
-use Rattle.walk.proofs.Signs.{word-there, small-word, link-as-is}
+use borrow.Author.Needs.{needs}
+use Rattle.table.proofs.Unsigned.{word-unsigned, link-read}
 use Rattle.walk.proofs.plain.link.Statement.{statement}
 use Rattle.walk.proofs.plain.link.Tie as tie
-use Rattle.walk.proofs.plain.link.Reads as reads
-use Rattle.walk.proofs.plain.link.Lts as lts
-use Rattle.table.proofs.words.raw.Reads as raw-reads
 
-abbrev claims : lts.Claims
-claims = (raw-reads.Asked, raw-reads.Learnt)
-
-within : (c : lts.After-raw claims reads.Pre reads.Post) → code (c .raw .result) ≤ c .before .args .cap
-within c =
-    let a = c .before .args in
-    let p = c .before .pre in
-    word-there (a .t .now) (a .n) (a .w) (a .cap) {z = c .raw .result} (c .raw .ensures) (p .0 .kids (a .n) (a .w) (p .1) (p .2))
-
-raw-requires : tie.Need-raw-requires
-raw-requires c κs = omega (arith, c .pre .0 .words, c .pre .1, c .pre .2)
+word-requires : tie.Need-word-requires
+word-requires c κs =
+    let a = c .args in
+    let p = c .pre in
+    let h = p .0 .kids (a .n) (a .w) (p .1) (p .2) in
+    (omega (arith, p .0 .words), word-unsigned (a .t .now) (a .n) (a .w) (omega (arith, h, p .0 .small)))
 
 cast-result : tie.Need-cast-result
-cast-result c =
-    let p = small-word (c .raw .result) (omega (arith, within c, c .before .pre .0 .small)) in
-    rw (toZ-ofZ {z = c .raw .result} (sfits-of (c .raw .ok)), p .is) (tt, omega (arith, p .small))
+cast-result c = search needs
 
 returns : tie.Need-returns
-unfolding linkOf wordOf
 returns c =
-    rw (← c .raw .ensures, toZ-ofZ {z = c .raw .result} (sfits-of (c .raw .ok))) (link-as-is (c .before .args .cap) (c .before .pre .0 .small) (c .raw .result) (within c))
+    let a = c .before .args in
+    let p = c .before .pre in
+    link-read (a .t .now) (a .cap) (a .n) (a .w) (c .word .ensures) (p .0 .kids (a .n) (a .w) (p .1) (p .2))
 
 pub link-spec : {M : Type 1} → statement M
-link-spec = tie.close (tie.spec raw-requires cast-result returns)
+link-spec = tie.close (tie.spec word-requires cast-result returns)

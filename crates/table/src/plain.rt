@@ -1,0 +1,40 @@
+// Words that are read as they stand: no link is kept within the table, and no sign is asked for.
+ghost use mathlib.Core.Path.{_≡_};
+ghost use Prim.Native.Nat.{_+_, _*_, _<_, _≤_};
+ghost use lib.ListN.{length};
+ghost use Rattle.mesh.specs.Picture.{rowWords};
+ghost use Rattle.table.specs.Words.{wordOf, linkOf, flagOf};
+ghost use Rattle.table.specs.Plain.{Unsigned, Plain};
+use crate::words::raw;
+
+// The word w of the row n, which has no sign.
+pub fn word(t: &[i32], n: usize, w: usize) -> u32
+    requires { ⌜ (n * rowWords + w < length (now t)) × Unsigned (now t) n w ⌝ }
+    ensures { λ r. ⌜ r ≡ wordOf (now (t .entry)) n w ⌝ }
+{
+    raw(t, n, w) as u32
+}
+
+// The row that the word w of the row n names, or 0.
+pub fn link(t: &[i32], cap: usize, n: usize, w: usize) -> usize
+    requires { ⌜ (cap * rowWords + rowWords ≤ length (now t)) × (cap ≤ 4095) × (n ≤ cap) × (w < 9) × Plain (now t) cap ⌝ }
+    ensures { λ r. ⌜ (r ≤ cap) × (r ≡ linkOf (now (t .entry)) cap n w) ⌝ }
+{
+    word(t, n, w) as usize
+}
+
+// The flags of the row n.
+pub fn flags(t: &[i32], cap: usize, n: usize) -> u32
+    requires { ⌜ (cap * rowWords + rowWords ≤ length (now t)) × (n ≤ cap) × Plain (now t) cap ⌝ }
+    ensures { λ r. ⌜ r ≡ wordOf (now (t .entry)) n 12 ⌝ }
+{
+    word(t, n, 12)
+}
+
+// The flag of bit k.
+pub fn flag(t: &[i32], cap: usize, k: u32, n: usize) -> bool
+    requires { ⌜ (cap * rowWords + rowWords ≤ length (now t)) × (n ≤ cap) × (k < 32) × Plain (now t) cap ⌝ }
+    ensures { λ r. ⌜ r ≡ flagOf (now (t .entry)) k n ⌝ }
+{
+    (flags(t, cap, n) >> k) % 2 == 1
+}
