@@ -209,19 +209,19 @@ pub fn tape_core(
 ) -> TapeOut
     ensures { λ r. ⌜ Tapes header (now (table .entry)) (now (values .entry)) capacity (now (tape .entry)) (r .header) (now (table .exit)) (now (values .exit)) (r .answer) ⌝ }
 {
-    let refusal = check(header, table, values, capacity);
-    if refusal != 0 {
+    let c = sound::checks::check_first(header.columns, header.rows, table, values, capacity);
+    if c.why != 0 {
         return TapeOut {
             header,
             answer: Taped {
                 done: 0,
-                refusal,
+                refusal: c.why,
                 offset: 0,
             },
         };
     }
     let d = mesh::ground_depth(header.columns, header.rows);
-    let r = tape::turns::run_tape(table, values, capacity as usize, d, header.mark, tape);
+    let r = tape::turns::run_tape(table, values, capacity as usize, d, c.first, header.mark, tape);
     TapeOut {
         header: Header {
             columns: header.columns,

@@ -8,3 +8,4 @@ pub mod Signs
 pub mod PlainRows
 pub mod Loop
 pub mod Checking
+pub mod Firsts

@@ -3,3 +3,4 @@ pub mod Lent
 pub mod Plain
 pub mod Parts
 pub mod Called
+pub mod Firsts

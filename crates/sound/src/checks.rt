@@ -3,6 +3,7 @@ ghost use mathlib.Core.Path.{_≡_};
 ghost use Prim.Native.Nat.{ℕ, _<_};
 ghost use lib.ListN.{length};
 ghost use Rattle.mesh.specs.Call.{checkCall};
+ghost use Rattle.stock.specs.Free.{NoneBelow};
 ghost use Rattle.checking.proofs.Words.{Fits, FitsAt};
 ghost use Rattle.sound.specs.Called.{lentOf};
 use crate::plain::plain;
@@ -27,42 +28,63 @@ fn sound_word(t: &[i32], i: usize) -> i32
     t[i]
 }
 
-// 0 for yes; any lists of any length, any capacity and any header. The mark plays no part.
-pub fn check(columns: u32, rows: u32, t: &[i32], v: &[f64], capacity: u32) -> u32
-    ensures { λ r. ⌜ ((mark : ℕ) → r ≡ checkCall capacity (lentOf columns rows mark (now (t .entry)) (now (v .entry)))) ⌝ }
+// 0 for yes, or the refusal; and for yes a number below which none is free, which a tape begins with.
+pub struct Checked {
+    pub why: u32,
+    pub first: usize,
+}
+
+fn refused(why: u32) -> Checked
+    ensures { λ r. ⌜ (r .why ≡ why) × (r .first ≡ 1) ⌝ }
+{
+    Checked { why, first: 1 }
+}
+
+// Any lists of any length, any capacity and any header. The mark plays no part.
+pub fn check_first(columns: u32, rows: u32, t: &[i32], v: &[f64], capacity: u32) -> Checked
+    ensures { λ r. ⌜ ((mark : ℕ) → r .why ≡ checkCall capacity (lentOf columns rows mark (now (t .entry)) (now (v .entry)))) × (r .why ≡ 0 → NoneBelow capacity (now (t .entry)) (r .first)) ⌝ }
 {
     if capacity < 5 {
-        return 1;
+        return refused(1);
     }
     if 4095 < capacity {
-        return 1;
+        return refused(1);
     }
     let cap = capacity as usize;
     if t.len() != ROW_WORDS * (cap + 1) {
-        return 1;
+        return refused(1);
     }
     if v.len() != cap + 1 {
-        return 1;
+        return refused(1);
     }
     if columns < 1 {
-        return 2;
+        return refused(2);
     }
     if 32 < columns {
-        return 2;
+        return refused(2);
     }
     if rows < 1 {
-        return 2;
+        return refused(2);
     }
     if 32 < rows {
-        return 2;
+        return refused(2);
     }
     words_fit(t);
     let d = mesh::ground_depth(columns, rows);
     if !plain(t, cap, d) {
-        return 3;
+        return refused(3);
     }
-    if rowwise(t, v, cap, columns, rows, d) {
-        return 0;
+    let first = rowwise(t, v, cap, columns, rows, d);
+    if first == 0 {
+        return refused(3);
     }
-    3
+    Checked { why: 0, first }
+}
+
+// 0 for yes, or the refusal.
+pub fn check(columns: u32, rows: u32, t: &[i32], v: &[f64], capacity: u32) -> u32
+    ensures { λ r. ⌜ ((mark : ℕ) → r ≡ checkCall capacity (lentOf columns rows mark (now (t .entry)) (now (v .entry)))) ⌝ }
+{
+    let c = check_first(columns, rows, t, v, capacity);
+    c.why
 }

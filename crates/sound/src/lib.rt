@@ -9,12 +9,15 @@ pub mod tree;
 
 ghost use mathlib.Core.Path.{_≡_};
 ghost use mathlib.Core.Bool.{cond};
-ghost use Prim.Native.Nat.{_≤_};
+ghost use Prim.Native.Nat.{_+_, _*_, _≤_};
 ghost use lib.Dec.{ltb};
+ghost use lib.ListN.{length};
+ghost use Rattle.mesh.specs.Picture.{rowWords};
 ghost use Rattle.mesh.specs.Place.{rectangle};
 ghost use Rattle.table.specs.Words.{depthOf};
-ghost use Rattle.checking.specs.Rowwise.{ghostOk, pointOk, usedOk, rowOk, rowwise};
+ghost use Rattle.checking.specs.Rowwise.{ghostOk, pointOk, usedOk, rowOk};
 ghost use Rattle.sound.specs.Lent.{Lent};
+ghost use Rattle.sound.specs.Firsts.{FirstWith, Passes};
 use crate::plain::is_positive;
 use table::words::says;
 
@@ -59,23 +62,38 @@ pub fn row_ok(t: &[i32], v: &[f64], cap: usize, columns: u32, rows: u32, d: u32,
     used_ok(t, v, cap, columns, rows, d, n)
 }
 
-// The nil patch, the root in use, and every row.
-pub fn rowwise(t: &[i32], v: &[f64], cap: usize, columns: u32, rows: u32, d: u32) -> bool
+// The first free number, with the row n: none but those from first on was known.
+fn first_with(t: &[i32], n: usize, first: usize) -> usize
+    requires { ⌜ n * rowWords + rowWords ≤ length (now t) ⌝ }
+    ensures { λ r. ⌜ FirstWith (now (t .entry)) n first r ⌝ }
+{
+    if says(t, n, 12, 8192) {
+        if n < first {
+            return n;
+        }
+    }
+    first
+}
+
+// The nil patch, the root in use, and every row: 0 if one of them fails, otherwise the first free number or the one past the last.
+pub fn rowwise(t: &[i32], v: &[f64], cap: usize, columns: u32, rows: u32, d: u32) -> usize
     requires { ⌜ Lent (now t) (now v) cap columns rows d × (1 ≤ cap) ⌝ }
-    ensures { λ r. ⌜ r ≡ rowwise (rectangle columns rows) cap (now (t .entry)) (now (v .entry)) ⌝ }
+    ensures { λ r. ⌜ Passes (rectangle columns rows) cap (now (t .entry)) (now (v .entry)) r ⌝ }
 {
     if !empty::zero_ok(t, v, cap, columns, rows, d) {
-        return false;
+        return 0;
     }
     if says(t, 1, 12, 8192) {
-        return false;
+        return 0;
     }
+    let mut first = cap + 1;
     let mut k = 0;
     while k < cap {
         if !row_ok(t, v, cap, columns, rows, d, k + 1) {
-            return false;
+            return 0;
         }
+        first = first_with(t, k + 1, first);
         k += 1;
     }
-    true
+    first
 }

@@ -14,6 +14,7 @@ use lib.Seq.{getD-set-same, getD-set-other}
 use borrow.Author.Tests.{ne-eqb}
 use Rattle.mesh.specs.Tools.{any}
 use Rattle.table.specs.Words.{vacant}
+use Rattle.stock.specs.Free.{NoneBelow}
 use Rattle.stock.specs.Stock.{Kept, Rising, Stocked, Nine, Inserted, Lowered}
 
 -- ---- lists
@@ -225,14 +226,14 @@ lowered-stock {cap} {t} {u} {s} {s′} {b} h n one was = record {
 pub freed-stock : {cap : ℕ} {t u : List ℤ} {ks s : List ℕ} → Stocked cap t [] s → vacant u 0 ≡ false → ((k : ℕ) → any (eqb k) ks ≡ false → vacant u k ≡ true → vacant t k ≡ true) → Stocked cap u ks s
 freed-stock h z was = record { nil = z; rising = h .rising; bounded = h .bounded; covers = λ k v l f. h .covers k (was k f v) l refl }
 
--- nothing is known
-pub no-stock : (cap : ℕ) {t : List ℤ} → vacant t 0 ≡ false → Stocked cap t [] (replicate 16 1)
-no-stock cap {t} z = record {
-  nil = z;
+-- what a tape begins with: the bound alone
+pub first-stock : {cap : ℕ} {t : List ℤ} {first : ℕ} → NoneBelow cap t first → Stocked cap t [] (replicate 16 first)
+first-stock {cap} {t} {first} h = record {
+  nil = h .none 0 (h .from);
   rising = record { long = refl; rises = λ i j a l. let x = one i (omega arith) in let y = one j l in omega arith };
-  bounded = omega arith;
-  covers = λ k v l f. absurd (let e : k ≡ 0 = omega arith in let q : true ≡ false = sym v ∙ ap (vacant t) e ∙ z in let o : _≡_ {A = ℕ} 0 1 = cc in omega arith);
+  bounded = h .to;
+  covers = λ k v l f. absurd (let q : true ≡ false = sym v ∙ h .none k l in let o : _≡_ {A = ℕ} 0 1 = cc in omega arith);
 }
   where
-    one : (i : ℕ) → i < 16 → _≡_ {A = ℕ} (getD (replicate 16 1) i 0) 1
-    one i l = getD-replicate 16 i 1 0 l
+    one : (i : ℕ) → i < 16 → getD (replicate 16 first) i 0 ≡ first
+    one i l = getD-replicate 16 i first 0 l

@@ -1,8 +1,8 @@
 -- The free numbers of a table, in turn.
 -- Assumes nothing.
-use Prim.Native.Nat.{ℕ, zero, suc, _+_, _-_, _≤_}
+use Prim.Native.Nat.{ℕ, zero, suc, _+_, _-_, _≤_, _<_}
 use mathlib.Core.Path.{_≡_}
-use mathlib.Core.Bool.{Bool, _||_, cond}
+use mathlib.Core.Bool.{Bool, false, _||_, cond}
 use mathlib.Core.List.{List}
 use lib.Dec.{eqb, leb}
 use lib.IntN.{ℤ}
@@ -12,6 +12,12 @@ use Rattle.table.specs.Words.{wordOf, vacant}
 unfoldable pub freeFrom : List ℤ → ℕ → ℕ → ℕ
 freeFrom t zero k = 0
 freeFrom t (suc n) k = cond (eqb (wordOf t k 12) 8192) k (freeFrom t n (k + 1))
+
+-- no number below first is free, and first is a number of the table or the one past the last
+pub record NoneBelow (cap : ℕ) (t : List ℤ) (first : ℕ) : Type 0 where
+  pub from : 1 ≤ first
+  pub to : first ≤ cap + 1
+  pub none : (k : ℕ) → k < first → vacant t k ≡ false
 
 -- ---- how many there are
 

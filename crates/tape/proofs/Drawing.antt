@@ -26,16 +26,6 @@ pub from-picture : {s : State} {columns rows mark cap d : ℕ} {t : List ℤ} {v
     → P (table s) (capacity s) (base (gridOf s)) → P t cap d
 from-picture P p e h = rw (p .is-table, ← p .is-capacity, ← drawn-depth p e) h
 
--- ---- free numbers
-
--- a row is free exactly if its number is
-drawn-vacant : {s : State} {columns rows mark cap : ℕ} {t : List ℤ} {v : List Float} → Drawn s columns rows mark cap t v → (k : ℕ) → vacant t k ≡ isFree (entry (s .entries) k)
-drawn-vacant {s} p k = ap (λ (u : List ℤ). vacant u k) (p .is-table) ∙ vacant-row s (p .valid) k
-
--- the number 0 is not
-pub drawn-nil : {s : State} {columns rows mark cap : ℕ} {t : List ℤ} {v : List Float} → Drawn s columns rows mark cap t v → vacant t 0 ≡ false
-drawn-nil p = drawn-vacant p 0 ∙ ap isFree (p .valid .zeroth)
-
 -- ---- an accepted request
 
 pub request-accepted : (s : State) (q : Request) → refusal (checks s q) ≡ 0 → request s q ≡ accepted (marked (effect s q))

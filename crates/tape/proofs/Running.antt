@@ -13,10 +13,10 @@ use Rattle.mesh.specs.State.{State}
 use Rattle.mesh.specs.Tape.{runFrom, run}
 use Rattle.mesh.proofs.Runs.{run-end}
 use Rattle.stock.specs.Stock.{Stocked}
-use Rattle.stock.proofs.Keeping.{no-stock}
+use Rattle.stock.specs.Free.{NoneBelow}
+use Rattle.stock.proofs.Keeping.{first-stock}
 use Rattle.tape.specs.Drawn.{Drawn, Sized, Tame, Pictured}
 use Rattle.tape.specs.Ran.{Turned, Ran}
-use Rattle.tape.proofs.Drawing.{drawn-nil}
 use Rattle.tape.proofs.Tamed.{drawn-tame, drawn-sized}
 
 -- the run from s goes on from a state that is pictured now
@@ -32,9 +32,9 @@ module _ (bytes : List ℕ) (cap d mark₀ : ℕ) (t₀ : List ℤ) (v₀ : List
     pub present : (s : State) (columns rows : ℕ) → Drawn s columns rows mark₀ cap t₀ v₀ → base (rectangle columns rows) ≡ d → Present s columns rows mark cap t v bytes at done
     pub stocked : Stocked cap t [] s
 
-  pub starts : Pictured mark₀ cap d t₀ v₀ → Ongoing t₀ v₀ (replicate 16 1) 0 0 mark₀
+  pub starts : {first : ℕ} → NoneBelow cap t₀ first → Ongoing t₀ v₀ (replicate 16 first) 0 0 mark₀
   unfolding run
-  starts q = record { within = omega arith; few = omega arith; present = λ s columns rows p e. record { state = s; drawn = p; goes-on = refl }; stocked = no-stock cap (drawn-nil (q .drawn)) }
+  starts h = record { within = omega arith; few = omega arith; present = λ s columns rows p e. record { state = s; drawn = p; goes-on = refl }; stocked = first-stock h }
 
   module _ {t : List ℤ} {v : List Float} {stock : List ℕ} {at done mark : ℕ} (o : Ongoing t v stock at done mark) where
     -- what the code asks for, at each request

@@ -2,6 +2,7 @@
 ghost use mathlib.Core.List.{[]};
 ghost use Prim.Native.Nat.{_<_};
 ghost use lib.ListN.{length};
+ghost use Rattle.stock.specs.Free.{NoneBelow};
 ghost use Rattle.stock.specs.Stock.{Stocked};
 ghost use Rattle.tape.specs.Drawn.{Sized, Tame, Pictured};
 ghost use Rattle.tape.specs.Ran.{Turned, Ran};
@@ -59,14 +60,24 @@ pub struct Run {
     pub mark: u16,
 }
 
-pub fn run_tape(t: &mut [i32], v: &mut [f64], cap: usize, d: u32, mark: u16, tape: &[u8]) -> Run
-    requires { ⌜ Pictured mark cap d (now t) (now v) ⌝ }
+// From a number on below which none is free.
+pub fn run_tape(
+    t: &mut [i32],
+    v: &mut [f64],
+    cap: usize,
+    d: u32,
+    first: usize,
+    mark: u16,
+    tape: &[u8],
+) -> Run
+    requires { ⌜ Pictured mark cap d (now t) (now v) × NoneBelow cap (now t) first ⌝ }
     ensures { λ r. ⌜ Ran (now (tape .entry)) cap d mark (now (t .entry)) (now (v .entry)) (now (t .exit)) (now (v .exit)) (r .done) (r .why) (r .offset) (r .mark) ⌝ }
 {
     let mut at = 0;
     let mut done = 0;
     let mut m = mark;
-    let mut stock = [1u16; 16];
+    let low = first as u16;
+    let mut stock = [low; 16];
     while at < tape.len() {
         let s = turn_at(t, v, &mut stock, cap, d, tape, at);
         if s.why != 0 {

@@ -7,12 +7,12 @@ use Rattle.grid.proofs.tape_core.Statement.{statement}
 use Rattle.grid.proofs.tape_core.Tie as tie
 use Rattle.grid.proofs.tape_core.Reads as reads
 use Rattle.grid.proofs.tape_core.Lts as lts
-use Rattle.grid.proofs.check.Reads as check-reads
+use Rattle.sound.proofs.checks.check_first.Reads as check-first-reads
 use Rattle.mesh.proofs.ground_depth.Reads as ground-depth-reads
 use Rattle.tape.proofs.turns.run_tape.Reads as run-tape-reads
 
-check-requires : tie.Need-check-requires
-check-requires c κs = search needs
+check-first-requires : tie.Need-check-first-requires
+check-first-requires c κs = search needs
 
 same-length : tie.Need-same-length
 same-length c = search needs
@@ -21,15 +21,15 @@ same-length-2 : tie.Need-same-length-2
 same-length-2 c = search needs
 
 returns : tie.Need-returns
-returns c = tape-first _ _ _ _ _ (c .before .check .result) (c .before .check .ensures) (c .if1 .taken)
+returns c = tape-first _ _ _ _ _ (c .before .before .check-first .result .why) (c .before .before .check-first .ensures .0 (c .before .before .before .before .before .before .before .args .header .mark)) (c .if1 .taken)
 
 ground-depth-requires : tie.Need-ground-depth-requires
 ground-depth-requires c κs = search needs
 
 run-tape-requires : tie.Need-run-tape-requires
 run-tape-requires c κs =
-    let a = c .before .before .before .before .before .before .before .before .before .args in
-    tape-pictured (a .header) (a .table .now) (a .values .now) (a .capacity) (a .tape .now) (sym (c .before .before .before .before .check .ensures) ∙ c .before .before .before .if1 .left) (c .before .before .ground-depth .ensures)
+    let a = c .before .before .before .before .before .before .before .before .before .before .args in
+    (tape-pictured (a .header) (a .table .now) (a .values .now) (a .capacity) (a .tape .now) (sym (c .before .before .before .before .before .check-first .ensures .0 (a .header .mark)) ∙ c .before .before .before .if1 .left) (c .before .before .ground-depth .ensures), c .before .before .before .before .before .check-first .ensures .1 (c .before .before .before .if1 .left))
 
 same-length-3 : tie.Need-same-length-3
 same-length-3 c = search needs
@@ -39,14 +39,14 @@ same-length-4 c = search needs
 
 returns-2 : tie.Need-returns-2
 returns-2 c =
-    let a = c .before .before .before .before .before .before .before .before .before .before .before .before .before .args in
-    tape-done (a .header) (a .table .now) (a .values .now) (a .capacity) (a .tape .now) (sym (c .before .before .before .before .before .before .before .before .check .ensures) ∙ c .before .before .before .before .before .before .before .if1 .left) (c .before .before .before .before .before .before .ground-depth .ensures) (c .before .before .before .run-tape .ensures)
+    let a = c .before .before .before .before .before .before .before .before .before .before .before .before .before .before .args in
+    tape-done (a .header) (a .table .now) (a .values .now) (a .capacity) (a .tape .now) (sym (c .before .before .before .before .before .before .before .before .before .check-first .ensures .0 (a .header .mark)) ∙ c .before .before .before .before .before .before .before .if1 .left) (c .before .before .before .before .before .before .ground-depth .ensures) (c .before .before .before .run-tape .ensures)
 
 pub tape-core-spec : {M : Type 1} → statement M
 tape-core-spec =
     tie.close
     (tie.spec
-    check-requires
+    check-first-requires
     same-length
     same-length-2
     returns

@@ -9,14 +9,15 @@ use Rattle.checking.specs.Rowwise.{below}
 use Rattle.sound.proofs.Loop.{good, rows-more, no-zero, no-root, no-row, all-rows}
 use borrow.Author.Needs.{needs}
 use native.Mathlib.Omega.{arith}
+use Rattle.sound.proofs.Firsts.{Firsts, firsts-none, firsts-more, rows-failed, rows-passed}
 use Rattle.sound.proofs.rowwise.Statement.{statement}
 use Rattle.sound.proofs.rowwise.Tie as tie
 
 abbrev Inv-loop : tie.InvT-loop
-Inv-loop t v cap columns rows d k₀ k = (k ≤ cap) × (below k (good (rectangle columns rows) cap t v) ≡ true)
+Inv-loop t v cap columns rows d first₀ k₀ first k = (k ≤ cap) × (below k (good (rectangle columns rows) cap t v) ≡ true) × Firsts cap t k first
 
 abbrev μ-loop : tie.MeasureT-loop
-μ-loop t v cap columns rows d k₀ k = cap - k
+μ-loop t v cap columns rows d first₀ k₀ first k = cap - k
 
 zero-ok-requires : tie.Need-zero-ok-requires Inv-loop μ-loop
 zero-ok-requires c κs = search needs
@@ -24,7 +25,7 @@ zero-ok-requires c κs = search needs
 returns : tie.Need-returns Inv-loop μ-loop
 returns c =
     let p1 = c .before in
-    no-zero _ _ _ _ (p1 .zero-ok .ensures) (not-true _ (c .if1 .taken))
+    rows-failed (no-zero _ _ _ _ (p1 .zero-ok .ensures) (not-true _ (c .if1 .taken)))
 
 says-requires : tie.Need-says-requires Inv-loop μ-loop
 says-requires c κs = search needs
@@ -34,10 +35,13 @@ returns-2 c =
     let p1 = c .before in
     let p2 = p1 .before in
     let p3 = p2 .before in
-    no-root _ _ _ _ (p3 .zero-ok .ensures) (not-false _ (p2 .if1 .left)) (p1 .says .ensures) (c .if2 .taken)
+    rows-failed (no-root _ _ _ _ (p3 .zero-ok .ensures) (not-false _ (p2 .if1 .left)) (p1 .says .ensures) (c .if2 .taken))
+
+add-first : tie.Need-add-first Inv-loop μ-loop
+add-first c = search needs
 
 loop-holds : tie.Need-loop-holds Inv-loop μ-loop
-loop-holds c = (search needs, refl)
+loop-holds c = (omega arith, refl, firsts-none _ _ (c .before .before .before .zero-ok .ensures) (not-false _ (c .before .before .if1 .left)))
 
 add-row-ok : tie.Need-add-row-ok Inv-loop μ-loop
 add-row-ok c = search needs
@@ -53,7 +57,13 @@ returns-3 c =
     let p5 = p4 .before in
     let p6 = p5 .before in
     let p7 = p6 .before in
-    no-row _ _ _ _ (p7 .zero-ok .ensures) (not-false _ (p6 .if1 .left)) (p5 .says .ensures) (p4 .if2 .left) (p3 .loop .k) (omega arith) (p1 .row-ok .ensures) (not-true _ (c .if3 .taken))
+    rows-failed (no-row _ _ _ _ (p7 .zero-ok .ensures) (not-false _ (p6 .if1 .left)) (p5 .says .ensures) (p4 .if2 .left) (p3 .loop .k) (omega arith) (p1 .row-ok .ensures) (not-true _ (c .if3 .taken)))
+
+add-first-with : tie.Need-add-first-with Inv-loop μ-loop
+add-first-with c = search needs
+
+first-with-requires : tie.Need-first-with-requires Inv-loop μ-loop
+first-with-requires c κs = search needs
 
 add-k : tie.Need-add-k Inv-loop μ-loop
 add-k c = search needs
@@ -63,9 +73,9 @@ loop-less c = search needs
 
 loop-again : tie.Need-loop-again Inv-loop μ-loop
 loop-again c =
-    let p1 = c .before in
+    let p1 = c .before .before in
     let p3 = p1 .before .before in
-    (search needs, rows-more _ _ _ _ (p3 .loop .k) (p3 .loop .inv .1) (p1 .row-ok .ensures) (not-false _ (c .if3 .left)))
+    (omega arith, rows-more _ _ _ _ (p3 .loop .k) (p3 .loop .inv .1) (p1 .row-ok .ensures) (not-false _ (c .before .if3 .left)), firsts-more (p3 .loop .inv .2) (c .first-with .ensures))
 
 returns-4 : tie.Need-returns-4 Inv-loop μ-loop
 returns-4 c =
@@ -74,7 +84,7 @@ returns-4 c =
     let p3 = p2 .before in
     let p4 = p3 .before in
     let p5 = p4 .before in
-    all-rows _ _ _ _ (p5 .zero-ok .ensures) (not-false _ (p4 .if1 .left)) (p3 .says .ensures) (p2 .if2 .left) (p1 .loop .k) (omega arith) (p1 .loop .inv .1)
+    rows-passed (p1 .loop .inv .2) (omega arith) (all-rows _ _ _ _ (p5 .zero-ok .ensures) (not-false _ (p4 .if1 .left)) (p3 .says .ensures) (p2 .if2 .left) (p1 .loop .k) (omega arith) (p1 .loop .inv .1))
 
 pub rowwise-spec : {M : Type 1} → statement M
 rowwise-spec =
@@ -86,10 +96,13 @@ rowwise-spec =
     returns
     says-requires
     returns-2
+    add-first
     loop-holds
     add-row-ok
     row-ok-requires
     returns-3
+    add-first-with
+    first-with-requires
     add-k
     loop-less
     loop-again

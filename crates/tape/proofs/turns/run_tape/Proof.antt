@@ -6,20 +6,24 @@ use mathlib.Core.Path.{_≡_, refl}
 use lib.ListN.{length}
 use borrow.Author.Needs.{needs}
 use Rattle.tape.proofs.Running.{Ongoing, starts, asked-for, goes-next, ran-stopped, ran-over}
+use Rattle.tape.proofs.Tamed.{drawn-sized}
 use Rattle.tape.proofs.turns.run_tape.Statement.{statement}
 use Rattle.tape.proofs.turns.run_tape.Tie as tie
 
 abbrev Inv-loop : tie.InvT-loop
-Inv-loop t₀ v₀ cap d mark tape at₀ done₀ m₀ stock₀ t v at done m stock = (length t ≡ length t₀) × (length v ≡ length v₀) × Ongoing tape cap d mark t₀ v₀ t v stock at done m
+Inv-loop t₀ v₀ cap d first mark tape at₀ done₀ m₀ low stock₀ t v at done m stock = (length t ≡ length t₀) × (length v ≡ length v₀) × Ongoing tape cap d mark t₀ v₀ t v stock at done m
 
 abbrev μ-loop : tie.MeasureT-loop
-μ-loop t₀ v₀ cap d mark tape at₀ done₀ m₀ stock₀ t v at done m stock = length tape - at
+μ-loop t₀ v₀ cap d first mark tape at₀ done₀ m₀ low stock₀ t v at done m stock = length tape - at
+
+cast-low : tie.Need-cast-low Inv-loop μ-loop
+cast-low c = let p = c .before .before .pre .0 in let l = c .before .before .pre .1 .to in let m = drawn-sized (p .drawn) (p .depth) .cap-to in omega arith
 
 loop-holds : tie.Need-loop-holds Inv-loop μ-loop
-loop-holds c = (refl, refl, starts _ _ _ _ _ _ (c .before .before .pre))
+loop-holds c = (refl, refl, starts _ _ _ _ _ _ (c .before .before .pre .1))
 
 turn-at-requires : tie.Need-turn-at-requires Inv-loop μ-loop
-turn-at-requires c κs = let (x, y) = asked-for _ _ _ _ _ _ (c .before .before .before .before .loop .inv .2) (c .before .before .before .before .before .before .before .pre) in (x, y, c .before .before .before .before .loop .inv .2 .stocked, c .before .before .before .loop-test .taken)
+turn-at-requires c κs = let (x, y) = asked-for _ _ _ _ _ _ (c .before .before .before .before .loop .inv .2) (c .before .before .before .before .before .before .before .pre .0) in (x, y, c .before .before .before .before .loop .inv .2 .stocked, c .before .before .before .loop-test .taken)
 
 same-length : tie.Need-same-length Inv-loop μ-loop
 same-length c = omega arith
@@ -57,6 +61,7 @@ run-tape-spec =
     (tie.spec
     Inv-loop
     μ-loop
+    cast-low
     loop-holds
     turn-at-requires
     same-length

@@ -1,0 +1,25 @@
+-- The first free number, as the checker comes by it.
+-- Assumes nothing.
+use Prim.Native.Nat.{ℕ, _≤_, _<_}
+use mathlib.Core.Path.{_≡_}
+use mathlib.Core.Logic.{_≢_}
+use mathlib.Core.Bool.{true, false}
+use mathlib.Core.List.{List}
+use lib.IntN.{ℤ}
+use lib.Ieee.{Float}
+use Rattle.mesh.specs.Place.{Grid}
+use Rattle.table.specs.Words.{vacant}
+use Rattle.stock.specs.Free.{NoneBelow}
+use Rattle.checking.specs.Rowwise.{rowwise}
+
+-- r is n or first, and n is not free if it is below r
+pub record FirstWith (t : List ℤ) (n first r : ℕ) : Type 0 where
+  pub to : r ≤ first
+  pub from : 1 ≤ n → 1 ≤ first → 1 ≤ r
+  pub none : n < r → vacant t n ≡ false
+
+-- 0 if a row fails the test, otherwise a number below which none is free
+pub record Passes (g : Grid) (cap : ℕ) (t : List ℤ) (v : List Float) (r : ℕ) : Type 0 where
+  pub no : r ≡ 0 → false ≡ rowwise g cap t v
+  pub yes : r ≢ 0 → true ≡ rowwise g cap t v
+  pub first : r ≢ 0 → NoneBelow cap t r
