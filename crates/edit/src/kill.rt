@@ -6,19 +6,20 @@ ghost use lib.ListN.{length, getD};
 ghost use Rattle.mesh.specs.Tools.{all};
 ghost use Rattle.mesh.specs.Picture.{rowWords};
 ghost use Rattle.table.specs.Words.{linkOf};
+ghost use Rattle.table.specs.Plain.{Plain};
 ghost use Rattle.editing.specs.Tables.{Lowers, kidless, dropUp, dropCorner, refreshDown, refreshLevel, refreshLevels, stillUsed, killTable, killValues};
 ghost use Rattle.edit.specs.Edges.{ofRow, Within, borderOf, stillBorder, cleared};
 use crate::anew::refresh_unless_nil;
-use crate::checked::take_out;
-use crate::checked::touched_row;
-use table::words::link;
+use crate::remove::touched_row;
+use crate::steps::take_out;
+use table::plain::link;
 use table::words::word;
 use table::writes::put;
 use table::writes::put_value;
 
 // Whether the row n has no kid.
 fn kidless(t: &[i32], cap: usize, n: usize) -> bool
-    requires { ⌜ (cap * rowWords + rowWords ≤ length (now t)) × (cap ≤ 4095) × (n ≤ cap) ⌝ }
+    requires { ⌜ (cap * rowWords + rowWords ≤ length (now t)) × (cap ≤ 4095) × (n ≤ cap) × Plain (now t) cap ⌝ }
     ensures { λ r. ⌜ r ≡ kidless (now (t .entry)) cap n ⌝ }
 {
     let a = link(t, cap, n, 1);
@@ -30,8 +31,8 @@ fn kidless(t: &[i32], cap: usize, n: usize) -> bool
 
 // A ghost without a kid goes, and then its parent if that has none left, up to so many levels.
 fn drop_up(t: &mut [i32], cap: usize, levels: u32, n: usize, low: usize) -> usize
-    requires { ⌜ (cap * rowWords + rowWords ≤ length (now t)) × (cap ≤ 4095) × (n ≤ cap) ⌝ }
-    ensures { λ r. ⌜ (now (t .exit) ≡ dropUp levels (now (t .entry)) cap n) × Lowers (now (t .entry)) (now (t .exit)) low r ⌝ }
+    requires { ⌜ (cap * rowWords + rowWords ≤ length (now t)) × (cap ≤ 4095) × (n ≤ cap) × Plain (now t) cap ⌝ }
+    ensures { λ r. ⌜ (now (t .exit) ≡ dropUp levels (now (t .entry)) cap n) × Lowers (now (t .entry)) (now (t .exit)) low r × Plain (now (t .exit)) cap ⌝ }
 {
     let mut e = levels;
     let mut k = n;
@@ -53,8 +54,8 @@ fn drop_up(t: &mut [i32], cap: usize, levels: u32, n: usize, low: usize) -> usiz
 
 // A corner of the killed cell that no cell touches goes, and the ghosts above it that have no kid left.
 fn drop_corner(t: &mut [i32], cap: usize, d: u32, n: usize, low: usize) -> usize
-    requires { ⌜ (cap * rowWords + rowWords ≤ length (now t)) × (cap ≤ 4095) × (n ≤ cap) ⌝ }
-    ensures { λ r. ⌜ (now (t .exit) ≡ dropCorner (now (t .entry)) cap d n) × Lowers (now (t .entry)) (now (t .exit)) low r ⌝ }
+    requires { ⌜ (cap * rowWords + rowWords ≤ length (now t)) × (cap ≤ 4095) × (n ≤ cap) × Plain (now t) cap ⌝ }
+    ensures { λ r. ⌜ (now (t .exit) ≡ dropCorner (now (t .entry)) cap d n) × Lowers (now (t .entry)) (now (t .exit)) low r × Plain (now (t .exit)) cap ⌝ }
 {
     if n == 0 {
         return low;
@@ -73,7 +74,7 @@ fn kid_at(t: &[i32], cap: usize, n: usize, ws: &[u8], q: usize) -> usize
     ensures { λ r. ⌜ (r ≤ cap) × (r ≡ linkOf (now (t .entry)) cap n (getD (now (ws .entry)) q 0)) ⌝ }
 {
     let w = ws[q] as usize;
-    link(t, cap, n, w)
+    table::words::link(t, cap, n, w)
 }
 
 // The rows so many levels down from n, by kids that the words of ws name, with their flags anew.
@@ -180,7 +181,7 @@ fn clear_cell(
     both: usize,
     low: usize,
 ) -> usize
-    requires { ⌜ (cap * rowWords + rowWords ≤ length (now t)) × (cap ≤ 4095) × (n ≤ cap) × (north ≤ cap) × (east ≤ cap) × (both ≤ cap) ⌝ }
+    requires { ⌜ (cap * rowWords + rowWords ≤ length (now t)) × (cap ≤ 4095) × (n ≤ cap) × (north ≤ cap) × (east ≤ cap) × (both ≤ cap) × Plain (now t) cap ⌝ }
     ensures { λ r. ⌜ (now (t .exit) ≡ cleared (now (t .entry)) cap d n north east both) × Lowers (now (t .entry)) (now (t .exit)) low r ⌝ }
 {
     put(t, n, 12, 0);
@@ -193,7 +194,7 @@ fn clear_cell(
 
 // Kills the cell n; the bound below which no number is free, after it.
 pub fn kill_table(t: &mut [i32], cap: usize, d: u32, n: usize, low: usize) -> usize
-    requires { ⌜ (cap * rowWords + rowWords ≤ length (now t)) × (cap ≤ 4095) × (n ≤ cap) × (d ≤ 32) ⌝ }
+    requires { ⌜ (cap * rowWords + rowWords ≤ length (now t)) × (cap ≤ 4095) × (n ≤ cap) × (d ≤ 32) × Plain (now t) cap ⌝ }
     ensures { λ r. ⌜ (now (t .exit) ≡ killTable (now (t .entry)) cap d n) × Lowers (now (t .entry)) (now (t .exit)) low r ⌝ }
 {
     let north = link(t, cap, n, 5);
@@ -217,7 +218,7 @@ pub fn kill_values(v: &mut [f64], n: usize)
 
 // Kills the cell n, its value too.
 pub fn kill(t: &mut [i32], v: &mut [f64], cap: usize, d: u32, n: usize, low: usize) -> usize
-    requires { ⌜ (cap * rowWords + rowWords ≤ length (now t)) × (cap ≤ 4095) × (cap < length (now v)) × (n ≤ cap) × (d ≤ 32) ⌝ }
+    requires { ⌜ (cap * rowWords + rowWords ≤ length (now t)) × (cap ≤ 4095) × (cap < length (now v)) × (n ≤ cap) × (d ≤ 32) × Plain (now t) cap ⌝ }
     ensures { λ r. ⌜ (now (t .exit) ≡ killTable (now (t .entry)) cap d n) × (now (v .exit) ≡ killValues n (now (v .entry))) × Lowers (now (t .entry)) (now (t .exit)) low r ⌝ }
 {
     let next = kill_table(t, cap, d, n, low);

@@ -15,7 +15,7 @@ use table::plain::link;
 use table::worked::kid_word;
 
 // Whether a cell touches the patch of the row n.
-fn touched_row(t: &[i32], cap: usize, d: u32, n: usize) -> bool
+pub fn touched_row(t: &[i32], cap: usize, d: u32, n: usize) -> bool
     requires { ⌜ (cap * rowWords + rowWords ≤ length (now t)) × (cap ≤ 4095) × (n ≤ cap) × Plain (now t) cap ⌝ }
     ensures { λ r. ⌜ r ≡ touchedRow (now (t .entry)) cap d n ⌝ }
 {

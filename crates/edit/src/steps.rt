@@ -81,7 +81,7 @@ fn drop_side(t: &mut [i32], cap: usize, k: usize, w: usize)
     put_unless_nil(t, x, o + 1, 0);
 }
 
-pub fn lesser(a: usize, b: usize) -> usize
+fn lesser(a: usize, b: usize) -> usize
     ensures { λ r. ⌜ r ≡ a - (a - b) ⌝ }
 {
     if a < b { a } else { b }
