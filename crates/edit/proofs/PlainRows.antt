@@ -164,6 +164,10 @@ plain-freed {t} {cap = cap} k p e fits =
     flag m h (yes e) = rw (e, put-same t freeRow k refl fits 12 (omega arith)) (omega arith)
     flag m h (no e) = rw (put-other t freeRow k refl fits m 12 (omega arith) e) (p .flags m h)
 
+-- a cell that is killed
+pub plain-killed : {t u v : List ℤ} {cap : ℕ} (n : ℕ) → Plain t cap → u ≡ putWord t n 12 0 → v ≡ putWord u n 13 0 → Plain v cap
+plain-killed n p e h = rw h (plain-else (plain-put n 0 p e (omega arith)) n 13 (pos 0) (omega arith) (λ e. omega arith) (omega arith))
+
 -- ---- a linked table, and a picture
 
 pub linked-plain : {g : Grid} {cap : ℕ} {es : List Entry} → Rooted g cap es → (f : Flags) → ((p : Place) → f p < 2147483648) → Plain (tableWith g es f) cap

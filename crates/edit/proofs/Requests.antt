@@ -11,8 +11,7 @@ use lib.ListN.{getD}
 use lib.Ieee.{Float}
 use Rattle.mesh.specs.State.{plusZero}
 use Rattle.table.specs.Words.{wordOf, linkOf}
-use Rattle.editing.specs.Tables.{Lowers, kidSpots, wantedSpots, suppliedAll, putCells, putValues, refreshNear, dropAt, kidStatus, refineTable, refineValues, removeTable}
-use Rattle.editing.proofs.Lowering.{lowers-nothing, lowers-then, lowers-none, frees-cells, frees-near}
+use Rattle.editing.specs.Tables.{kidSpots, wantedSpots, suppliedAll, putCells, putValues, refreshNear, dropAt, kidStatus, refineTable, refineValues, removeTable}
 use Rattle.edit.specs.Lent.{lending, cornerSpots}
 use Rattle.table.specs.Plain.{Plain}
 use Rattle.edit.proofs.PlainRows.{no-spot, and-spot, plain-supply, plain-cells}
@@ -70,13 +69,3 @@ module _ (t : List ℤ) (cap d n : ℕ) where
   removed {north} {east} {both} {t₁} {t₂} {t₃} h1 h2 h3 h4 h5 h6 h7 =
       let gone : dropAt (wantedSpots t₁ cap n) t₁ cap d ≡ t₃ = ap (λ xs. dropAt xs t₁ cap d) (wanted-is t₁ cap n h2 h3 h4) ∙ drop-append cap d (kidSpots t₁ cap n) (cornerSpots north east both) t₁ ∙ ap (λ u. dropAt (cornerSpots north east both) u cap d) (sym h5) ∙ sym h6 in
       rw (← h1, gone, h7)
-
-  -- the numbers that are freed are those of the kids and the corners that go
-  pub removed-lowers : {low a b : ℕ} {t₁ t₂ t₃ t₄ : List ℤ} →
-      t₁ ≡ putCells (kidSpots t cap n) t cap 0 0 →
-      Lowers t₁ t₂ low a →
-      Lowers t₂ t₃ a b →
-      t₄ ≡ refreshNear t₃ cap d n →
-      Lowers t t₄ low b
-  removed-lowers {low} {t₃ = t₃} h1 f g h2 =
-      rw h2 (lowers-none (lowers-then (lowers-none (lowers-nothing t low) (rw h1 (frees-cells (kidSpots t cap n) t cap 0 0 (λ e. omega arith)))) (lowers-then f g)) (frees-near cap d n t₃))

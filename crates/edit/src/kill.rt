@@ -1,24 +1,26 @@
 // An accepted kill.
 ghost use mathlib.Core.Path.{_≡_};
-ghost use Prim.Native.Nat.{_+_, _*_, _<_, _≤_};
+ghost use Prim.Native.Nat.{_+_, _-_, _*_, _<_, _≤_};
 ghost use lib.Dec.{T};
 ghost use lib.ListN.{length, getD};
 ghost use Rattle.mesh.specs.Tools.{all};
 ghost use Rattle.mesh.specs.Picture.{rowWords};
 ghost use Rattle.table.specs.Words.{linkOf};
+ghost use Rattle.table.specs.Plain.{Plain};
+ghost use Rattle.editing.specs.Steps.{takeOut};
 ghost use Rattle.editing.specs.Tables.{Lowers, kidless, dropUp, dropCorner, refreshDown, refreshLevel, refreshLevels, stillUsed, killTable, killValues};
 ghost use Rattle.edit.specs.Edges.{ofRow, Within, borderOf, stillBorder, cleared};
 use crate::anew::refresh_unless_nil;
-use crate::checked::take_out;
-use crate::checked::touched_row;
-use table::words::link;
+use crate::remove::touched_row;
+use crate::steps::take_out;
+use table::plain::link;
 use table::words::word;
 use table::writes::put;
 use table::writes::put_value;
 
 // Whether the row n has no kid.
 fn kidless(t: &[i32], cap: usize, n: usize) -> bool
-    requires { ⌜ (cap * rowWords + rowWords ≤ length (now t)) × (cap ≤ 4095) × (n ≤ cap) ⌝ }
+    requires { ⌜ (cap * rowWords + rowWords ≤ length (now t)) × (cap ≤ 4095) × (n ≤ cap) × Plain (now t) cap ⌝ }
     ensures { λ r. ⌜ r ≡ kidless (now (t .entry)) cap n ⌝ }
 {
     let a = link(t, cap, n, 1);
@@ -28,10 +30,25 @@ fn kidless(t: &[i32], cap: usize, n: usize) -> bool
     (a == 0) & ((b == 0) & ((c == 0) & (e == 0)))
 }
 
+fn lesser(a: usize, b: usize) -> usize
+    ensures { λ r. ⌜ r ≡ a - (a - b) ⌝ }
+{
+    if a < b { a } else { b }
+}
+
+// The row k, which has no kids, is free; the least number that is freed, with it.
+fn free_row(t: &mut [i32], cap: usize, k: usize, low: usize) -> usize
+    requires { ⌜ (cap * rowWords + rowWords ≤ length (now t)) × (cap ≤ 4095) × (1 ≤ k) × (k ≤ cap) × Plain (now t) cap ⌝ }
+    ensures { λ r. ⌜ (now (t .exit) ≡ takeOut (now (t .entry)) cap k) × Lowers (now (t .entry)) (now (t .exit)) low r × Plain (now (t .exit)) cap ⌝ }
+{
+    take_out(t, cap, k);
+    lesser(low, k)
+}
+
 // A ghost without a kid goes, and then its parent if that has none left, up to so many levels.
 fn drop_up(t: &mut [i32], cap: usize, levels: u32, n: usize, low: usize) -> usize
-    requires { ⌜ (cap * rowWords + rowWords ≤ length (now t)) × (cap ≤ 4095) × (n ≤ cap) ⌝ }
-    ensures { λ r. ⌜ (now (t .exit) ≡ dropUp levels (now (t .entry)) cap n) × Lowers (now (t .entry)) (now (t .exit)) low r ⌝ }
+    requires { ⌜ (cap * rowWords + rowWords ≤ length (now t)) × (cap ≤ 4095) × (n ≤ cap) × Plain (now t) cap ⌝ }
+    ensures { λ r. ⌜ (now (t .exit) ≡ dropUp levels (now (t .entry)) cap n) × Lowers (now (t .entry)) (now (t .exit)) low r × Plain (now (t .exit)) cap ⌝ }
 {
     let mut e = levels;
     let mut k = n;
@@ -44,7 +61,7 @@ fn drop_up(t: &mut [i32], cap: usize, levels: u32, n: usize, low: usize) -> usiz
             return least;
         }
         let p = link(t, cap, k, 0);
-        least = take_out(t, cap, k, least);
+        least = free_row(t, cap, k, least);
         k = p;
         e -= 1;
     }
@@ -53,8 +70,8 @@ fn drop_up(t: &mut [i32], cap: usize, levels: u32, n: usize, low: usize) -> usiz
 
 // A corner of the killed cell that no cell touches goes, and the ghosts above it that have no kid left.
 fn drop_corner(t: &mut [i32], cap: usize, d: u32, n: usize, low: usize) -> usize
-    requires { ⌜ (cap * rowWords + rowWords ≤ length (now t)) × (cap ≤ 4095) × (n ≤ cap) ⌝ }
-    ensures { λ r. ⌜ (now (t .exit) ≡ dropCorner (now (t .entry)) cap d n) × Lowers (now (t .entry)) (now (t .exit)) low r ⌝ }
+    requires { ⌜ (cap * rowWords + rowWords ≤ length (now t)) × (cap ≤ 4095) × (n ≤ cap) × Plain (now t) cap ⌝ }
+    ensures { λ r. ⌜ (now (t .exit) ≡ dropCorner (now (t .entry)) cap d n) × Lowers (now (t .entry)) (now (t .exit)) low r × Plain (now (t .exit)) cap ⌝ }
 {
     if n == 0 {
         return low;
@@ -63,7 +80,7 @@ fn drop_corner(t: &mut [i32], cap: usize, d: u32, n: usize, low: usize) -> usize
         return low;
     }
     let p = link(t, cap, n, 0);
-    let a = take_out(t, cap, n, low);
+    let a = free_row(t, cap, n, low);
     drop_up(t, cap, d, p, a)
 }
 
@@ -73,7 +90,7 @@ fn kid_at(t: &[i32], cap: usize, n: usize, ws: &[u8], q: usize) -> usize
     ensures { λ r. ⌜ (r ≤ cap) × (r ≡ linkOf (now (t .entry)) cap n (getD (now (ws .entry)) q 0)) ⌝ }
 {
     let w = ws[q] as usize;
-    link(t, cap, n, w)
+    table::words::link(t, cap, n, w)
 }
 
 // The rows so many levels down from n, by kids that the words of ws name, with their flags anew.
@@ -180,7 +197,7 @@ fn clear_cell(
     both: usize,
     low: usize,
 ) -> usize
-    requires { ⌜ (cap * rowWords + rowWords ≤ length (now t)) × (cap ≤ 4095) × (n ≤ cap) × (north ≤ cap) × (east ≤ cap) × (both ≤ cap) ⌝ }
+    requires { ⌜ (cap * rowWords + rowWords ≤ length (now t)) × (cap ≤ 4095) × (n ≤ cap) × (north ≤ cap) × (east ≤ cap) × (both ≤ cap) × Plain (now t) cap ⌝ }
     ensures { λ r. ⌜ (now (t .exit) ≡ cleared (now (t .entry)) cap d n north east both) × Lowers (now (t .entry)) (now (t .exit)) low r ⌝ }
 {
     put(t, n, 12, 0);
@@ -193,7 +210,7 @@ fn clear_cell(
 
 // Kills the cell n; the bound below which no number is free, after it.
 pub fn kill_table(t: &mut [i32], cap: usize, d: u32, n: usize, low: usize) -> usize
-    requires { ⌜ (cap * rowWords + rowWords ≤ length (now t)) × (cap ≤ 4095) × (n ≤ cap) × (d ≤ 32) ⌝ }
+    requires { ⌜ (cap * rowWords + rowWords ≤ length (now t)) × (cap ≤ 4095) × (n ≤ cap) × (d ≤ 32) × Plain (now t) cap ⌝ }
     ensures { λ r. ⌜ (now (t .exit) ≡ killTable (now (t .entry)) cap d n) × Lowers (now (t .entry)) (now (t .exit)) low r ⌝ }
 {
     let north = link(t, cap, n, 5);
@@ -217,7 +234,7 @@ pub fn kill_values(v: &mut [f64], n: usize)
 
 // Kills the cell n, its value too.
 pub fn kill(t: &mut [i32], v: &mut [f64], cap: usize, d: u32, n: usize, low: usize) -> usize
-    requires { ⌜ (cap * rowWords + rowWords ≤ length (now t)) × (cap ≤ 4095) × (cap < length (now v)) × (n ≤ cap) × (d ≤ 32) ⌝ }
+    requires { ⌜ (cap * rowWords + rowWords ≤ length (now t)) × (cap ≤ 4095) × (cap < length (now v)) × (n ≤ cap) × (d ≤ 32) × Plain (now t) cap ⌝ }
     ensures { λ r. ⌜ (now (t .exit) ≡ killTable (now (t .entry)) cap d n) × (now (v .exit) ≡ killValues n (now (v .entry))) × Lowers (now (t .entry)) (now (t .exit)) low r ⌝ }
 {
     let next = kill_table(t, cap, d, n, low);

@@ -1,6 +1,5 @@
 // What an accepted refinement, removal or kill does to a lent table and its values.
 pub mod anew;
-pub mod checked;
 pub mod kill;
 pub mod near;
 pub mod refine;

@@ -7,7 +7,6 @@ ghost use Rattle.mesh.specs.Winds.{winds};
 ghost use Rattle.mesh.specs.Picture.{rowWords};
 ghost use Rattle.table.specs.Plain.{Plain};
 ghost use Rattle.editing.specs.Steps.{putUnlessNil, placeIn, linkIn, dropSide, takeOut};
-ghost use Rattle.editing.specs.Tables.{Lowers};
 ghost use Rattle.edit.specs.Links.{linkBy};
 ghost use Rattle.edit.specs.Small.{Small};
 use table::plain::link;
@@ -81,16 +80,10 @@ fn drop_side(t: &mut [i32], cap: usize, k: usize, w: usize)
     put_unless_nil(t, x, o + 1, 0);
 }
 
-pub fn lesser(a: usize, b: usize) -> usize
-    ensures { λ r. ⌜ r ≡ a - (a - b) ⌝ }
-{
-    if a < b { a } else { b }
-}
-
-// The row k, which has no kids, is free; the bound below which none is, with it.
-pub fn take_out(t: &mut [i32], cap: usize, k: usize, low: usize) -> usize
+// The row k, which has no kids, is free.
+pub fn take_out(t: &mut [i32], cap: usize, k: usize)
     requires { ⌜ (cap * rowWords + rowWords ≤ length (now t)) × (cap ≤ 4095) × (1 ≤ k) × (k ≤ cap) × Plain (now t) cap ⌝ }
-    ensures { λ r. ⌜ (now (t .exit) ≡ takeOut (now (t .entry)) cap k) × Lowers (now (t .entry)) (now (t .exit)) low r × Plain (now (t .exit)) cap ⌝ }
+    ensures { λ _. ⌜ (now (t .exit) ≡ takeOut (now (t .entry)) cap k) × Plain (now (t .exit)) cap ⌝ }
 {
     let p = link(t, cap, k, 0);
     let w = kid_word(word(t, k, 10) % 2, word(t, k, 11) % 2);
@@ -100,5 +93,4 @@ pub fn take_out(t: &mut [i32], cap: usize, k: usize, low: usize) -> usize
     drop_side(t, cap, k, 6);
     drop_side(t, cap, k, 7);
     clear_row(t, k);
-    lesser(low, k)
 }

@@ -54,13 +54,13 @@ pub fn remove(t: &mut [i32], v: &mut [f64], stock: &mut [u16; 16], cap: usize, d
         return why;
     }
     let near = near_rows(t, cap, n);
-    edit::remove::remove(t, v, cap, d, n, 1);
+    edit::remove::remove(t, v, cap, d, n);
     keep_nine(t, cap, stock, &near);
     0
 }
 
 pub fn kill(t: &mut [i32], v: &mut [f64], stock: &mut [u16; 16], cap: usize, d: u32, n: usize) -> u32
-    requires { ⌜ Sized (now t) (now v) cap d × Stocked cap (now t) [] (now stock) ⌝ }
+    requires { ⌜ Sized (now t) (now v) cap d × Tame (now t) cap d × Stocked cap (now t) [] (now stock) ⌝ }
     ensures { λ r. ⌜ Applied (kill n) cap d (now (t .entry)) (now (v .entry)) (now (t .exit)) (now (v .exit)) r × Stocked cap (now (t .exit)) [] (now (stock .exit)) ⌝ }
 {
     let why = kill_refusal(t, cap, d, n);

@@ -1,7 +1,9 @@
 -- `edit::kill::clear_cell` meets its contract.
 -- Assumes nothing.
+use native.Mathlib.Omega.{arith}
 use borrow.Author.Needs.{needs}
 use Rattle.edit.proofs.Borders.{cell-cleared, cleared-lowers}
+use Rattle.edit.proofs.PlainRows.{plain-killed}
 use Rattle.edit.proofs.kill.clear_cell.Statement.{statement}
 use Rattle.edit.proofs.kill.clear_cell.Tie as tie
 
@@ -12,7 +14,10 @@ put-requires-2 : tie.Need-put-requires-2
 put-requires-2 c κs = search needs
 
 drop-corner-requires : tie.Need-drop-corner-requires
-drop-corner-requires c κs = search needs
+drop-corner-requires c κs =
+    let b₁ = c .before .before in
+    let b₂ = b₁ .before .before .before in
+    (omega arith, omega arith, omega arith, plain-killed _ (b₂ .before .before .pre .6) (b₂ .put .ensures) (b₁ .put2 .ensures))
 
 drop-corner-requires-2 : tie.Need-drop-corner-requires-2
 drop-corner-requires-2 c κs = search needs

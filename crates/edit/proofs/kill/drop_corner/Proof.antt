@@ -7,7 +7,7 @@ use Rattle.edit.proofs.kill.drop_corner.Statement.{statement}
 use Rattle.edit.proofs.kill.drop_corner.Tie as tie
 
 returns : tie.Need-returns
-returns c = (corner-nil _ _ _ _ (c .if1 .taken), lowers-nothing _ _)
+returns c = (corner-nil _ _ _ _ (c .if1 .taken), lowers-nothing _ _, c .before .pre .3)
 
 touched-row-requires : tie.Need-touched-row-requires
 touched-row-requires c κs = search needs
@@ -16,13 +16,13 @@ same-length : tie.Need-same-length
 same-length c = search needs
 
 returns-2 : tie.Need-returns-2
-returns-2 c = (corner-kept _ _ _ _ (c .before .before .before .if1 .left) (c .before .touched-row .ensures) (c .if2 .taken), lowers-nothing _ _)
+returns-2 c = (corner-kept _ _ _ _ (c .before .before .before .if1 .left) (c .before .touched-row .ensures) (c .if2 .taken), lowers-nothing _ _, c .before .before .before .before .pre .3)
 
 link-requires : tie.Need-link-requires
 link-requires c κs = search needs
 
-take-out-requires : tie.Need-take-out-requires
-take-out-requires c κs = search needs
+free-row-requires : tie.Need-free-row-requires
+free-row-requires c κs = search needs
 
 drop-up-requires : tie.Need-drop-up-requires
 drop-up-requires c κs = search needs
@@ -38,7 +38,7 @@ returns-3 c =
     let b₄ = b₃ .before .before in
     let b₅ = b₄ .before in
     let b₆ = b₅ .before .before in
-    (corner-gone _ _ _ _ (b₆ .if1 .left) (b₅ .touched-row .ensures) (b₄ .if2 .left) (b₃ .link .ensures .1) (b₂ .take-out .ensures .0) (b₁ .drop-up .ensures .0), lowers-then (b₂ .take-out .ensures .1) (b₁ .drop-up .ensures .1))
+    (corner-gone _ _ _ _ (b₆ .if1 .left) (b₅ .touched-row .ensures) (b₄ .if2 .left) (b₃ .link .ensures .1) (b₂ .free-row .ensures .0) (b₁ .drop-up .ensures .0), lowers-then (b₂ .free-row .ensures .1) (b₁ .drop-up .ensures .1), b₁ .drop-up .ensures .2)
 
 pub drop-corner-spec : {M : Type 1} → statement M
 drop-corner-spec =
@@ -49,7 +49,7 @@ drop-corner-spec =
     same-length
     returns-2
     link-requires
-    take-out-requires
+    free-row-requires
     drop-up-requires
     same-length-2
     returns-3)

@@ -1,7 +1,6 @@
 -- `edit::remove::drop_corners` meets its contract.
 -- Assumes nothing.
 use borrow.Author.Needs.{needs}
-use Rattle.editing.proofs.Lowering.{lowers-then}
 use Rattle.edit.proofs.Nearby.{drop-more, drop-none}
 use Rattle.edit.proofs.remove.drop_corners.Statement.{statement}
 use Rattle.edit.proofs.remove.drop_corners.Tie as tie
@@ -31,7 +30,7 @@ returns c =
     let b₃ = b₂ .before .before .before in
     let b₄ = b₃ .before .before .before in
     let b₅ = b₄ .before .before .before in
-    (drop-more _ _ _ _ _ (b₅ .drop-kid .ensures .0) (drop-more _ _ _ _ _ (b₄ .drop-kid2 .ensures .0) (drop-more _ _ _ _ _ (b₃ .drop-kid3 .ensures .0) (drop-more _ _ _ _ _ (b₂ .drop-kid4 .ensures .0) (drop-more _ _ _ _ _ (b₁ .drop-kid5 .ensures .0) (drop-none _ _ _))))), lowers-then (b₅ .drop-kid .ensures .1) (lowers-then (b₄ .drop-kid2 .ensures .1) (lowers-then (b₃ .drop-kid3 .ensures .1) (lowers-then (b₂ .drop-kid4 .ensures .1) (b₁ .drop-kid5 .ensures .1)))), b₁ .drop-kid5 .ensures .2)
+    (drop-more _ _ _ _ _ (b₅ .drop-kid .ensures .0) (drop-more _ _ _ _ _ (b₄ .drop-kid2 .ensures .0) (drop-more _ _ _ _ _ (b₃ .drop-kid3 .ensures .0) (drop-more _ _ _ _ _ (b₂ .drop-kid4 .ensures .0) (drop-more _ _ _ _ _ (b₁ .drop-kid5 .ensures .0) (drop-none _ _ _))))), b₁ .drop-kid5 .ensures .1)
 
 pub drop-corners-spec : {M : Type 1} → statement M
 drop-corners-spec =

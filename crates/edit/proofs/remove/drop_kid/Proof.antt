@@ -24,7 +24,7 @@ returns c =
     let b₁ = c .before in
     let b₂ = b₁ .before .before in
     let b₃ = b₂ .before in
-    (b₁ .drop-untouched .ensures .0 ∙ ap (dropUntouched _ _ _) (b₂ .link .ensures .1 ∙ ap (linkOf _ _ _) (b₃ .kid-word .ensures .1)), b₁ .drop-untouched .ensures .1, b₁ .drop-untouched .ensures .2)
+    (b₁ .drop-untouched .ensures .0 ∙ ap (dropUntouched _ _ _) (b₂ .link .ensures .1 ∙ ap (linkOf _ _ _) (b₃ .kid-word .ensures .1)), b₁ .drop-untouched .ensures .1)
 
 pub drop-kid-spec : {M : Type 1} → statement M
 drop-kid-spec = tie.close (tie.spec kid-word-requires link-requires drop-untouched-requires same-length returns)

@@ -1,7 +1,6 @@
 -- `edit::remove::drop_kids` meets its contract.
 -- Assumes nothing.
 use borrow.Author.Needs.{needs}
-use Rattle.editing.proofs.Lowering.{lowers-then}
 use Rattle.edit.proofs.Nearby.{drop-more, drop-none}
 use Rattle.edit.proofs.remove.drop_kids.Statement.{statement}
 use Rattle.edit.proofs.remove.drop_kids.Tie as tie
@@ -27,7 +26,7 @@ returns c =
     let b₂ = b₁ .before .before .before in
     let b₃ = b₂ .before .before .before in
     let b₄ = b₃ .before .before .before in
-    (drop-more _ _ _ _ _ (b₄ .drop-kid .ensures .0) (drop-more _ _ _ _ _ (b₃ .drop-kid2 .ensures .0) (drop-more _ _ _ _ _ (b₂ .drop-kid3 .ensures .0) (drop-more _ _ _ _ _ (b₁ .drop-kid4 .ensures .0) (drop-none _ _ _)))), lowers-then (b₄ .drop-kid .ensures .1) (lowers-then (b₃ .drop-kid2 .ensures .1) (lowers-then (b₂ .drop-kid3 .ensures .1) (b₁ .drop-kid4 .ensures .1))), b₁ .drop-kid4 .ensures .2)
+    (drop-more _ _ _ _ _ (b₄ .drop-kid .ensures .0) (drop-more _ _ _ _ _ (b₃ .drop-kid2 .ensures .0) (drop-more _ _ _ _ _ (b₂ .drop-kid3 .ensures .0) (drop-more _ _ _ _ _ (b₁ .drop-kid4 .ensures .0) (drop-none _ _ _)))), b₁ .drop-kid4 .ensures .1)
 
 pub drop-kids-spec : {M : Type 1} → statement M
 drop-kids-spec =

@@ -2,7 +2,7 @@
 -- Assumes nothing.
 use native.Mathlib.Omega.{arith}
 use borrow.Author.Needs.{needs}
-use Rattle.edit.proofs.Requests.{removed, removed-lowers}
+use Rattle.edit.proofs.Requests.{removed}
 use Rattle.edit.proofs.PlainRows.{plain-kids}
 use Rattle.edit.proofs.remove.remove_table.Statement.{statement}
 use Rattle.edit.proofs.remove.remove_table.Tie as tie
@@ -31,10 +31,10 @@ drop-kids-requires c κs =
     (omega arith, omega arith, omega arith, plain-kids _ (b .before .before .pre .4) (b .put-cells .ensures))
 
 drop-corners-requires : tie.Need-drop-corners-requires
-drop-corners-requires c κs = (omega arith, omega arith, omega arith, omega arith, omega arith, c .before .before .drop-kids .ensures .2)
+drop-corners-requires c κs = (omega arith, omega arith, omega arith, omega arith, omega arith, c .before .before .drop-kids .ensures .1)
 
 refresh-near-requires : tie.Need-refresh-near-requires
-refresh-near-requires c κs = (omega arith, omega arith, omega arith, omega arith, c .before .before .drop-corners .ensures .2)
+refresh-near-requires c κs = (omega arith, omega arith, omega arith, omega arith, c .before .before .drop-corners .ensures .1)
 
 same-length : tie.Need-same-length
 same-length c = search needs
@@ -48,7 +48,7 @@ returns c =
     let b₅ = b₄ .before .before in
     let b₆ = b₅ .before .before in
     let b₇ = b₆ .before .before .before in
-    (removed _ _ _ _ (b₇ .put-cells .ensures) (b₆ .link .ensures .1) (b₅ .link2 .ensures .1) (b₄ .link3 .ensures .1) (b₃ .drop-kids .ensures .0) (b₂ .drop-corners .ensures .0) (b₁ .refresh-near .ensures), removed-lowers _ _ _ _ (b₇ .put-cells .ensures) (b₃ .drop-kids .ensures .1) (b₂ .drop-corners .ensures .1) (b₁ .refresh-near .ensures))
+    removed _ _ _ _ (b₇ .put-cells .ensures) (b₆ .link .ensures .1) (b₅ .link2 .ensures .1) (b₄ .link3 .ensures .1) (b₃ .drop-kids .ensures .0) (b₂ .drop-corners .ensures .0) (b₁ .refresh-near .ensures)
 
 pub remove-table-spec : {M : Type 1} → statement M
 remove-table-spec =

@@ -2,7 +2,6 @@
 -- Assumes nothing.
 use native.Mathlib.Omega.{arith}
 use borrow.Author.Needs.{needs}
-use Rattle.editing.proofs.Lowering.{lowers-out}
 use Rattle.edit.proofs.Linking.{taken-out}
 use Rattle.edit.proofs.PlainRows.{plain-unnamed, plain-freed}
 use Rattle.edit.proofs.steps.take_out.Statement.{statement}
@@ -49,15 +48,12 @@ clear-row-requires c κs =
     let pre = b₅ .before .before .before .before .before .before .before .before .before .pre in
     omega (arith, pre .0, pre .3, b₁ .drop-side4 .kept, b₂ .drop-side3 .kept, b₃ .drop-side2 .kept, b₄ .drop-side .kept, b₅ .put .kept)
 
-lesser-requires : tie.Need-lesser-requires
-lesser-requires c κs = search needs
-
 same-length : tie.Need-same-length
 same-length c = search needs
 
 returns : tie.Need-returns
 returns c =
-    let b₁ = c .before .before in
+    let b₁ = c .before in
     let b₂ = b₁ .before .before .before in
     let b₃ = b₂ .before .before .before in
     let b₄ = b₃ .before .before .before in
@@ -67,9 +63,8 @@ returns c =
     let b₈ = b₇ .before in
     let b₉ = b₈ .before .before in
     let b₁₀ = b₉ .before .before in
-    let pre = b₁₀ .before .before .pre in
     let e = taken-out _ _ _ (b₁₀ .link .ensures .1) (b₉ .word .ensures) (b₈ .word2 .ensures) (b₇ .kid-word .ensures .1) (b₆ .put .ensures) (b₅ .drop-side .ensures .0) (b₄ .drop-side2 .ensures .0) (b₃ .drop-side3 .ensures .0) (b₂ .drop-side4 .ensures .0) (b₁ .clear-row .ensures) in
-    (e, lowers-out _ _ _ (pre .0) (pre .3) _ (pre .2) e (c .lesser .ensures), plain-freed _ (b₂ .drop-side4 .ensures .1) (b₁ .clear-row .ensures) (omega arith))
+    (e, plain-freed _ (b₂ .drop-side4 .ensures .1) (b₁ .clear-row .ensures) (omega arith))
 
 pub take-out-spec : {M : Type 1} → statement M
 take-out-spec =
@@ -85,6 +80,5 @@ take-out-spec =
     drop-side-requires-3
     drop-side-requires-4
     clear-row-requires
-    lesser-requires
     same-length
     returns)
