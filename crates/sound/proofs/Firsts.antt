@@ -1,6 +1,6 @@
 -- The first free number along the rows.
 -- Assumes nothing.
-use Prim.Native.Nat.{ℕ, _+_, _≤_, _<_}
+use Prim.Native.Nat.{ℕ, _+_, _-_, _≤_, _<_}
 use native.Mathlib.Omega.{arith}
 use native.Mathlib.Decide.{ℕ-discrete}
 use mathlib.Core.Path.{_≡_, refl, sym, ap, _∙_}
@@ -14,21 +14,28 @@ use borrow.Author.Tests.{eqb-true}
 use Rattle.mesh.specs.Place.{Grid}
 use Rattle.table.specs.Words.{wordOf, vacant}
 use Rattle.stock.specs.Free.{NoneBelow}
-use Rattle.checking.specs.Rowwise.{emptyOk, zeroOk, rowwise}
-use Rattle.sound.specs.Firsts.{FirstWith, Passes}
+use Rattle.checking.specs.Rowwise.{emptyOk, usedOk, rowOk, zeroOk, rowwise}
+use Rattle.sound.specs.Firsts.{RowFirst, Passes}
 
 -- ---- one row
 
-module _ {t : List ℤ} {n first : ℕ} {b : Bool} (e : b ≡ eqb (wordOf t n 12) 8192) where
-  pub with-free : n < first → FirstWith t n first n
-  with-free l = record { to = omega arith; from = λ a c. a; none = λ a. absurd (omega arith) }
+module _ {g : Grid} {cap : ℕ} {t : List ℤ} {v : List Float} {n first : ℕ} {b x : Bool} (e : b ≡ eqb (wordOf t n 12) 8192) where
+  pub free-fails : b ≡ true → x ≡ emptyOk g cap t v n → x ≡ false → RowFirst g cap t v n first 0
+  unfolding rowOk
+  free-fails h i z = record { no = λ y. rw (sym e ∙ h, ← i) z; yes = λ y. absurd (y refl); to = omega arith; none = λ y. absurd (omega arith) }
 
-  pub with-later : first ≤ n → FirstWith t n first first
-  with-later l = record { to = omega arith; from = λ a c. c; none = λ a. absurd (omega arith) }
+  pub used-fails : b ≡ false → x ≡ usedOk g cap t v n → x ≡ false → RowFirst g cap t v n first 0
+  unfolding rowOk
+  used-fails h i z = record { no = λ y. rw (sym e ∙ h, ← i) z; yes = λ y. absurd (y refl); to = omega arith; none = λ y. absurd (omega arith) }
 
-  pub with-taken : b ≡ false → FirstWith t n first first
-  unfolding vacant
-  with-taken z = record { to = omega arith; from = λ a c. c; none = λ a. sym e ∙ z }
+  module _ (one : 1 ≤ n) (some : 1 ≤ first) where
+    pub free-passes : {r : ℕ} → b ≡ true → x ≡ emptyOk g cap t v n → x ≡ true → r ≡ n - (n - first) → RowFirst g cap t v n first r
+    unfolding rowOk
+    free-passes h i z l = record { no = λ y. absurd (omega arith); yes = λ y. rw (sym e ∙ h, ← i) z; to = omega arith; none = λ y. absurd (omega arith) }
+
+    pub used-passes : b ≡ false → x ≡ usedOk g cap t v n → x ≡ true → RowFirst g cap t v n first first
+    unfolding rowOk vacant
+    used-passes h i z = record { no = λ y. absurd (omega arith); yes = λ y. rw (sym e ∙ h, ← i) z; to = omega arith; none = λ y. sym e ∙ h }
 
 -- ---- the rows up to k
 
@@ -49,8 +56,8 @@ module _ {cap : ℕ} {t : List ℤ} where
       zero : eqb (wordOf t 0 12) 0 ≡ true → eqb (wordOf t 0 12) 8192 ≡ false
       zero p = rw (eqb-true (wordOf t 0 12) 0 p)
 
-  pub firsts-more : {k first r : ℕ} → Firsts cap t k first → FirstWith t (k + 1) first r → Firsts cap t (k + 1) r
-  firsts-more {k} {first} {r} f w = record { from = w .from (omega arith) (f .from); to = let a = w .to in let b = f .to in omega arith; none = λ j a l. go j a l (ℕ-discrete j (k + 1)) }
+  pub firsts-more : {g : Grid} {v : List Float} {k first r : ℕ} → Firsts cap t k first → RowFirst g cap t v (k + 1) first r → r ≢ 0 → Firsts cap t (k + 1) r
+  firsts-more {k = k} {first} {r} f w z = record { from = omega (arith, z); to = let a = w .to in let b = f .to in omega arith; none = λ j a l. go j a l (ℕ-discrete j (k + 1)) }
     where
       go : (j : ℕ) → j ≤ k + 1 → j < r → Dec (j ≡ k + 1) → vacant t j ≡ false
       go j a l (yes e) = rw e (w .none (omega arith))

@@ -10,12 +10,13 @@ use lib.Ieee.{Float}
 use Rattle.mesh.specs.Place.{Grid}
 use Rattle.table.specs.Words.{vacant}
 use Rattle.stock.specs.Free.{NoneBelow}
-use Rattle.checking.specs.Rowwise.{rowwise}
+use Rattle.checking.specs.Rowwise.{rowOk, rowwise}
 
--- r is n or first, and n is not free if it is below r
-pub record FirstWith (t : List ℤ) (n first r : ℕ) : Type 0 where
+-- 0 if the row n fails the test, otherwise a number that is at most first, and n is not free if it is below that
+pub record RowFirst (g : Grid) (cap : ℕ) (t : List ℤ) (v : List Float) (n first r : ℕ) : Type 0 where
+  pub no : r ≡ 0 → rowOk g cap t v n ≡ false
+  pub yes : r ≢ 0 → rowOk g cap t v n ≡ true
   pub to : r ≤ first
-  pub from : 1 ≤ n → 1 ≤ first → 1 ≤ r
   pub none : n < r → vacant t n ≡ false
 
 -- 0 if a row fails the test, otherwise a number below which none is free

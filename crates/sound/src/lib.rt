@@ -9,15 +9,13 @@ pub mod tree;
 
 ghost use mathlib.Core.Path.{_≡_};
 ghost use mathlib.Core.Bool.{cond};
-ghost use Prim.Native.Nat.{_+_, _*_, _≤_};
+ghost use Prim.Native.Nat.{_-_, _≤_};
 ghost use lib.Dec.{ltb};
-ghost use lib.ListN.{length};
-ghost use Rattle.mesh.specs.Picture.{rowWords};
 ghost use Rattle.mesh.specs.Place.{rectangle};
 ghost use Rattle.table.specs.Words.{depthOf};
-ghost use Rattle.checking.specs.Rowwise.{ghostOk, pointOk, usedOk, rowOk};
+ghost use Rattle.checking.specs.Rowwise.{ghostOk, pointOk, usedOk};
 ghost use Rattle.sound.specs.Lent.{Lent};
-ghost use Rattle.sound.specs.Firsts.{FirstWith, Passes};
+ghost use Rattle.sound.specs.Firsts.{RowFirst, Passes};
 use crate::plain::is_positive;
 use table::words::says;
 
@@ -52,25 +50,34 @@ pub fn used_ok(t: &[i32], v: &[f64], cap: usize, columns: u32, rows: u32, d: u32
     amounts::value_ok(t, v, cap, columns, rows, d, n)
 }
 
-pub fn row_ok(t: &[i32], v: &[f64], cap: usize, columns: u32, rows: u32, d: u32, n: usize) -> bool
-    requires { ⌜ Lent (now t) (now v) cap columns rows d × (n ≤ cap) ⌝ }
-    ensures { λ r. ⌜ r ≡ rowOk (rectangle columns rows) cap (now (t .entry)) (now (v .entry)) n ⌝ }
+fn lesser(a: usize, b: usize) -> usize
+    ensures { λ r. ⌜ r ≡ a - (a - b) ⌝ }
 {
-    if says(t, n, 12, 8192) {
-        return empty::empty_ok(t, v, cap, columns, rows, d, n);
-    }
-    used_ok(t, v, cap, columns, rows, d, n)
+    if a < b { a } else { b }
 }
 
-// The first free number, with the row n: none but those from first on was known.
-fn first_with(t: &[i32], n: usize, first: usize) -> usize
-    requires { ⌜ n * rowWords + rowWords ≤ length (now t) ⌝ }
-    ensures { λ r. ⌜ FirstWith (now (t .entry)) n first r ⌝ }
+// The row n: 0 if it fails, otherwise the first free number, with it; none before first was known.
+fn row_first(
+    t: &[i32],
+    v: &[f64],
+    cap: usize,
+    columns: u32,
+    rows: u32,
+    d: u32,
+    n: usize,
+    first: usize,
+) -> usize
+    requires { ⌜ Lent (now t) (now v) cap columns rows d × (n ≤ cap) × (1 ≤ n) × (1 ≤ first) ⌝ }
+    ensures { λ r. ⌜ RowFirst (rectangle columns rows) cap (now (t .entry)) (now (v .entry)) n first r ⌝ }
 {
     if says(t, n, 12, 8192) {
-        if n < first {
-            return n;
+        if !empty::empty_ok(t, v, cap, columns, rows, d, n) {
+            return 0;
         }
+        return lesser(n, first);
+    }
+    if !used_ok(t, v, cap, columns, rows, d, n) {
+        return 0;
     }
     first
 }
@@ -89,10 +96,10 @@ pub fn rowwise(t: &[i32], v: &[f64], cap: usize, columns: u32, rows: u32, d: u32
     let mut first = cap + 1;
     let mut k = 0;
     while k < cap {
-        if !row_ok(t, v, cap, columns, rows, d, k + 1) {
+        first = row_first(t, v, cap, columns, rows, d, k + 1, first);
+        if first == 0 {
             return 0;
         }
-        first = first_with(t, k + 1, first);
         k += 1;
     }
     first

@@ -1,6 +1,6 @@
 -- `sound::rowwise` meets its contract. The invariant: the rows up to k pass.
 -- Assumes nothing.
-use mathlib.Core.Path.{_≡_, refl}
+use mathlib.Core.Path.{_≡_, refl, sym}
 use mathlib.Core.Bool.{true}
 use Prim.Native.Nat.{_-_, _≤_}
 use borrow.Author.Tests.{not-true, not-false}
@@ -43,11 +43,11 @@ add-first c = search needs
 loop-holds : tie.Need-loop-holds Inv-loop μ-loop
 loop-holds c = (omega arith, refl, firsts-none _ _ (c .before .before .before .zero-ok .ensures) (not-false _ (c .before .before .if1 .left)))
 
-add-row-ok : tie.Need-add-row-ok Inv-loop μ-loop
-add-row-ok c = search needs
+add-row-first : tie.Need-add-row-first Inv-loop μ-loop
+add-row-first c = search needs
 
-row-ok-requires : tie.Need-row-ok-requires Inv-loop μ-loop
-row-ok-requires c κs = search needs
+row-first-requires : tie.Need-row-first-requires Inv-loop μ-loop
+row-first-requires c κs = (c .before .before .before .before .before .before .before .pre .0, omega arith, omega arith, c .before .loop .inv .2 .from)
 
 returns-3 : tie.Need-returns-3 Inv-loop μ-loop
 returns-3 c =
@@ -57,13 +57,7 @@ returns-3 c =
     let p5 = p4 .before in
     let p6 = p5 .before in
     let p7 = p6 .before in
-    rows-failed (no-row _ _ _ _ (p7 .zero-ok .ensures) (not-false _ (p6 .if1 .left)) (p5 .says .ensures) (p4 .if2 .left) (p3 .loop .k) (omega arith) (p1 .row-ok .ensures) (not-true _ (c .if3 .taken)))
-
-add-first-with : tie.Need-add-first-with Inv-loop μ-loop
-add-first-with c = search needs
-
-first-with-requires : tie.Need-first-with-requires Inv-loop μ-loop
-first-with-requires c κs = search needs
+    rows-failed (no-row _ _ _ _ (p7 .zero-ok .ensures) (not-false _ (p6 .if1 .left)) (p5 .says .ensures) (p4 .if2 .left) (p3 .loop .k) (omega arith) (sym (p1 .row-first .ensures .no (c .if3 .taken))) refl)
 
 add-k : tie.Need-add-k Inv-loop μ-loop
 add-k c = search needs
@@ -73,9 +67,9 @@ loop-less c = search needs
 
 loop-again : tie.Need-loop-again Inv-loop μ-loop
 loop-again c =
-    let p1 = c .before .before in
+    let p1 = c .before in
     let p3 = p1 .before .before in
-    (omega arith, rows-more _ _ _ _ (p3 .loop .k) (p3 .loop .inv .1) (p1 .row-ok .ensures) (not-false _ (c .before .if3 .left)), firsts-more (p3 .loop .inv .2) (c .first-with .ensures))
+    (omega arith, rows-more _ _ _ _ (p3 .loop .k) (p3 .loop .inv .1) (sym (p1 .row-first .ensures .yes (c .if3 .left))) refl, firsts-more (p3 .loop .inv .2) (p1 .row-first .ensures) (c .if3 .left))
 
 returns-4 : tie.Need-returns-4 Inv-loop μ-loop
 returns-4 c =
@@ -98,11 +92,9 @@ rowwise-spec =
     returns-2
     add-first
     loop-holds
-    add-row-ok
-    row-ok-requires
+    add-row-first
+    row-first-requires
     returns-3
-    add-first-with
-    first-with-requires
     add-k
     loop-less
     loop-again
