@@ -4,6 +4,7 @@ ghost use mathlib.Core.List.{[]};
 ghost use Prim.Native.Nat.{_+_, _*_, _<_, _≤_};
 ghost use lib.ListN.{length};
 ghost use Rattle.mesh.specs.Picture.{rowWords};
+ghost use Rattle.table.specs.Plain.{Plain};
 ghost use Rattle.stock.specs.Stock.{Stocked};
 ghost use Rattle.editing.specs.Tables.{spot, kidSpots, supplied, suppliedAll};
 ghost use Rattle.edit.specs.Small.{AllSmall};
@@ -13,9 +14,18 @@ use crate::steps::link_in;
 use stock::find::next_free;
 
 // Links in the kid l, m of the row p, unless it is there; the next number to look for free ones from.
-fn supply(t: &mut [i32], cap: usize, d: u32, p: usize, l: u32, m: u32, stock: &[u16; 16], low: usize) -> usize
-    requires { ⌜ (cap * rowWords + rowWords ≤ length (now t)) × (cap ≤ 4095) × (p ≤ cap) × (d ≤ 32) × (l < 2) × (m < 2) × (low ≤ cap + 1) × AllSmall 1073741824 (now t) cap d × Stocked cap (now t) [] (now stock) ⌝ }
-    ensures { λ r. ⌜ (r ≤ cap + 1) × (lending (now (t .exit)) r ≡ supplied cap d (spot p l m) (lending (now (t .entry)) low)) ⌝ }
+fn supply(
+    t: &mut [i32],
+    cap: usize,
+    d: u32,
+    p: usize,
+    l: u32,
+    m: u32,
+    stock: &[u16; 16],
+    low: usize,
+) -> usize
+    requires { ⌜ (cap * rowWords + rowWords ≤ length (now t)) × (cap ≤ 4095) × (p ≤ cap) × (d ≤ 32) × (l < 2) × (m < 2) × (low ≤ cap + 1) × AllSmall 1073741824 (now t) cap d × Stocked cap (now t) [] (now stock) × Plain (now t) cap ⌝ }
+    ensures { λ r. ⌜ (r ≤ cap + 1) × (lending (now (t .exit)) r ≡ supplied cap d (spot p l m) (lending (now (t .entry)) low)) × Plain (now (t .exit)) cap ⌝ }
 {
     if kid(t, cap, p, l, m) != 0 {
         return low;
@@ -26,9 +36,16 @@ fn supply(t: &mut [i32], cap: usize, d: u32, p: usize, l: u32, m: u32, stock: &[
 }
 
 // The four kids.
-pub fn supply_kids(t: &mut [i32], cap: usize, d: u32, n: usize, stock: &[u16; 16], low: usize) -> usize
-    requires { ⌜ (cap * rowWords + rowWords ≤ length (now t)) × (cap ≤ 4095) × (n ≤ cap) × (d ≤ 32) × (low ≤ cap + 1) × AllSmall 1048576 (now t) cap d × Stocked cap (now t) [] (now stock) ⌝ }
-    ensures { λ r. ⌜ (r ≤ cap + 1) × (lending (now (t .exit)) r ≡ suppliedAll cap d (kidSpots (now (t .entry)) cap n) (lending (now (t .entry)) low)) ⌝ }
+pub fn supply_kids(
+    t: &mut [i32],
+    cap: usize,
+    d: u32,
+    n: usize,
+    stock: &[u16; 16],
+    low: usize,
+) -> usize
+    requires { ⌜ (cap * rowWords + rowWords ≤ length (now t)) × (cap ≤ 4095) × (n ≤ cap) × (d ≤ 32) × (low ≤ cap + 1) × AllSmall 1048576 (now t) cap d × Stocked cap (now t) [] (now stock) × Plain (now t) cap ⌝ }
+    ensures { λ r. ⌜ (r ≤ cap + 1) × (lending (now (t .exit)) r ≡ suppliedAll cap d (kidSpots (now (t .entry)) cap n) (lending (now (t .entry)) low)) × Plain (now (t .exit)) cap ⌝ }
 {
     let a = supply(t, cap, d, n, 0, 0, stock, low);
     let b = supply(t, cap, d, n, 1, 0, stock, a);
@@ -47,8 +64,8 @@ pub fn supply_corners(
     stock: &[u16; 16],
     low: usize,
 ) -> usize
-    requires { ⌜ (cap * rowWords + rowWords ≤ length (now t)) × (cap ≤ 4095) × (north ≤ cap) × (east ≤ cap) × (both ≤ cap) × (d ≤ 32) × (low ≤ cap + 1) × AllSmall 16777216 (now t) cap d × Stocked cap (now t) [] (now stock) ⌝ }
-    ensures { λ r. ⌜ (r ≤ cap + 1) × (lending (now (t .exit)) r ≡ suppliedAll cap d (cornerSpots north east both) (lending (now (t .entry)) low)) ⌝ }
+    requires { ⌜ (cap * rowWords + rowWords ≤ length (now t)) × (cap ≤ 4095) × (north ≤ cap) × (east ≤ cap) × (both ≤ cap) × (d ≤ 32) × (low ≤ cap + 1) × AllSmall 16777216 (now t) cap d × Stocked cap (now t) [] (now stock) × Plain (now t) cap ⌝ }
+    ensures { λ r. ⌜ (r ≤ cap + 1) × (lending (now (t .exit)) r ≡ suppliedAll cap d (cornerSpots north east both) (lending (now (t .entry)) low)) × Plain (now (t .exit)) cap ⌝ }
 {
     let a = supply(t, cap, d, north, 0, 0, stock, low);
     let b = supply(t, cap, d, north, 1, 0, stock, a);
