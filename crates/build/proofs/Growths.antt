@@ -10,7 +10,10 @@ use Rattle.mesh.specs.Place.{Grid, base, compass, Wind}
 use Rattle.geometry.proofs.Bools.{is-yes}
 use Rattle.table.specs.Words.{wordOf}
 use Rattle.editing.specs.Steps.{linkIn}
+use Rattle.table.specs.Plain.{Plain}
 use Rattle.edit.specs.Small.{Small}
+use Rattle.edit.proofs.PlainRows.{linked-plain}
+use Rattle.editing.proofs.Growing.{dark}
 use Rattle.editing.specs.Built.{Growth, inFull, grow, growKids, growLevel, growLevels, groundFrom}
 use Rattle.editing.proofs.Sprouts.{Able, KidsToGrow, LevelToGrow, LevelsToGrow, kid-able, kids-rest, level-kids, level-rest, levels-level, levels-rest, levels-bounds}
 use Rattle.build.specs.Steps.{growth, inTurn, Reached}
@@ -37,6 +40,10 @@ module _ (g : Grid) (cap d : ℕ) where
 
   pub kid-small : {up p l m k : ℕ} {t : List ℤ} → Able g cap d up p l m (growth t k) → Small 1073741824 t d p
   kid-small a = record { col = omega (arith, a .col); row = omega (arith, a .row); depth = omega (arith, a .depth) }
+
+-- the table between two kids is a linked one without a flag
+pub kids-plain : {g : Grid} {cap up p k : ℕ} {ws : List Wind} {t : List ℤ} → KidsToGrow g cap up p ws (growth t k) → Plain t cap
+kids-plain {cap = cap} s = rw (s .grown .words-are) (linked-plain (s .grown .rooted) dark (λ q. omega arith))
 
 module _ (g : Grid) (cap d : ℕ) (ground : d ≡ base g) where
   -- ---- kids

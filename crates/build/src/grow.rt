@@ -4,6 +4,7 @@ ghost use Prim.Native.Nat.{_+_, _-_, _*_, _<_, _≤_};
 ghost use lib.ListN.{length};
 ghost use Rattle.mesh.specs.Place.{rectangle, base};
 ghost use Rattle.mesh.specs.Picture.{rowWords};
+ghost use Rattle.table.specs.Plain.{Plain};
 ghost use Rattle.editing.specs.Built.{inFull, grow, growKids, growLevel};
 ghost use Rattle.editing.proofs.Sprouts.{Able, KidsToGrow, LevelToGrow, LevelsToGrow};
 ghost use Rattle.build.specs.Steps.{growth, inTurn, Reached};
@@ -31,7 +32,7 @@ fn grow_kid(
     m: u32,
     next: usize,
 ) -> usize
-    requires { ⌜ (cap * rowWords + rowWords ≤ length (now t)) × (cap ≤ 4095) × (d ≤ 32) × (l < 2) × (m < 2) × Able (rectangle columns rows) cap d up p l m (growth (now t) next) ⌝ }
+    requires { ⌜ (cap * rowWords + rowWords ≤ length (now t)) × (cap ≤ 4095) × (d ≤ 32) × (l < 2) × (m < 2) × Plain (now t) cap × Able (rectangle columns rows) cap d up p l m (growth (now t) next) ⌝ }
     ensures { λ r. ⌜ growth (now (t .exit)) r ≡ grow (rectangle columns rows) cap d up p l m (growth (now (t .entry)) next) ⌝ }
 {
     let i = 2 * word(t, p, 10) + l;

@@ -5,25 +5,25 @@ use mathlib.Core.Logic.{_≢_}
 use mathlib.Core.Bool.{Bool, true, false, cond}
 use mathlib.Core.Option.{none}
 use mathlib.Core.List.{List, [], _∷_}
-use Prim.Native.Nat.{ℕ, zero, suc, _+_, _-_, _*_, _≤_, _<_}
+use Prim.Native.Nat.{ℕ, _+_, _*_, _≤_, _<_}
 use native.Mathlib.Omega.{arith}
 use native.Mathlib.Decide.{ℕ-discrete}
 use lib.Dec.{eqb}
 use lib.ListN.{length, getD, set}
 use lib.IntN.{ℤ, pos, subℕ}
-use Rattle.mesh.specs.Place.{Place, Grid, Wind, N, E, S, W, compass, around}
+use Rattle.mesh.specs.Place.{Place, Grid, Wind, compass, around}
 use Rattle.mesh.specs.Winds.{wordOfWind}
 use Rattle.mesh.specs.Picture.{rowWords, table}
 use Rattle.mesh.specs.State.{State, Entry, nil, free, used, placeOf, entry, gridOf, capacity}
 use Rattle.table.specs.Words.{code, wordOf, linkOf, depthOf}
-use Rattle.table.specs.Worked.{kidWord, sideOf}
+use Rattle.table.specs.Worked.{kidWord}
+use Rattle.table.specs.Sides.{sideBy}
 use Rattle.table.specs.Writes.{putRow, freeRow}
 use Rattle.table.proofs.Links.{link-within}
 use Rattle.pictures.proofs.Linked.{kid-word-lt}
 use Rattle.pictures.proofs.Pictured as pictured
-use Rattle.stock.specs.Free.{freeFrom}
-use Rattle.editing.specs.Steps.{putWord, putUnlessNil, linkSide, placeIn, linkIn, dropSide}
-use Rattle.editing.specs.Tables.{Spot, Lending, kidAt, kidSpots, supplied, suppliedAll, putCells}
+use Rattle.editing.specs.Steps.{putWord, putUnlessNil, placeIn, dropSide}
+use Rattle.editing.specs.Tables.{Spot, kidAt, putCells}
 use Rattle.editing.specs.Linked.{Flags, tableWith}
 use Rattle.editing.proofs.Spots.{put-same, put-other}
 use Rattle.editing.proofs.Written.{word-other, word-either, wind-word}
@@ -31,6 +31,7 @@ use Rattle.editing.proofs.Linked.{number-of, flags-of, word-free, word-nil}
 use Rattle.editing.proofs.Rooted.{Rooted, number-le}
 use Rattle.editing.proofs.Freeing.{free-link}
 use Rattle.table.specs.Plain.{Plain}
+use Rattle.edit.specs.Links.{linkBy}
 
 -- ---- one word
 
@@ -64,78 +65,33 @@ plain-put {cap = cap} n x p e h = rw e (plain-flags p n x h)
 
 -- ---- cells
 
-module _ (cap : ℕ) where
-  pub plain-cells : (f st : ℕ) → f < 2147483648 → (xs : List Spot) {t : List ℤ} → Plain t cap → Plain (putCells xs t cap f st) cap
-  unfolding putCells
-  plain-cells f st h [] p = p
-  plain-cells f st h (x ∷ xs) {t} p =
-      let k = kidAt t cap x in
-      let q : Plain (putUnlessNil t k 12 f) cap = plain-either p (eqb k 0) (plain-flags p k f h) in
-      plain-cells f st h xs (plain-either q (eqb k 0) (plain-else q k 13 (pos st) (omega arith) (λ e. omega arith) (omega arith)))
-
--- kids that are no cells any more
-pub plain-kids : {t u : List ℤ} {cap : ℕ} (n : ℕ) → Plain t cap → u ≡ putCells (kidSpots t cap n) t cap 0 0 → Plain u cap
-plain-kids {t} {cap = cap} n p e = rw e (plain-cells cap 0 0 (omega arith) (kidSpots t cap n) p)
+pub plain-cell : {t u : List ℤ} {cap : ℕ} (f st : ℕ) (x : Spot) → Plain t cap → u ≡ putCells (x ∷ []) t cap f st → f < 2147483648 → Plain u cap
+unfolding putCells
+plain-cell {t} {cap = cap} f st x p e h =
+    let k = kidAt t cap x in
+    let q : Plain (putUnlessNil t k 12 f) cap = plain-either p (eqb k 0) (plain-flags p k f h) in
+    rw e (plain-either q (eqb k 0) (plain-else q k 13 (pos st) (omega arith) (λ e. omega arith) (omega arith)))
 
 -- ---- a patch that comes
 
 module _ {t : List ℤ} {cap : ℕ} (p : Plain t cap) where
-  plain-side : (k : ℕ) (w : Wind) → k ≤ cap → Plain (linkSide t cap k w) cap
-  unfolding linkSide sideOf
-  plain-side k w h =
-      let x = sideOf t cap k w in
+  pub plain-side : (r l m k : ℕ) (w : Wind) {u : List ℤ} → k ≤ cap → u ≡ linkBy t cap r l m k w → Plain u cap
+  unfolding linkBy sideBy
+  plain-side r l m k w h e =
+      let x = sideBy t cap r l m w in
       let q : Plain (putWord t k (wordOfWind w) x) cap = plain-link p k (wordOfWind w) x (wind-word w) (link-within t cap _ _) in
-      plain-either q (eqb x 0) (plain-link q x (wordOfWind (compass w .opposite)) k (wind-word (compass w .opposite)) h)
+      rw e (plain-either q (eqb x 0) (plain-link q x (wordOfWind (compass w .opposite)) k (wind-word (compass w .opposite)) h))
 
-  plain-placed : (d r l m k : ℕ) → r ≤ cap → k ≤ cap → m < 2 → Plain (placeIn t d r l m k) cap
+  pub plain-placed : (d r l m k : ℕ) {u : List ℤ} → r ≤ cap → k ≤ cap → m < 2 → u ≡ placeIn t d r l m k → Plain u cap
   unfolding placeIn
-  plain-placed d r l m k a b c =
-      plain-link (plain-flags (plain-else (plain-else (plain-else (plain-link p k 0 r (omega arith) a)
+  plain-placed d r l m k a b c e =
+      rw e
+      (plain-link (plain-flags (plain-else (plain-else (plain-else (plain-link p k 0 r (omega arith) a)
       k 9 (subℕ (depthOf t d r + 1) d) (omega arith) (λ e. omega arith) (omega arith))
       k 10 _ (omega arith) (λ e. omega arith) (omega arith))
       k 11 _ (omega arith) (λ e. omega arith) (omega arith))
       k 0 (omega arith))
-      r (kidWord l m) k (kid-word-lt l m (omega arith)) b
-
-plain-linked : {t : List ℤ} {cap : ℕ} → Plain t cap → (d r l m k : ℕ) → r ≤ cap → k ≤ cap → m < 2 → Plain (linkIn t cap d r l m k) cap
-unfolding linkIn
-plain-linked p d r l m k a b c = plain-side (plain-side (plain-side (plain-side (plain-placed p d r l m k a b c) k N b) k E b) k S b) k W b
-
-free-within : (t : List ℤ) (cap n k : ℕ) → k + n ≤ cap + 1 → freeFrom t n k ≤ cap
-unfolding freeFrom
-free-within t cap zero k h = omega arith
-free-within t cap (suc n) k h = go (eqb (wordOf t k 12) 8192) (free-within t cap n (k + 1) (omega arith))
-  where
-    go : (b : Bool) → freeFrom t n (k + 1) ≤ cap → cond b k (freeFrom t n (k + 1)) ≤ cap
-    go true i = omega arith
-    go false i = i
-
--- the spots are kids of rows of the table
-pub data Inside (cap : ℕ) : List Spot → Type 0 where
-  no-spot : Inside cap []
-  and-spot : {x : Spot} {xs : List Spot} → x .row ≤ cap → x .m < 2 → Inside cap xs → Inside cap (x ∷ xs)
-
-module _ (cap d : ℕ) where
-  plain-supplied : (x : Spot) (r : Lending) → x .row ≤ cap → x .m < 2 → r .low ≤ cap + 1 → Plain (r .words) cap → Plain (supplied cap d x r .words) cap
-  unfolding supplied
-  plain-supplied x r a b l p = go (eqb (kidAt (r .words) cap x) 0)
-    where
-      go : (b : Bool) → Plain (cond b (record { words = linkIn (r .words) cap d (x .row) (x .l) (x .m) (freeFrom (r .words) (cap + 1 - r .low) (r .low)); low = freeFrom (r .words) (cap + 1 - r .low) (r .low) + 1 }) r .words) cap
-      go true = plain-linked p d (x .row) (x .l) (x .m) _ a (free-within (r .words) cap (cap + 1 - r .low) (r .low) (omega arith)) b
-      go false = p
-
-  low-supplied : (x : Spot) (r : Lending) → r .low ≤ cap + 1 → supplied cap d x r .low ≤ cap + 1
-  unfolding supplied
-  low-supplied x r l = go (eqb (kidAt (r .words) cap x) 0)
-    where
-      go : (b : Bool) → cond b (record { words = linkIn (r .words) cap d (x .row) (x .l) (x .m) (freeFrom (r .words) (cap + 1 - r .low) (r .low)); low = freeFrom (r .words) (cap + 1 - r .low) (r .low) + 1 }) r .low ≤ cap + 1
-      go true = omega (arith, free-within (r .words) cap (cap + 1 - r .low) (r .low) (omega arith))
-      go false = l
-
-  pub plain-supply : {xs : List Spot} → Inside cap xs → (r : Lending) → r .low ≤ cap + 1 → Plain (r .words) cap → Plain (suppliedAll cap d xs r .words) cap
-  unfolding suppliedAll
-  plain-supply no-spot r l p = p
-  plain-supply (and-spot {x} {xs} a b s) r l p = plain-supply s (supplied cap d x r) (low-supplied x r l) (plain-supplied x r a b l p)
+      r (kidWord l m) k (kid-word-lt l m (omega arith)) b)
 
 -- ---- a patch that goes
 

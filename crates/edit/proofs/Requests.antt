@@ -1,9 +1,9 @@
 -- A refinement and a removal whole: each table is the one before with what a step does, and the places are those of the table at the start.
 -- Assumes nothing.
-use mathlib.Core.Path.{_≡_, sym, ap, subst, _∙_}
+use mathlib.Core.Path.{_≡_, sym, ap, _∙_}
 use mathlib.Core.Logic.{_≢_}
 use mathlib.Core.List.{List}
-use Prim.Native.Nat.{ℕ, _+_, _≤_}
+use Prim.Native.Nat.{ℕ}
 use native.Mathlib.Omega.{arith}
 use borrow.Author.Tests.{eq-eqb, ne-eqb}
 use lib.IntN.{ℤ}
@@ -13,8 +13,6 @@ use Rattle.mesh.specs.State.{plusZero}
 use Rattle.table.specs.Words.{wordOf, linkOf}
 use Rattle.editing.specs.Tables.{kidSpots, wantedSpots, suppliedAll, putCells, putValues, refreshNear, dropAt, kidStatus, refineTable, refineValues, removeTable}
 use Rattle.edit.specs.Lent.{lending, cornerSpots}
-use Rattle.table.specs.Plain.{Plain}
-use Rattle.edit.proofs.PlainRows.{no-spot, and-spot, plain-supply, plain-cells}
 use Rattle.edit.proofs.Nearby.{wanted-is, supply-append, drop-append}
 
 module _ (t : List ℤ) (cap d n low : ℕ) where
@@ -33,18 +31,6 @@ module _ (t : List ℤ) (cap d n low : ℕ) where
   refined {north} {east} {both} {b = b} {t₂ = t₂} h1 h2 h3 h4 h5 h6 h7 h8 h9 =
       let all : suppliedAll cap d (wantedSpots t cap n) (lending t low) ≡ lending t₂ b = ap (λ xs. suppliedAll cap d xs (lending t low)) (wanted-is t cap n h1 h2 h3) ∙ supply-append cap d (kidSpots t cap n) (cornerSpots north east both) (lending t low) ∙ ap (suppliedAll cap d (cornerSpots north east both)) (sym h6) ∙ sym h7 in
       rw (all, ← h4, ← h5, ← h8, h9)
-
-  -- its links and flags are read as they stand before the flags are worked out
-  pub refined-plain : (north east both st : ℕ) {a b : ℕ} {t₁ t₂ t₃ : List ℤ} → Plain t cap →
-      lending t₁ a ≡ suppliedAll cap d (kidSpots t cap n) (lending t low) →
-      lending t₂ b ≡ suppliedAll cap d (cornerSpots north east both) (lending t₁ a) →
-      t₃ ≡ putCells (kidSpots t₂ cap n) t₂ cap 1 st →
-      (n ≤ cap) × (north ≤ cap) × (east ≤ cap) × (both ≤ cap) × (low ≤ cap + 1) × (a ≤ cap + 1) →
-      Plain t₃ cap
-  refined-plain north east both st {a} {b} {t₁} {t₂} p e f g (h1, h2, h3, h4, l1, l2) =
-      let q : Plain t₁ cap = subst (λ r. Plain (r .words) cap) (sym e) (plain-supply cap d (and-spot h1 (omega arith) (and-spot h1 (omega arith) (and-spot h1 (omega arith) (and-spot h1 (omega arith) no-spot)))) (lending t low) l1 p) in
-      let r : Plain t₂ cap = subst (λ r. Plain (r .words) cap) (sym f) (plain-supply cap d (and-spot h2 (omega arith) (and-spot h2 (omega arith) (and-spot h3 (omega arith) (and-spot h3 (omega arith) (and-spot h4 (omega arith) no-spot))))) (lending t₁ a) l2 q) in
-      subst (λ u. Plain u cap) (sym g) (plain-cells cap 1 st (omega arith) (kidSpots t₂ cap n) r)
 
 module _ (t : List ℤ) (cap n : ℕ) (v : List Float) where
   pub values-blank : {w : ℕ} → w ≡ wordOf t n 13 → w ≡ 0 → v ≡ refineValues t cap n v

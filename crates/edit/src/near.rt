@@ -5,15 +5,15 @@ ghost use Prim.Native.Nat.{_+_, _*_, _<_, _≤_};
 ghost use lib.ListN.{length};
 ghost use Rattle.mesh.specs.Picture.{rowWords};
 ghost use Rattle.editing.specs.Tables.{spot, kidAt, wantedSpots};
-use crate::spots::kid;
 use table::words::link;
+use table::worked::kid_word;
 
 // The kid l, m of the row p, or 0, in 16 bits.
 fn short_kid(t: &[i32], cap: usize, p: usize, l: u32, m: u32) -> u16
     requires { ⌜ (cap * rowWords + rowWords ≤ length (now t)) × (cap ≤ 4095) × (p ≤ cap) × (m < 2) ⌝ }
     ensures { λ r. ⌜ r ≡ kidAt (now (t .entry)) cap (spot p l m) ⌝ }
 {
-    kid(t, cap, p, l, m) as u16
+    link(t, cap, p, kid_word(l, m)) as u16
 }
 
 // The rows of the nine places that the kids of the row n want, or 0.

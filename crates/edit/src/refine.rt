@@ -14,8 +14,8 @@ use crate::spots::put_values;
 use crate::spots::refresh_near;
 use crate::supply::supply_corners;
 use crate::supply::supply_kids;
+use table::plain::link;
 use table::values::value;
-use table::words::link;
 use table::words::word;
 
 // "kids of a blank cell are blank, otherwise carried"
@@ -28,7 +28,7 @@ fn kid_status(st: u32) -> u32
 // Refines the cell n, with free numbers that are in stock.
 pub fn refine_table(t: &mut [i32], cap: usize, d: u32, n: usize, stock: &[u16; 16])
     requires { ⌜ (cap * rowWords + rowWords ≤ length (now t)) × (cap ≤ 4095) × (n ≤ cap) × (d ≤ 32) × AllSmall 1048576 (now t) cap d × Plain (now t) cap × Stocked cap (now t) [] (now stock) ⌝ }
-    ensures { λ _. ⌜ now (t .exit) ≡ refineTable cap d n (lending (now (t .entry)) 1) .words ⌝ }
+    ensures { λ _. ⌜ (now (t .exit) ≡ refineTable cap d n (lending (now (t .entry)) 1) .words) × Plain (now (t .exit)) cap ⌝ }
 {
     let north = link(t, cap, n, 5);
     let east = link(t, cap, n, 6);
@@ -42,7 +42,7 @@ pub fn refine_table(t: &mut [i32], cap: usize, d: u32, n: usize, stock: &[u16; 1
 
 // The values, with the words after the refinement.
 pub fn refine_values(t: &[i32], cap: usize, n: usize, v: &mut [f64])
-    requires { ⌜ (cap * rowWords + rowWords ≤ length (now t)) × (cap ≤ 4095) × (n ≤ cap) × (cap < length (now v)) ⌝ }
+    requires { ⌜ (cap * rowWords + rowWords ≤ length (now t)) × (cap ≤ 4095) × (n ≤ cap) × (cap < length (now v)) × Plain (now t) cap ⌝ }
     ensures { λ _. ⌜ now (v .exit) ≡ refineValues (now (t .entry)) cap n (now (v .entry)) ⌝ }
 {
     if word(t, n, 13) == 0 {

@@ -91,7 +91,7 @@ pub fn remove_table(t: &mut [i32], cap: usize, d: u32, n: usize)
 
 // The values, with the words before the removal.
 pub fn remove_values(t: &[i32], cap: usize, n: usize, v: &mut [f64])
-    requires { ⌜ (cap * rowWords + rowWords ≤ length (now t)) × (cap ≤ 4095) × (n ≤ cap) × (cap < length (now v)) ⌝ }
+    requires { ⌜ (cap * rowWords + rowWords ≤ length (now t)) × (cap ≤ 4095) × (n ≤ cap) × (cap < length (now v)) × Plain (now t) cap ⌝ }
     ensures { λ _. ⌜ now (v .exit) ≡ removeValues (now (t .entry)) cap n (now (v .entry)) ⌝ }
 {
     put_values(t, cap, n, v, 0.0);

@@ -13,7 +13,6 @@ use crate::anew::mark_row;
 use crate::anew::wall_row;
 use crate::steps::put_unless_nil;
 use table::plain;
-use table::words::link;
 use table::worked::kid_word;
 use table::writes::put_value;
 
@@ -28,10 +27,10 @@ const NW: usize = 4;
 
 // The kid l, m of the row p, or 0.
 pub fn kid(t: &[i32], cap: usize, p: usize, l: u32, m: u32) -> usize
-    requires { ⌜ (cap * rowWords + rowWords ≤ length (now t)) × (cap ≤ 4095) × (p ≤ cap) × (m < 2) ⌝ }
+    requires { ⌜ (cap * rowWords + rowWords ≤ length (now t)) × (cap ≤ 4095) × (p ≤ cap) × (m < 2) × Plain (now t) cap ⌝ }
     ensures { λ r. ⌜ (r ≤ cap) × (r ≡ kidAt (now (t .entry)) cap (spot p l m)) ⌝ }
 {
-    link(t, cap, p, kid_word(l, m))
+    plain::link(t, cap, p, kid_word(l, m))
 }
 
 // Walls anew, of the kid that the word w of the row p names.
@@ -125,7 +124,7 @@ fn mark_near(t: &mut [i32], cap: usize, n: usize, north: usize, east: usize, bot
 // The flags of the thirteen rows whose flags a refinement or a removal can change.
 pub fn refresh_near(t: &mut [i32], cap: usize, d: u32, n: usize)
     requires { ⌜ (cap * rowWords + rowWords ≤ length (now t)) × (cap ≤ 4095) × (n ≤ cap) × (d ≤ 32) × Plain (now t) cap ⌝ }
-    ensures { λ _. ⌜ now (t .exit) ≡ refreshNear (now (t .entry)) cap d n ⌝ }
+    ensures { λ _. ⌜ (now (t .exit) ≡ refreshNear (now (t .entry)) cap d n) × Plain (now (t .exit)) cap ⌝ }
 {
     let north = plain::link(t, cap, n, 5);
     let east = plain::link(t, cap, n, 6);
@@ -139,8 +138,8 @@ pub fn refresh_near(t: &mut [i32], cap: usize, d: u32, n: usize)
 
 // The flags' word and the status word of a kid.
 fn put_cell(t: &mut [i32], cap: usize, p: usize, l: u32, m: u32, f: u32, st: u32)
-    requires { ⌜ (cap * rowWords + rowWords ≤ length (now t)) × (cap ≤ 4095) × (p ≤ cap) × (m < 2) × (f < 2147483648) × (st < 2147483648) ⌝ }
-    ensures { λ _. ⌜ now (t .exit) ≡ putCells (spot p l m ∷ []) (now (t .entry)) cap f st ⌝ }
+    requires { ⌜ (cap * rowWords + rowWords ≤ length (now t)) × (cap ≤ 4095) × (p ≤ cap) × (m < 2) × (f < 2147483648) × (st < 2147483648) × Plain (now t) cap ⌝ }
+    ensures { λ _. ⌜ (now (t .exit) ≡ putCells (spot p l m ∷ []) (now (t .entry)) cap f st) × Plain (now (t .exit)) cap ⌝ }
 {
     let k = kid(t, cap, p, l, m);
     put_unless_nil(t, k, 12, f);
@@ -149,8 +148,8 @@ fn put_cell(t: &mut [i32], cap: usize, p: usize, l: u32, m: u32, f: u32, st: u32
 
 // The flags' word and the status word of the four kids.
 pub fn put_cells(t: &mut [i32], cap: usize, n: usize, f: u32, st: u32)
-    requires { ⌜ (cap * rowWords + rowWords ≤ length (now t)) × (cap ≤ 4095) × (n ≤ cap) × (f < 2147483648) × (st < 2147483648) ⌝ }
-    ensures { λ _. ⌜ now (t .exit) ≡ putCells (kidSpots (now (t .entry)) cap n) (now (t .entry)) cap f st ⌝ }
+    requires { ⌜ (cap * rowWords + rowWords ≤ length (now t)) × (cap ≤ 4095) × (n ≤ cap) × (f < 2147483648) × (st < 2147483648) × Plain (now t) cap ⌝ }
+    ensures { λ _. ⌜ (now (t .exit) ≡ putCells (kidSpots (now (t .entry)) cap n) (now (t .entry)) cap f st) × Plain (now (t .exit)) cap ⌝ }
 {
     put_cell(t, cap, n, 0, 0, f, st);
     put_cell(t, cap, n, 1, 0, f, st);
@@ -160,7 +159,7 @@ pub fn put_cells(t: &mut [i32], cap: usize, n: usize, f: u32, st: u32)
 
 // The value y for the four kids.
 pub fn put_values(t: &[i32], cap: usize, n: usize, v: &mut [f64], y: f64)
-    requires { ⌜ (cap * rowWords + rowWords ≤ length (now t)) × (cap ≤ 4095) × (n ≤ cap) × (cap < length (now v)) ⌝ }
+    requires { ⌜ (cap * rowWords + rowWords ≤ length (now t)) × (cap ≤ 4095) × (n ≤ cap) × (cap < length (now v)) × Plain (now t) cap ⌝ }
     ensures { λ _. ⌜ now (v .exit) ≡ putValues (kidSpots (now (t .entry)) cap n) (now (t .entry)) cap y (now (v .entry)) ⌝ }
 {
     put_value(v, kid(t, cap, n, 0, 0), y);

@@ -9,6 +9,7 @@ ghost use Rattle.table.specs.Plain.{Plain};
 ghost use Rattle.editing.specs.Steps.{putUnlessNil, placeIn, linkIn, dropSide, takeOut};
 ghost use Rattle.edit.specs.Links.{linkBy};
 ghost use Rattle.edit.specs.Small.{Small};
+use table::plain;
 use table::plain::link;
 use table::words::depth;
 use table::words::word;
@@ -31,8 +32,8 @@ pub fn put_unless_nil(t: &mut [i32], n: usize, w: usize, x: u32)
 
 // The row k, a kid of the row p whose digits are l and m, and its neighbour in the wind at place w of the table of winds name each other.
 fn link_side(t: &mut [i32], cap: usize, p: usize, l: u32, m: u32, k: usize, w: usize)
-    requires { ⌜ (cap * rowWords + rowWords ≤ length (now t)) × (cap ≤ 4095) × (p ≤ cap) × (l < 2) × (m < 2) × (k ≤ cap) × (w < 8) ⌝ }
-    ensures { λ _. ⌜ now (t .exit) ≡ linkBy (now (t .entry)) cap p l m k (getD winds w NE) ⌝ }
+    requires { ⌜ (cap * rowWords + rowWords ≤ length (now t)) × (cap ≤ 4095) × (p ≤ cap) × (l < 2) × (m < 2) × (k ≤ cap) × (w < 8) × Plain (now t) cap ⌝ }
+    ensures { λ _. ⌜ (now (t .exit) ≡ linkBy (now (t .entry)) cap p l m k (getD winds w NE)) × Plain (now (t .exit)) cap ⌝ }
 {
     let x = side_by(t, cap, p, l, m, w);
     let c = mesh::wind(w);
@@ -47,8 +48,8 @@ fn place_in(t: &mut [i32], d: u32, p: usize, l: u32, m: u32, k: usize)
     ensures { λ _. ⌜ now (t .exit) ≡ placeIn (now (t .entry)) d p l m k ⌝ }
 {
     let e = depth(t, d, p);
-    let i = word(t, p, 10);
-    let j = word(t, p, 11);
+    let i = plain::word(t, p, 10);
+    let j = plain::word(t, p, 11);
     put(t, k, 0, p as u32);
     put_level(t, k, e + 1, d);
     put(t, k, 10, 2 * i + l);
@@ -59,8 +60,8 @@ fn place_in(t: &mut [i32], d: u32, p: usize, l: u32, m: u32, k: usize)
 
 // The free row k becomes that kid, and it and its neighbours name each other.
 pub fn link_in(t: &mut [i32], cap: usize, d: u32, p: usize, l: u32, m: u32, k: usize)
-    requires { ⌜ (cap * rowWords + rowWords ≤ length (now t)) × (cap ≤ 4095) × (p ≤ cap) × (k ≤ cap) × (d ≤ 32) × (l < 2) × (m < 2) × Small 1073741824 (now t) d p ⌝ }
-    ensures { λ _. ⌜ now (t .exit) ≡ linkIn (now (t .entry)) cap d p l m k ⌝ }
+    requires { ⌜ (cap * rowWords + rowWords ≤ length (now t)) × (cap ≤ 4095) × (p ≤ cap) × (k ≤ cap) × (d ≤ 32) × (l < 2) × (m < 2) × Small 1073741824 (now t) d p × Plain (now t) cap ⌝ }
+    ensures { λ _. ⌜ (now (t .exit) ≡ linkIn (now (t .entry)) cap d p l m k) × Plain (now (t .exit)) cap ⌝ }
 {
     place_in(t, d, p, l, m, k);
     link_side(t, cap, p, l, m, k, 4);

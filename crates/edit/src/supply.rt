@@ -4,6 +4,7 @@ ghost use mathlib.Core.List.{[]};
 ghost use Prim.Native.Nat.{_+_, _*_, _<_, _≤_};
 ghost use lib.ListN.{length};
 ghost use Rattle.mesh.specs.Picture.{rowWords};
+ghost use Rattle.table.specs.Plain.{Plain};
 ghost use Rattle.stock.specs.Stock.{Stocked};
 ghost use Rattle.editing.specs.Tables.{spot, kidSpots, supplied, suppliedAll};
 ghost use Rattle.edit.specs.Small.{AllSmall};
@@ -12,28 +13,46 @@ use crate::spots::kid;
 use crate::steps::link_in;
 use stock::find::next_free;
 
-// Links in the kid l, m of the row p, unless it is there; the next number to look for free ones from.
-fn supply(t: &mut [i32], cap: usize, d: u32, p: usize, l: u32, m: u32, stock: &[u16; 16], low: usize) -> usize
-    requires { ⌜ (cap * rowWords + rowWords ≤ length (now t)) × (cap ≤ 4095) × (p ≤ cap) × (d ≤ 32) × (l < 2) × (m < 2) × (low ≤ cap + 1) × AllSmall 1073741824 (now t) cap d × Stocked cap (now t) [] (now stock) ⌝ }
-    ensures { λ r. ⌜ (r ≤ cap + 1) × (lending (now (t .exit)) r ≡ supplied cap d (spot p l m) (lending (now (t .entry)) low)) ⌝ }
+// Links in the kid l, m of the row p, unless it is there; the next number to look for free ones from. The one before it may have taken the number at the
+// place last of the stock.
+fn supply(
+    t: &mut [i32],
+    cap: usize,
+    d: u32,
+    p: usize,
+    l: u32,
+    m: u32,
+    stock: &[u16; 16],
+    low: usize,
+    last: usize,
+) -> usize
+    requires { ⌜ (cap * rowWords + rowWords ≤ length (now t)) × (cap ≤ 4095) × (p ≤ cap) × (d ≤ 32) × (l < 2) × (m < 2) × (low ≤ cap + 1) × AllSmall 1073741824 (now t) cap d × Stocked cap (now t) [] (now stock) × Plain (now t) cap × (last < 14) ⌝ }
+    ensures { λ r. ⌜ (r ≤ cap + 1) × (lending (now (t .exit)) r ≡ supplied cap d (spot p l m) (lending (now (t .entry)) low)) × Plain (now (t .exit)) cap ⌝ }
 {
     if kid(t, cap, p, l, m) != 0 {
         return low;
     }
-    let k = next_free(t, cap, low, stock);
+    let k = next_free(t, cap, low, stock, last);
     link_in(t, cap, d, p, l, m, k);
     k + 1
 }
 
 // The four kids.
-pub fn supply_kids(t: &mut [i32], cap: usize, d: u32, n: usize, stock: &[u16; 16], low: usize) -> usize
-    requires { ⌜ (cap * rowWords + rowWords ≤ length (now t)) × (cap ≤ 4095) × (n ≤ cap) × (d ≤ 32) × (low ≤ cap + 1) × AllSmall 1048576 (now t) cap d × Stocked cap (now t) [] (now stock) ⌝ }
-    ensures { λ r. ⌜ (r ≤ cap + 1) × (lending (now (t .exit)) r ≡ suppliedAll cap d (kidSpots (now (t .entry)) cap n) (lending (now (t .entry)) low)) ⌝ }
+pub fn supply_kids(
+    t: &mut [i32],
+    cap: usize,
+    d: u32,
+    n: usize,
+    stock: &[u16; 16],
+    low: usize,
+) -> usize
+    requires { ⌜ (cap * rowWords + rowWords ≤ length (now t)) × (cap ≤ 4095) × (n ≤ cap) × (d ≤ 32) × (low ≤ cap + 1) × AllSmall 1048576 (now t) cap d × Stocked cap (now t) [] (now stock) × Plain (now t) cap ⌝ }
+    ensures { λ r. ⌜ (r ≤ cap + 1) × (lending (now (t .exit)) r ≡ suppliedAll cap d (kidSpots (now (t .entry)) cap n) (lending (now (t .entry)) low)) × Plain (now (t .exit)) cap ⌝ }
 {
-    let a = supply(t, cap, d, n, 0, 0, stock, low);
-    let b = supply(t, cap, d, n, 1, 0, stock, a);
-    let c = supply(t, cap, d, n, 0, 1, stock, b);
-    supply(t, cap, d, n, 1, 1, stock, c)
+    let a = supply(t, cap, d, n, 0, 0, stock, low, 0);
+    let b = supply(t, cap, d, n, 1, 0, stock, a, 0);
+    let c = supply(t, cap, d, n, 0, 1, stock, b, 1);
+    supply(t, cap, d, n, 1, 1, stock, c, 2)
 }
 
 // The others that the kids want: of the row north SW, SE; of the row east NW, SW; of the row north-east SW.
@@ -47,12 +66,12 @@ pub fn supply_corners(
     stock: &[u16; 16],
     low: usize,
 ) -> usize
-    requires { ⌜ (cap * rowWords + rowWords ≤ length (now t)) × (cap ≤ 4095) × (north ≤ cap) × (east ≤ cap) × (both ≤ cap) × (d ≤ 32) × (low ≤ cap + 1) × AllSmall 16777216 (now t) cap d × Stocked cap (now t) [] (now stock) ⌝ }
-    ensures { λ r. ⌜ (r ≤ cap + 1) × (lending (now (t .exit)) r ≡ suppliedAll cap d (cornerSpots north east both) (lending (now (t .entry)) low)) ⌝ }
+    requires { ⌜ (cap * rowWords + rowWords ≤ length (now t)) × (cap ≤ 4095) × (north ≤ cap) × (east ≤ cap) × (both ≤ cap) × (d ≤ 32) × (low ≤ cap + 1) × AllSmall 16777216 (now t) cap d × Stocked cap (now t) [] (now stock) × Plain (now t) cap ⌝ }
+    ensures { λ r. ⌜ (r ≤ cap + 1) × (lending (now (t .exit)) r ≡ suppliedAll cap d (cornerSpots north east both) (lending (now (t .entry)) low)) × Plain (now (t .exit)) cap ⌝ }
 {
-    let a = supply(t, cap, d, north, 0, 0, stock, low);
-    let b = supply(t, cap, d, north, 1, 0, stock, a);
-    let c = supply(t, cap, d, east, 0, 1, stock, b);
-    let e = supply(t, cap, d, east, 0, 0, stock, c);
-    supply(t, cap, d, both, 0, 0, stock, e)
+    let a = supply(t, cap, d, north, 0, 0, stock, low, 3);
+    let b = supply(t, cap, d, north, 1, 0, stock, a, 4);
+    let c = supply(t, cap, d, east, 0, 1, stock, b, 5);
+    let e = supply(t, cap, d, east, 0, 0, stock, c, 6);
+    supply(t, cap, d, both, 0, 0, stock, e, 7)
 }

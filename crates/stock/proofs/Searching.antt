@@ -111,6 +111,10 @@ module _ {cap : ℕ} {t : List ℤ} {s : List ℕ} (h : Stocked cap t [] s) (low
       go j l (yes y) = p .none j y
       go j l (no y) = let q : j ≡ i = omega (arith, y) in rw (q, ← e) (u .no z)
 
+  -- the numbers up to one below low are below it too
+  pub passed-below : {i k : ℕ} → i < 16 → k ≡ getD s i 0 → k < low → Passed (i + 1)
+  passed-below {i} l e b = record { none = λ j m a c. let no : ⊥ = omega (arith, h .rising .rises j i (omega arith) l) in absurd no }
+
   -- a free number that the search has not come by is at or past the place i
   past : {i : ℕ} → Passed i → (k : ℕ) → low ≤ k → vacant t k ≡ true → k < getD s 15 0 → ((a : ℕ) → i ≤ a → a < 15 → getD s a 0 ≡ k → ⊥) → ⊥
   past {i} p k l v b f = let q = h .covers k v b refl in go q (decLt (q .place) i)

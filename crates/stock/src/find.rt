@@ -50,8 +50,8 @@ fn greater(a: usize, b: usize) -> usize
     if a < b { b } else { a }
 }
 
-// The smallest free number from low on, or 0 if there is none.
-pub fn next_free(t: &[i32], cap: usize, low: usize, stock: &[u16; 16]) -> usize
+// The smallest free number from low on, or 0 if there is none, place by place.
+fn search(t: &[i32], cap: usize, low: usize, stock: &[u16; 16]) -> usize
     requires { ⌜ (cap * rowWords + rowWords ≤ length (now t)) × (cap ≤ 4095) × (low ≤ cap + 1) × Stocked cap (now t) [] (now stock) ⌝ }
     ensures { λ r. ⌜ (r ≤ cap) × (r ≡ freeFrom (now (t .entry)) (cap + 1 - low) low) ⌝ }
 {
@@ -65,4 +65,18 @@ pub fn next_free(t: &[i32], cap: usize, low: usize, stock: &[u16; 16]) -> usize
         i += 1;
     }
     scan(t, cap, greater(low, bound))
+}
+
+// The same, at the place after the last one taken first: with the numbers taken in turn it is most often there.
+pub fn next_free(t: &[i32], cap: usize, low: usize, stock: &[u16; 16], last: usize) -> usize
+    requires { ⌜ (cap * rowWords + rowWords ≤ length (now t)) × (cap ≤ 4095) × (low ≤ cap + 1) × (last < 14) × Stocked cap (now t) [] (now stock) ⌝ }
+    ensures { λ r. ⌜ (r ≤ cap) × (r ≡ freeFrom (now (t .entry)) (cap + 1 - low) low) ⌝ }
+{
+    let past = wide(stock[last]) < low;
+    let k = wide(stock[last + 1]);
+    let next = past & suits(t, cap, low, wide(stock[15]), k);
+    if next {
+        return k;
+    }
+    search(t, cap, low, stock)
 }

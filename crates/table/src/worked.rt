@@ -7,9 +7,11 @@ ghost use Rattle.mesh.specs.Place.{NE};
 ghost use Rattle.mesh.specs.Winds.{winds};
 ghost use Rattle.mesh.specs.Picture.{rowWords};
 ghost use Rattle.table.specs.Digits.{four};
+ghost use Rattle.table.specs.Plain.{Plain};
 ghost use Rattle.table.specs.Words.{linkOf};
 ghost use Rattle.table.specs.Sides.{sideBy};
 ghost use Rattle.table.specs.Worked.{kidWord, staysIn, edgeAt, edgeH, edgeV, innerH, innerV};
+use crate::plain;
 use crate::words::flag;
 use crate::words::link;
 use crate::words::says;
@@ -33,22 +35,22 @@ pub fn stays_in(a: u32) -> bool
 
 // The row that a neighbour is a kid of: the parent p, or the parent's neighbour.
 fn hub(t: &[i32], cap: usize, p: usize, w: usize, stays: bool) -> usize
-    requires { ⌜ (cap * rowWords + rowWords ≤ length (now t)) × (cap ≤ 4095) × (p ≤ cap) × (w < rowWords) ⌝ }
+    requires { ⌜ (cap * rowWords + rowWords ≤ length (now t)) × (cap ≤ 4095) × (p ≤ cap) × (w < 9) × Plain (now t) cap ⌝ }
     ensures { λ r. ⌜ (r ≤ cap) × (r ≡ cond stays p (linkOf (now (t .entry)) cap p w)) ⌝ }
 {
-    if stays { p } else { link(t, cap, p, w) }
+    if stays { p } else { plain::link(t, cap, p, w) }
 }
 
 // The row that is the neighbour in the wind at place w of the table of winds: p is the parent, and the place ends in the digits l and m.
 pub fn side_by(t: &[i32], cap: usize, p: usize, l: u32, m: u32, w: usize) -> usize
-    requires { ⌜ (cap * rowWords + rowWords ≤ length (now t)) × (cap ≤ 4095) × (p ≤ cap) × (l < 2) × (m < 2) × (w < 8) ⌝ }
+    requires { ⌜ (cap * rowWords + rowWords ≤ length (now t)) × (cap ≤ 4095) × (p ≤ cap) × (l < 2) × (m < 2) × (w < 8) × Plain (now t) cap ⌝ }
     ensures { λ r. ⌜ (r ≤ cap) × (r ≡ sideBy (now (t .entry)) cap p l m (getD winds w NE)) ⌝ }
 {
     let c = mesh::wind(w);
     let a = l + c.east;
     let b = m + c.north;
     let q = hub(t, cap, p, w + 1, stays_in(a) & stays_in(b));
-    link(t, cap, q, kid_word((a + 1) % 2, (b + 1) % 2))
+    plain::link(t, cap, q, kid_word((a + 1) % 2, (b + 1) % 2))
 }
 
 // Whether a wall is boundary, if it has one cell: on level 0, and above where the wall of the parent is, by its bit k, and the word w is even.

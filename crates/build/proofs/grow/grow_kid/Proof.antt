@@ -33,12 +33,12 @@ same-length c = search needs
 returns : tie.Need-returns
 returns c =
     let a = c .before .before .before .before .before .before .args in
-    kid-not _ _ _ (a .up) (a .p) (a .l) (a .m) (a .next) (a .t .now) (c .before .before .before .before .before .before .pre .5) (c .before .before .before .before .word .ensures) (c .before .before .word2 .ensures) (c .before .in-full .ensures) (c .if1 .taken)
+    kid-not _ _ _ (a .up) (a .p) (a .l) (a .m) (a .next) (a .t .now) (c .before .before .before .before .before .before .pre .6) (c .before .before .before .before .word .ensures) (c .before .before .word2 .ensures) (c .before .in-full .ensures) (c .if1 .taken)
 
 link-in-requires : tie.Need-link-in-requires
 link-in-requires c κs =
     let a = c .before .before .before .before .before .before .before .args in
-    let able = c .before .before .before .before .before .before .before .pre .5 in (
+    let able = c .before .before .before .before .before .before .before .pre .6 in (
       omega arith,
       omega arith,
       able .parent-in,
@@ -47,6 +47,7 @@ link-in-requires c κs =
       omega arith,
       omega arith,
       kid-small _ _ _ able,
+      c .before .before .before .before .before .before .before .pre .5,
     )
 
 add-result : tie.Need-add-result
@@ -58,7 +59,7 @@ same-length-2 c = search needs
 returns-2 : tie.Need-returns-2
 returns-2 c =
     let a = c .before .before .before .before .before .before .before .before .before .args in
-    kid-new _ _ _ (a .up) (a .p) (a .l) (a .m) (a .next) (a .t .now) (c .before .before .before .before .before .before .before .before .before .pre .5) (c .before .before .before .before .before .before .before .word .ensures) (c .before .before .before .before .before .word2 .ensures) (c .before .before .before .before .in-full .ensures) (c .before .before .before .if1 .left) (c .before .link-in .ensures)
+    kid-new _ _ _ (a .up) (a .p) (a .l) (a .m) (a .next) (a .t .now) (c .before .before .before .before .before .before .before .before .before .pre .6) (c .before .before .before .before .before .before .before .word .ensures) (c .before .before .before .before .before .word2 .ensures) (c .before .before .before .before .in-full .ensures) (c .before .before .before .if1 .left) (c .before .link-in .ensures .0)
 
 pub grow-kid-spec : {M : Type 1} → statement M
 grow-kid-spec =

@@ -2,7 +2,7 @@
 -- Assumes nothing.
 use mathlib.Core.List.{[], _∷_}
 use Rattle.mesh.specs.Place.{NE, SE, SW, NW}
-use Rattle.build.proofs.Growths.{able, kids-on, four-kids}
+use Rattle.build.proofs.Growths.{able, kids-on, kids-plain, four-kids}
 use native.Mathlib.Omega.{arith}
 use borrow.Author.Needs.{needs}
 use Rattle.build.proofs.grow.grow_kids.Statement.{statement}
@@ -12,7 +12,7 @@ grow-kid-requires : tie.Need-grow-kid-requires
 grow-kid-requires c κs =
     let e = c .before .pre .3 in
     let k0 = c .before .pre .4 in
-    (omega arith, omega arith, omega arith, omega arith, omega arith, able _ _ _ e _ _ SW (NW ∷ SE ∷ NE ∷ []) _ k0)
+    (omega arith, omega arith, omega arith, omega arith, omega arith, kids-plain k0, able _ _ _ e _ _ SW (NW ∷ SE ∷ NE ∷ []) _ k0)
 
 grow-kid-requires-2 : tie.Need-grow-kid-requires-2
 grow-kid-requires-2 c κs =
@@ -24,6 +24,7 @@ grow-kid-requires-2 c κs =
       omega arith,
       omega arith,
       omega arith,
+      kids-plain k1,
       able _ _ _ e _ _ NW (SE ∷ NE ∷ []) _ k1,
     )
 
@@ -38,6 +39,7 @@ grow-kid-requires-3 c κs =
       omega arith,
       omega arith,
       omega arith,
+      kids-plain k2,
       able _ _ _ e _ _ SE (NE ∷ []) _ k2,
     )
 
@@ -53,6 +55,7 @@ grow-kid-requires-4 c κs =
       omega arith,
       omega arith,
       omega arith,
+      kids-plain k3,
       able _ _ _ e _ _ NE [] _ k3,
     )
 

@@ -2,7 +2,7 @@
 -- Assumes nothing.
 use native.Mathlib.Omega.{arith}
 use borrow.Author.Needs.{needs}
-use Rattle.edit.proofs.Requests.{refined, refined-plain}
+use Rattle.edit.proofs.Requests.{refined}
 use Rattle.edit.proofs.Small.{small-kids}
 use Rattle.edit.proofs.Supplying.{stock-kids}
 use Rattle.edit.proofs.refine.refine_table.Statement.{statement}
@@ -41,22 +41,14 @@ supply-corners-requires c κs = (
   let b₁ = c .before .before in
       let b₂ = b₁ .before .before .before .before .before .before .before .before .before .before .before in
       stock-kids _ _ _ (b₂ .pre .6) (b₁ .supply-kids .ensures .1),
+  c .before .before .supply-kids .ensures .2,
 )
 
 put-cells-requires : tie.Need-put-cells-requires
 put-cells-requires c κs = search needs
 
 refresh-near-requires : tie.Need-refresh-near-requires
-refresh-near-requires c κs =
-    let b₁ = c .before .before in
-    let b₂ = b₁ .before .before .before in
-    let b₃ = b₂ .before .before .before in
-    let b₄ = b₃ .before .before .before .before .before in
-    let b₅ = b₄ .before .before in
-    let b₆ = b₅ .before .before in
-    let b₇ = b₆ .before .before in
-    let k = refined-plain _ _ _ _ _ _ _ _ _ (b₇ .pre .5) (b₃ .supply-kids .ensures .1) (b₂ .supply-corners .ensures .1) (b₁ .put-cells .ensures) (omega (arith, b₇ .pre), omega (arith, b₆ .link .ensures), omega (arith, b₅ .link2 .ensures), omega (arith, b₄ .link3 .ensures), omega (arith, b₇ .pre), omega (arith, b₃ .supply-kids .ensures)) in
-    (omega arith, omega arith, omega arith, omega arith, k)
+refresh-near-requires c κs = (omega arith, omega arith, omega arith, omega arith, c .before .before .put-cells .ensures .1)
 
 same-length : tie.Need-same-length
 same-length c = search needs
@@ -72,7 +64,7 @@ returns c =
     let b₇ = b₆ .before .before in
     let b₈ = b₇ .before .before in
     let b₉ = b₈ .before .before in
-    refined _ _ _ _ _ (b₉ .link .ensures .1) (b₈ .link2 .ensures .1) (b₇ .link3 .ensures .1) (b₆ .word .ensures) (b₅ .kid-status .ensures .1) (b₄ .supply-kids .ensures .1) (b₃ .supply-corners .ensures .1) (b₂ .put-cells .ensures) (b₁ .refresh-near .ensures)
+    (refined _ _ _ _ _ (b₉ .link .ensures .1) (b₈ .link2 .ensures .1) (b₇ .link3 .ensures .1) (b₆ .word .ensures) (b₅ .kid-status .ensures .1) (b₄ .supply-kids .ensures .1) (b₃ .supply-corners .ensures .1) (b₂ .put-cells .ensures .0) (b₁ .refresh-near .ensures .0), b₁ .refresh-near .ensures .1)
 
 pub refine-table-spec : {M : Type 1} → statement M
 refine-table-spec =

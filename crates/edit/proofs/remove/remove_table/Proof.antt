@@ -3,7 +3,6 @@
 use native.Mathlib.Omega.{arith}
 use borrow.Author.Needs.{needs}
 use Rattle.edit.proofs.Requests.{removed}
-use Rattle.edit.proofs.PlainRows.{plain-kids}
 use Rattle.edit.proofs.remove.remove_table.Statement.{statement}
 use Rattle.edit.proofs.remove.remove_table.Tie as tie
 
@@ -13,22 +12,22 @@ put-cells-requires c κs = search needs
 link-requires : tie.Need-link-requires
 link-requires c κs =
     let b = c .before .before in
-    (omega arith, omega arith, omega arith, omega arith, plain-kids _ (b .before .before .pre .4) (b .put-cells .ensures))
+    (omega arith, omega arith, omega arith, omega arith, b .put-cells .ensures .1)
 
 link-requires-2 : tie.Need-link-requires-2
 link-requires-2 c κs =
     let b = c .before .before .before .before in
-    (omega arith, omega arith, omega arith, omega arith, plain-kids _ (b .before .before .pre .4) (b .put-cells .ensures))
+    (omega arith, omega arith, omega arith, omega arith, b .put-cells .ensures .1)
 
 link-requires-3 : tie.Need-link-requires-3
 link-requires-3 c κs =
     let b = c .before .before .before .before .before .before in
-    (omega arith, omega arith, omega arith, omega arith, plain-kids _ (b .before .before .pre .4) (b .put-cells .ensures))
+    (omega arith, omega arith, omega arith, omega arith, b .put-cells .ensures .1)
 
 drop-kids-requires : tie.Need-drop-kids-requires
 drop-kids-requires c κs =
     let b = c .before .before .before .before .before .before .before .before in
-    (omega arith, omega arith, omega arith, plain-kids _ (b .before .before .pre .4) (b .put-cells .ensures))
+    (omega arith, omega arith, omega arith, b .put-cells .ensures .1)
 
 drop-corners-requires : tie.Need-drop-corners-requires
 drop-corners-requires c κs = (omega arith, omega arith, omega arith, omega arith, omega arith, c .before .before .drop-kids .ensures .1)
@@ -48,7 +47,7 @@ returns c =
     let b₅ = b₄ .before .before in
     let b₆ = b₅ .before .before in
     let b₇ = b₆ .before .before .before in
-    removed _ _ _ _ (b₇ .put-cells .ensures) (b₆ .link .ensures .1) (b₅ .link2 .ensures .1) (b₄ .link3 .ensures .1) (b₃ .drop-kids .ensures .0) (b₂ .drop-corners .ensures .0) (b₁ .refresh-near .ensures)
+    removed _ _ _ _ (b₇ .put-cells .ensures .0) (b₆ .link .ensures .1) (b₅ .link2 .ensures .1) (b₄ .link3 .ensures .1) (b₃ .drop-kids .ensures .0) (b₂ .drop-corners .ensures .0) (b₁ .refresh-near .ensures .0)
 
 pub remove-table-spec : {M : Type 1} → statement M
 remove-table-spec =

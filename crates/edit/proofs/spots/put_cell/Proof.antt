@@ -2,6 +2,7 @@
 -- Assumes nothing.
 use borrow.Author.Needs.{needs}
 use Rattle.edit.proofs.Nearby.{cell-put}
+use Rattle.edit.proofs.PlainRows.{plain-cell}
 use Rattle.edit.proofs.spots.put_cell.Statement.{statement}
 use Rattle.edit.proofs.spots.put_cell.Tie as tie
 
@@ -18,7 +19,13 @@ same-length : tie.Need-same-length
 same-length c = search needs
 
 returns : tie.Need-returns
-returns c = cell-put _ _ _ _ _ (c .before .before .before .before .before .before .kid .ensures .1) (c .before .before .before .before .put-unless-nil .ensures) (c .before .put-unless-nil2 .ensures)
+returns c =
+    let b₁ = c .before in
+    let b₂ = b₁ .before .before .before in
+    let b₃ = b₂ .before .before in
+    let pre = b₃ .before .before .pre in
+    let e = cell-put _ _ _ _ _ (b₃ .kid .ensures .1) (b₂ .put-unless-nil .ensures) (b₁ .put-unless-nil2 .ensures) in
+    (e, plain-cell _ _ _ (pre .6) e (pre .4))
 
 pub put-cell-spec : {M : Type 1} → statement M
 put-cell-spec =

@@ -26,7 +26,7 @@ returns c =
     let b₂ = b₁ .before .before .before in
     let b₃ = b₂ .before .before .before in
     let b₄ = b₃ .before .before .before in
-    cells-more _ _ _ _ _ _ (b₄ .put-cell .ensures) (cells-more _ _ _ _ _ _ (b₃ .put-cell2 .ensures) (cells-more _ _ _ _ _ _ (b₂ .put-cell3 .ensures) (cells-more _ _ _ _ _ _ (b₁ .put-cell4 .ensures) (cells-none _ _ _ _))))
+    (cells-more _ _ _ _ _ _ (b₄ .put-cell .ensures .0) (cells-more _ _ _ _ _ _ (b₃ .put-cell2 .ensures .0) (cells-more _ _ _ _ _ _ (b₂ .put-cell3 .ensures .0) (cells-more _ _ _ _ _ _ (b₁ .put-cell4 .ensures .0) (cells-none _ _ _ _)))), b₁ .put-cell4 .ensures .1)
 
 pub put-cells-spec : {M : Type 1} → statement M
 put-cells-spec =

@@ -43,7 +43,7 @@ returns c =
     let b₆ = b₅ .before .before in
     let b₇ = b₆ .before .before in
     let b₈ = b₇ .before .before in
-    near-refreshed _ _ _ _ (b₈ .link .ensures .1) (b₇ .link2 .ensures .1) (b₆ .link3 .ensures .1) (b₅ .link4 .ensures .1) (b₄ .link5 .ensures .1) (b₃ .wall-near .ensures .0) (b₂ .mark-near .ensures .0) (b₁ .mark-sides .ensures .0)
+    (near-refreshed _ _ _ _ (b₈ .link .ensures .1) (b₇ .link2 .ensures .1) (b₆ .link3 .ensures .1) (b₅ .link4 .ensures .1) (b₄ .link5 .ensures .1) (b₃ .wall-near .ensures .0) (b₂ .mark-near .ensures .0) (b₁ .mark-sides .ensures .0), b₁ .mark-sides .ensures .1)
 
 pub refresh-near-spec : {M : Type 1} → statement M
 refresh-near-spec =

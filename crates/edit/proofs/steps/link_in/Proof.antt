@@ -3,6 +3,7 @@
 use native.Mathlib.Omega.{arith}
 use borrow.Author.Needs.{needs}
 use Rattle.edit.proofs.Linking.{linked-in}
+use Rattle.edit.proofs.PlainRows.{plain-placed}
 use Rattle.edit.proofs.steps.link_in.Statement.{statement}
 use Rattle.edit.proofs.steps.link_in.Tie as tie
 
@@ -10,7 +11,10 @@ place-in-requires : tie.Need-place-in-requires
 place-in-requires c κs = search needs
 
 link-side-requires : tie.Need-link-side-requires
-link-side-requires c κs = search needs
+link-side-requires c κs =
+    let b = c .before .before in
+    let pre = b .before .before .pre in
+    (omega arith, omega arith, omega arith, omega arith, omega arith, omega arith, omega arith, plain-placed (pre .8) _ _ _ _ _ (pre .2) (pre .3) (pre .6) (b .place-in .ensures))
 
 link-side-requires-2 : tie.Need-link-side-requires-2
 link-side-requires-2 c κs = search needs
@@ -32,7 +36,7 @@ returns c =
     let b₄ = b₃ .before .before .before in
     let b₅ = b₄ .before .before .before in
     let b₆ = b₅ .before .before in
-    linked-in _ _ _ _ _ _ _ (omega arith) (b₆ .pre .5) (b₆ .pre .6) (b₆ .pre .2) (b₅ .place-in .ensures) (b₄ .link-side .ensures) (b₃ .link-side2 .ensures) (b₂ .link-side3 .ensures) (b₁ .link-side4 .ensures)
+    (linked-in _ _ _ _ _ _ _ (omega arith) (b₆ .pre .5) (b₆ .pre .6) (b₆ .pre .2) (b₅ .place-in .ensures) (b₄ .link-side .ensures .0) (b₃ .link-side2 .ensures .0) (b₂ .link-side3 .ensures .0) (b₁ .link-side4 .ensures .0), b₁ .link-side4 .ensures .1)
 
 pub link-in-spec : {M : Type 1} → statement M
 link-in-spec =

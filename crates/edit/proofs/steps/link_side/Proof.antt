@@ -3,6 +3,7 @@
 use native.Mathlib.Omega.{arith}
 use borrow.Author.Needs.{needs}
 use Rattle.edit.proofs.Linking.{side-linked}
+use Rattle.edit.proofs.PlainRows.{plain-side}
 use Rattle.edit.proofs.Opposite.{opposite-below}
 use Rattle.edit.proofs.steps.link_side.Statement.{statement}
 use Rattle.edit.proofs.steps.link_side.Tie as tie
@@ -41,7 +42,8 @@ returns c =
     let b₃ = b₂ .before .before in
     let b₄ = b₃ .before in
     let b₅ = b₄ .before .before in
-    side-linked _ _ _ _ _ _ _ (b₅ .pre .6) (b₄ .side-by .ensures .1) (b₃ .wind .ensures) (b₂ .put .ensures) (b₁ .put-unless-nil .ensures)
+    let e = side-linked _ _ _ _ _ _ _ (b₅ .pre .6) (b₄ .side-by .ensures .1) (b₃ .wind .ensures) (b₂ .put .ensures) (b₁ .put-unless-nil .ensures) in
+    (e, plain-side (b₅ .pre .7) _ _ _ _ _ (b₅ .pre .5) e)
 
 pub link-side-spec : {M : Type 1} → statement M
 link-side-spec =

@@ -1,6 +1,8 @@
 -- `edit::steps::place_in` meets its contract.
 -- Assumes nothing.
+use native.Mathlib.Omega.{arith}
 use borrow.Author.Needs.{needs}
+use Rattle.table.proofs.Unsigned.{word-unsigned}
 use Rattle.edit.proofs.Linking.{placed-in}
 use Rattle.edit.proofs.steps.place_in.Statement.{statement}
 use Rattle.edit.proofs.steps.place_in.Tie as tie
@@ -9,10 +11,10 @@ depth-requires : tie.Need-depth-requires
 depth-requires c κs = search needs
 
 word-requires : tie.Need-word-requires
-word-requires c κs = search needs
+word-requires c κs = (omega arith, word-unsigned (c .before .before .before .args .t .now) (c .before .before .before .args .p) 10 (omega (arith, c .before .before .before .pre .7 .col)))
 
 word-requires-2 : tie.Need-word-requires-2
-word-requires-2 c κs = search needs
+word-requires-2 c κs = (omega arith, word-unsigned (c .before .before .before .before .before .args .t .now) (c .before .before .before .before .before .args .p) 11 (omega (arith, c .before .before .before .before .before .pre .7 .row)))
 
 cast-put : tie.Need-cast-put
 cast-put c = search needs

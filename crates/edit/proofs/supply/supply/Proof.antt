@@ -13,7 +13,7 @@ same-length : tie.Need-same-length
 same-length c = search needs
 
 returns : tie.Need-returns
-returns c = (omega arith, supplied-there _ _ _ _ _ _ _ (c .before .kid .ensures .1) (c .if1 .taken))
+returns c = (omega arith, supplied-there _ _ _ _ _ _ _ (c .before .kid .ensures .1) (c .if1 .taken), c .before .before .before .pre .9)
 
 next-free-requires : tie.Need-next-free-requires
 next-free-requires c κs = search needs
@@ -29,6 +29,7 @@ link-in-requires c κs = (
   omega arith,
   let b₁ = c .before .before .before .before .before .before in
       b₁ .pre .7 (b₁ .args .p) (b₁ .pre .2),
+  c .before .before .before .before .before .before .pre .9,
 )
 
 add-result : tie.Need-add-result
@@ -44,7 +45,8 @@ returns-2 c = (
       let b₂ = b₁ .before .before in
       let b₃ = b₂ .before .before in
       let b₄ = b₃ .before in
-      supplied-new _ _ _ _ _ _ _ (b₄ .kid .ensures .1) (b₃ .if1 .left) (b₂ .next-free .ensures .1) (b₁ .link-in .ensures),
+      supplied-new _ _ _ _ _ _ _ (b₄ .kid .ensures .1) (b₃ .if1 .left) (b₂ .next-free .ensures .1) (b₁ .link-in .ensures .0),
+  c .before .link-in .ensures .1,
 )
 
 pub supply-spec : {M : Type 1} → statement M

@@ -9,10 +9,10 @@ use Rattle.edit.proofs.supply.supply_kids.Statement.{statement}
 use Rattle.edit.proofs.supply.supply_kids.Tie as tie
 
 supply-requires : tie.Need-supply-requires
-supply-requires c κs = (omega arith, omega arith, omega arith, omega arith, omega arith, omega arith, omega arith, all-more 1048576 _ _ _ _ (c .before .pre .5) (omega arith), c .before .pre .6)
+supply-requires c κs = (omega arith, omega arith, omega arith, omega arith, omega arith, omega arith, omega arith, all-more 1048576 _ _ _ _ (c .before .pre .5) (omega arith), c .before .pre .6, c .before .pre .7, omega arith)
 
 supply-requires-2 : tie.Need-supply-requires-2
-supply-requires-2 c κs = (omega arith, omega arith, omega arith, omega arith, omega arith, omega arith, omega arith, all-more 2097152 _ _ _ _ (small-after 1048576 _ _ _ _ _ _ _ (c .before .before .before .before .pre .5) (c .before .before .supply .ensures .1) (c .before .before .before .before .pre .2) (omega arith) (omega arith) (omega arith)) (omega arith), stock-after _ _ _ _ _ (c .before .before .before .before .pre .6) (c .before .before .supply .ensures .1) (omega arith))
+supply-requires-2 c κs = (omega arith, omega arith, omega arith, omega arith, omega arith, omega arith, omega arith, all-more 2097152 _ _ _ _ (small-after 1048576 _ _ _ _ _ _ _ (c .before .before .before .before .pre .5) (c .before .before .supply .ensures .1) (c .before .before .before .before .pre .2) (omega arith) (omega arith) (omega arith)) (omega arith), stock-after _ _ _ _ _ (c .before .before .before .before .pre .6) (c .before .before .supply .ensures .1) (omega arith), c .before .before .supply .ensures .2, omega arith)
 
 supply-requires-3 : tie.Need-supply-requires-3
 supply-requires-3 c κs = (
@@ -31,6 +31,8 @@ supply-requires-3 c κs = (
       let b₂ = b₁ .before .before .before in
       let b₃ = b₂ .before .before in
       stock-after _ _ _ _ _ (stock-after _ _ _ _ _ (b₃ .pre .6) (b₂ .supply .ensures .1) (omega arith)) (b₁ .supply2 .ensures .1) (omega arith),
+  c .before .before .supply2 .ensures .2,
+  omega arith,
 )
 
 supply-requires-4 : tie.Need-supply-requires-4
@@ -52,6 +54,8 @@ supply-requires-4 c κs = (
       let b₃ = b₂ .before .before .before in
       let b₄ = b₃ .before .before in
       stock-after _ _ _ _ _ (stock-after _ _ _ _ _ (stock-after _ _ _ _ _ (b₄ .pre .6) (b₃ .supply .ensures .1) (omega arith)) (b₂ .supply2 .ensures .1) (omega arith)) (b₁ .supply3 .ensures .1) (omega arith),
+  c .before .before .supply3 .ensures .2,
+  omega arith,
 )
 
 same-length : tie.Need-same-length
@@ -65,6 +69,7 @@ returns c = (
       let b₃ = b₂ .before .before .before in
       let b₄ = b₃ .before .before .before in
       supply-more _ _ _ _ _ (b₄ .supply .ensures .1) (supply-more _ _ _ _ _ (b₃ .supply2 .ensures .1) (supply-more _ _ _ _ _ (b₂ .supply3 .ensures .1) (supply-more _ _ _ _ _ (b₁ .supply4 .ensures .1) (supply-none _ _ _)))),
+  c .before .supply4 .ensures .2,
 )
 
 pub supply-kids-spec : {M : Type 1} → statement M

@@ -1,81 +1,74 @@
--- `stock::find::next_free` meets its contract. The invariant: none of the numbers before the place i is the one.
+-- `stock::find::next_free` meets its contract: the numbers before the place are below low, since they rise.
 -- Assumes nothing.
-use Prim.Native.Nat.{_+_, _-_, _≤_}
 use native.Mathlib.Omega.{arith}
-use mathlib.Core.Path.{_≡_, refl, _∙_}
-use mathlib.Core.List.{[]}
-use lib.ListN.{getD}
 use borrow.Author.Needs.{needs}
-use Rattle.stock.specs.Stock.{Stocked}
-use Rattle.stock.proofs.Searching.{Passed, passed-none, passed-more, passed-all, suits-bound, stock-found, stock-over}
+use borrow.Author.Tests.{ltb-true}
+use Rattle.table.proofs.Tests.{both-pass}
+use Rattle.stock.proofs.Searching.{passed-below, suits-bound, stock-found}
 use Rattle.stock.proofs.find.next_free.Statement.{statement}
 use Rattle.stock.proofs.find.next_free.Tie as tie
 
-abbrev Inv-loop : tie.InvT-loop
-Inv-loop t cap low stock bound i₀ i = (i ≤ 15) × (bound ≡ getD stock 15 0) × ((h : Stocked cap t [] stock) → Passed h low i)
+mul-wide : tie.Need-mul-wide
+mul-wide c = search needs
 
-abbrev μ-loop : tie.MeasureT-loop
-μ-loop t cap low stock bound i₀ i = 15 - i
+element-copy-out-wide : tie.Need-element-copy-out-wide
+element-copy-out-wide c = search needs
 
-element-copy-out-wide : tie.Need-element-copy-out-wide Inv-loop μ-loop
-element-copy-out-wide c = omega arith
-
-wide-requires : tie.Need-wide-requires Inv-loop μ-loop
+wide-requires : tie.Need-wide-requires
 wide-requires c κs = search needs
 
-loop-holds : tie.Need-loop-holds Inv-loop μ-loop
-loop-holds c = (omega arith, c .wide .ensures, λ h. passed-none h _)
+add-wide : tie.Need-add-wide
+add-wide c = search needs
 
-mul-wide : tie.Need-mul-wide Inv-loop μ-loop
-mul-wide c = omega arith
+mul-wide-2 : tie.Need-mul-wide-2
+mul-wide-2 c = search needs
 
-element-copy-out-wide-2 : tie.Need-element-copy-out-wide-2 Inv-loop μ-loop
-element-copy-out-wide-2 c = omega arith
+element-copy-out-wide-2 : tie.Need-element-copy-out-wide-2
+element-copy-out-wide-2 c = search needs
 
-wide-requires-2 : tie.Need-wide-requires-2 Inv-loop μ-loop
+wide-requires-2 : tie.Need-wide-requires-2
 wide-requires-2 c κs = search needs
 
-suits-requires : tie.Need-suits-requires Inv-loop μ-loop
-suits-requires c κs = let b = c .before .before .before .before .before .before .pre .3 .bounded in let e = c .before .before .before .loop .inv .1 in (omega arith, omega arith, omega arith)
+element-copy-out-wide-3 : tie.Need-element-copy-out-wide-3
+element-copy-out-wide-3 c = search needs
 
-returns : tie.Need-returns Inv-loop μ-loop
-returns c = let h = c .before .before .before .before .before .before .before .before .pre .3 in let l = c .before .before .before .before .before .loop .inv in stock-found h _ (l .2 h) (omega arith) (c .before .before .wide2 .ensures) (suits-bound (l .1) (c .before .suits .ensures)) (c .if1 .taken)
+wide-requires-3 : tie.Need-wide-requires-3
+wide-requires-3 c κs = search needs
 
-add-i : tie.Need-add-i Inv-loop μ-loop
-add-i c = omega arith
+suits-requires : tie.Need-suits-requires
+suits-requires c κs = search needs
 
-loop-less : tie.Need-loop-less Inv-loop μ-loop
-loop-less c = omega arith
+returns : tie.Need-returns
+returns c =
+    let b₁ = c .before in
+    let b₂ = b₁ .before in
+    let b₃ = b₂ .before .before in
+    let b₄ = b₃ .before .before in
+    let b₅ = b₄ .before .before in
+    let h = b₅ .pre .4 in
+    let (past, free) = both-pass _ _ (c .if1 .taken) in
+    stock-found h _ (passed-below h _ (omega arith) (b₄ .wide .ensures) (ltb-true _ _ past)) (omega arith) (b₃ .wide2 .ensures) (suits-bound (b₂ .wide3 .ensures) (b₁ .suits .ensures)) free
 
-loop-again : tie.Need-loop-again Inv-loop μ-loop
-loop-again c = let l = c .before .before .before .before .before .loop .inv in (omega arith, l .1, λ h. passed-more h _ (l .2 h) (c .before .before .wide2 .ensures) (suits-bound (l .1) (c .before .suits .ensures)) (c .if1 .left))
+search-requires : tie.Need-search-requires
+search-requires c κs = search needs
 
-greater-requires : tie.Need-greater-requires Inv-loop μ-loop
-greater-requires c κs = search needs
-
-scan-requires : tie.Need-scan-requires Inv-loop μ-loop
-scan-requires c κs = let b = c .before .before .before .before .before .pre .3 .bounded in let e = c .before .before .loop .inv .1 in (omega arith, omega arith, omega arith)
-
-returns-2 : tie.Need-returns-2 Inv-loop μ-loop
-returns-2 c = let h = c .before .before .before .before .before .before .pre .3 in let l = c .before .before .before .loop .inv in (c .scan .ensures .0, stock-over h _ (passed-all h _ (l .2 h) (omega arith)) (omega arith) (c .before .greater .ensures ∙ rw (l .1)) (c .scan .ensures .1))
+returns-2 : tie.Need-returns-2
+returns-2 c = search needs
 
 pub next-free-spec : {M : Type 1} → statement M
 next-free-spec =
     tie.close
     (tie.spec
-    Inv-loop
-    μ-loop
+    mul-wide
     element-copy-out-wide
     wide-requires
-    loop-holds
-    mul-wide
+    add-wide
+    mul-wide-2
     element-copy-out-wide-2
     wide-requires-2
+    element-copy-out-wide-3
+    wide-requires-3
     suits-requires
     returns
-    add-i
-    loop-less
-    loop-again
-    greater-requires
-    scan-requires
+    search-requires
     returns-2)
