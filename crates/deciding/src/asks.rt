@@ -6,6 +6,7 @@ ghost use lib.Dec.{eqb};
 ghost use lib.ListN.{length};
 ghost use Rattle.mesh.specs.Picture.{rowWords};
 ghost use Rattle.table.specs.Words.{linkOf, flagOf};
+ghost use Rattle.table.specs.Plain.{Plain};
 ghost use Rattle.deciding.specs.Decide.{parental, kidsDoomed, lacking, otherUnder};
 use table::words::flag;
 use table::words::link;
@@ -40,20 +41,20 @@ pub fn kids_doomed(t: &[i32], cap: usize, n: usize) -> bool
 
 // 1 where the word w of the row n names none, and otherwise 0.
 fn lacks(t: &[i32], cap: usize, n: usize, w: usize) -> usize
-    requires { ⌜ (cap * rowWords + rowWords ≤ length (now t)) × (n ≤ cap) × (w < rowWords) × (cap ≤ 4095) ⌝ }
+    requires { ⌜ (cap * rowWords + rowWords ≤ length (now t)) × (n ≤ cap) × (w < 9) × (cap ≤ 4095) × Plain (now t) cap ⌝ }
     ensures { λ r. ⌜ (r ≤ 1) × (r ≡ cond (eqb (linkOf (now (t .entry)) cap n w) 0) 1 0) ⌝ }
 {
-    if link(t, cap, n, w) == 0 { 1 } else { 0 }
+    if table::plain::link(t, cap, n, w) == 0 { 1 } else { 0 }
 }
 
 // How many of the nine patches that a refinement of the cell n wants are missing.
 pub fn lack_count(t: &[i32], cap: usize, n: usize) -> usize
-    requires { ⌜ (cap * rowWords + rowWords ≤ length (now t)) × (n ≤ cap) × (cap ≤ 4095) ⌝ }
+    requires { ⌜ (cap * rowWords + rowWords ≤ length (now t)) × (n ≤ cap) × (cap ≤ 4095) × Plain (now t) cap ⌝ }
     ensures { λ r. ⌜ (r ≤ 9) × (r ≡ lacking (now (t .entry)) cap n) ⌝ }
 {
-    let north = link(t, cap, n, 5);
-    let east = link(t, cap, n, 6);
-    let far = link(t, cap, east, 5);
+    let north = table::plain::link(t, cap, n, 5);
+    let east = table::plain::link(t, cap, n, 6);
+    let far = table::plain::link(t, cap, east, 5);
     let own = lacks(t, cap, n, 3) + lacks(t, cap, n, 2) + lacks(t, cap, n, 4) + lacks(t, cap, n, 1);
     let above = lacks(t, cap, north, 3) + lacks(t, cap, north, 2);
     let beside = lacks(t, cap, east, 4) + lacks(t, cap, east, 3);

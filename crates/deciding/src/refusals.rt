@@ -5,6 +5,7 @@ ghost use Prim.Native.Nat.{_+_, _*_, _≤_};
 ghost use lib.ListN.{length};
 ghost use Rattle.mesh.specs.Picture.{rowWords};
 ghost use Rattle.mesh.specs.Refusal.{refusal};
+ghost use Rattle.table.specs.Plain.{Plain};
 ghost use Rattle.stock.specs.Free.{Counted};
 ghost use Rattle.deciding.specs.Decide.{row6, row7, refineRefusal, sentenceRefusal, removeRefusal, killRefusal, setRefusal};
 use crate::asks::has_kids;
@@ -29,7 +30,7 @@ fn cell_refusal(t: &[i32], cap: usize, n: usize) -> u32
 
 // With the count of the free numbers, up to nine.
 pub fn refine_refusal(t: &[i32], cap: usize, d: u32, n: usize, spare: usize) -> u32
-    requires { ⌜ (cap * rowWords + rowWords ≤ length (now t)) × (d ≤ 32) × (cap ≤ 4095) × Counted cap (now t) spare ⌝ }
+    requires { ⌜ (cap * rowWords + rowWords ≤ length (now t)) × (d ≤ 32) × (cap ≤ 4095) × Counted cap (now t) spare × Plain (now t) cap ⌝ }
     ensures { λ r. ⌜ r ≡ refineRefusal (now (t .entry)) cap d n ⌝ }
 {
     let r = cell_refusal(t, cap, n);

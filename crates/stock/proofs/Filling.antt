@@ -164,6 +164,13 @@ module _ {cap : ℕ} {t : List ℤ} {s₀ : List ℕ} (h : Stocked cap t [] s₀
   pub next-within : {s : List ℕ} {i w : ℕ} → Moving t s₀ s i w → i < 15 → getD s (i + 1) 0 ≤ cap + 1
   next-within {s} {i} m l = let e = m .same (i + 1) (omega arith) in let a = h .rising .rises (i + 1) 15 (omega arith) (omega arith) in let b = h .bounded in omega arith
 
+  -- from the bound on there is nothing more
+  pub moving-top : {s : List ℕ} {i w k bound : ℕ} → Moving t s₀ s i w → i < 15 → k ≡ getD s i 0 → bound ≡ getD s₀ 15 0 → bound ≤ k → Filling t s w (getD s₀ 15 0)
+  moving-top {s} {i} {w} {k} m l e b a =
+      let x = m .same i (omega arith) in
+      let y = h .rising .rises i 15 (omega arith) (omega arith) in
+      filling-bound (omega arith) (m .filled)
+
   pub moving-done : {s : List ℕ} {i w : ℕ} → Moving t s₀ s i w → 15 ≤ i → Filling t s w (getD s₀ 15 0)
   moving-done {s} {i} {w} m l = let b = m .to in let e : i ≡ 15 = omega arith in rw e at (m .filled)
 

@@ -28,10 +28,14 @@ fn leave_taken(t: &[i32], cap: usize, stock: &mut [u16; 16]) -> usize
     requires { ⌜ (cap * rowWords + rowWords ≤ length (now t)) × (cap ≤ 4095) × Stocked cap (now t) [] (now stock) ⌝ }
     ensures { λ r. ⌜ Filling (now (t .entry)) (now (stock .exit)) r (getD (now (stock .entry)) 15 0) ⌝ }
 {
+    let bound = stock[15];
     let mut i = 0;
     let mut w = 0;
     while i < 15 {
         let k = stock[i];
+        if bound <= k {
+            return w;
+        }
         let next = stock[i + 1];
         stock[w] = k;
         w += counts(t, cap, k, next);

@@ -77,7 +77,7 @@ unfolding refineRefusal
 returns-4 c = refused _ 10 (past-level (c .before .before) (stops (sym (c .before .flag .ensures) ∙ c .if4 .taken)))
 
 lack-count-requires : tie.Need-lack-count-requires
-lack-count-requires c κs = omega (arith, within (c .before .before .before .before .before .before))
+lack-count-requires c κs = let w = within (c .before .before .before .before .before .before) in (omega arith, w, omega arith, c .before .before .before .before .before .before .before .before .pre .4)
 
 returns-5 : tie.Need-returns-5
 unfolding refineRefusal

@@ -4,24 +4,30 @@ use Prim.Native.Nat.{_-_, _≤_}
 use native.Mathlib.Omega.{arith}
 use borrow.Author.Needs.{needs}
 use mathlib.Core.Path.{refl}
-use Rattle.stock.proofs.Filling.{Moving, moving-none, moving-on, next-within, moving-done}
+use Rattle.stock.proofs.Filling.{Moving, moving-none, moving-on, next-within, moving-top, moving-done}
 use Rattle.stock.proofs.restock.leave_taken.Statement.{statement}
 use Rattle.stock.proofs.restock.leave_taken.Tie as tie
 
 abbrev Inv-loop : tie.InvT-loop
-Inv-loop t cap stock₀ i₀ w₀ stock i w = Moving t stock₀ stock i w
+Inv-loop t cap stock₀ bound i₀ w₀ stock i w = Moving t stock₀ stock i w
 
 abbrev μ-loop : tie.MeasureT-loop
-μ-loop t cap stock₀ i₀ w₀ stock i w = 15 - i
+μ-loop t cap stock₀ bound i₀ w₀ stock i w = 15 - i
+
+element-copy-out-bound : tie.Need-element-copy-out-bound Inv-loop μ-loop
+element-copy-out-bound c = omega arith
 
 loop-holds : tie.Need-loop-holds Inv-loop μ-loop
-loop-holds c = moving-none (c .pre .2)
+loop-holds c = moving-none (c .before .pre .2)
 
 mul-k : tie.Need-mul-k Inv-loop μ-loop
 mul-k c = omega arith
 
 element-copy-out-k : tie.Need-element-copy-out-k Inv-loop μ-loop
 element-copy-out-k c = omega arith
+
+returns : tie.Need-returns Inv-loop μ-loop
+returns c = moving-top (c .before .before .before .before .before .pre .2) (c .before .before .before .loop .inv) (omega arith) refl refl (omega arith)
 
 add-next : tie.Need-add-next Inv-loop μ-loop
 add-next c = omega arith
@@ -33,16 +39,16 @@ element-copy-out-next : tie.Need-element-copy-out-next Inv-loop μ-loop
 element-copy-out-next c = omega arith
 
 mul-stock : tie.Need-mul-stock Inv-loop μ-loop
-mul-stock c = let l = c .before .before .before .loop .inv in omega (arith, l .behind, l .to)
+mul-stock c = let l = c .before .before .before .before .loop .inv in omega (arith, l .behind, l .to)
 
 element-write-stock : tie.Need-element-write-stock Inv-loop μ-loop
-element-write-stock c = let l = c .before .before .before .loop .inv in omega (arith, l .behind, l .to)
+element-write-stock c = let l = c .before .before .before .before .loop .inv in omega (arith, l .behind, l .to)
 
 counts-requires : tie.Need-counts-requires Inv-loop μ-loop
-counts-requires c κs = (omega arith, omega arith, next-within (c .before .before .before .before .pre .2) (c .before .before .before .loop .inv) (omega arith))
+counts-requires c κs = (omega arith, omega arith, next-within (c .before .before .before .before .before .before .pre .2) (c .before .before .before .before .loop .inv) (omega arith))
 
 add-w : tie.Need-add-w Inv-loop μ-loop
-add-w c = let l = c .before .before .before .before .loop .inv in let o = c .counts .ensures .once in omega (arith, l .behind, l .to)
+add-w c = let l = c .before .before .before .before .before .loop .inv in let o = c .counts .ensures .once in omega (arith, l .behind, l .to)
 
 add-i : tie.Need-add-i Inv-loop μ-loop
 add-i c = omega arith
@@ -51,10 +57,10 @@ loop-less : tie.Need-loop-less Inv-loop μ-loop
 loop-less c = omega arith
 
 loop-again : tie.Need-loop-again Inv-loop μ-loop
-loop-again c = moving-on (c .before .before .before .before .before .pre .2) (c .before .before .before .before .loop .inv) (omega arith) refl refl refl (c .counts .ensures)
+loop-again c = moving-on (c .before .before .before .before .before .before .before .pre .2) (c .before .before .before .before .before .loop .inv) (omega arith) refl refl refl (c .counts .ensures)
 
-returns : tie.Need-returns Inv-loop μ-loop
-returns c = moving-done (c .before .before .pre .2) (c .before .loop .inv) (omega arith)
+returns-2 : tie.Need-returns-2 Inv-loop μ-loop
+returns-2 c = moving-done (c .before .before .before .pre .2) (c .before .loop .inv) (omega arith)
 
 pub leave-taken-spec : {M : Type 1} → statement M
 leave-taken-spec =
@@ -62,9 +68,11 @@ leave-taken-spec =
     (tie.spec
     Inv-loop
     μ-loop
+    element-copy-out-bound
     loop-holds
     mul-k
     element-copy-out-k
+    returns
     add-next
     mul-next
     element-copy-out-next
@@ -75,4 +83,4 @@ leave-taken-spec =
     add-i
     loop-less
     loop-again
-    returns)
+    returns-2)
