@@ -72,10 +72,11 @@ pub fn next_free(t: &[i32], cap: usize, low: usize, stock: &[u16; 16], last: usi
     requires { ⌜ (cap * rowWords + rowWords ≤ length (now t)) × (cap ≤ 4095) × (low ≤ cap + 1) × (last < 14) × Stocked cap (now t) [] (now stock) ⌝ }
     ensures { λ r. ⌜ (r ≤ cap) × (r ≡ freeFrom (now (t .entry)) (cap + 1 - low) low) ⌝ }
 {
-    let past = wide(stock[last]) < low;
+    if wide(stock[last]) >= low {
+        return search(t, cap, low, stock);
+    }
     let k = wide(stock[last + 1]);
-    let next = past & suits(t, cap, low, wide(stock[15]), k);
-    if next {
+    if suits(t, cap, low, wide(stock[15]), k) {
         return k;
     }
     search(t, cap, low, stock)

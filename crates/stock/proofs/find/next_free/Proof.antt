@@ -2,8 +2,6 @@
 -- Assumes nothing.
 use native.Mathlib.Omega.{arith}
 use borrow.Author.Needs.{needs}
-use borrow.Author.Tests.{ltb-true}
-use Rattle.table.proofs.Tests.{both-pass}
 use Rattle.stock.proofs.Searching.{passed-below, suits-bound, stock-found}
 use Rattle.stock.proofs.find.next_free.Statement.{statement}
 use Rattle.stock.proofs.find.next_free.Tie as tie
@@ -16,6 +14,12 @@ element-copy-out-wide c = search needs
 
 wide-requires : tie.Need-wide-requires
 wide-requires c κs = search needs
+
+search-requires : tie.Need-search-requires
+search-requires c κs = search needs
+
+returns : tie.Need-returns
+returns c = search needs
 
 add-wide : tie.Need-add-wide
 add-wide c = search needs
@@ -38,22 +42,21 @@ wide-requires-3 c κs = search needs
 suits-requires : tie.Need-suits-requires
 suits-requires c κs = search needs
 
-returns : tie.Need-returns
-returns c =
+returns-2 : tie.Need-returns-2
+returns-2 c =
     let b₁ = c .before in
     let b₂ = b₁ .before in
     let b₃ = b₂ .before .before in
     let b₄ = b₃ .before .before in
-    let b₅ = b₄ .before .before in
-    let h = b₅ .pre .4 in
-    let (past, free) = both-pass _ _ (c .if1 .taken) in
-    stock-found h _ (passed-below h _ (omega arith) (b₄ .wide .ensures) (ltb-true _ _ past)) (omega arith) (b₃ .wide2 .ensures) (suits-bound (b₂ .wide3 .ensures) (b₁ .suits .ensures)) free
+    let b₅ = b₄ .before in
+    let h = b₅ .before .before .pre .4 in
+    stock-found h _ (passed-below h _ (omega arith) (b₅ .wide .ensures) (omega arith)) (omega arith) (b₃ .wide2 .ensures) (suits-bound (b₂ .wide3 .ensures) (b₁ .suits .ensures)) (c .if2 .taken)
 
-search-requires : tie.Need-search-requires
-search-requires c κs = search needs
+search-requires-2 : tie.Need-search-requires-2
+search-requires-2 c κs = search needs
 
-returns-2 : tie.Need-returns-2
-returns-2 c = search needs
+returns-3 : tie.Need-returns-3
+returns-3 c = search needs
 
 pub next-free-spec : {M : Type 1} → statement M
 next-free-spec =
@@ -62,6 +65,8 @@ next-free-spec =
     mul-wide
     element-copy-out-wide
     wide-requires
+    search-requires
+    returns
     add-wide
     mul-wide-2
     element-copy-out-wide-2
@@ -69,6 +74,6 @@ next-free-spec =
     element-copy-out-wide-3
     wide-requires-3
     suits-requires
-    returns
-    search-requires
-    returns-2)
+    returns-2
+    search-requires-2
+    returns-3)
