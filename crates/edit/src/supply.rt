@@ -1,10 +1,11 @@
 // The kids that a refinement wants, with the smallest free numbers in turn.
 ghost use mathlib.Core.Path.{_≡_};
 ghost use mathlib.Core.List.{[]};
-ghost use Prim.Native.Nat.{_+_, _*_, _<_, _≤_};
+ghost use Prim.Native.Nat.{_+_, _-_, _*_, _<_, _≤_};
 ghost use lib.ListN.{length};
 ghost use Rattle.mesh.specs.Picture.{rowWords};
 ghost use Rattle.table.specs.Plain.{Plain};
+ghost use Rattle.stock.specs.Free.{freeFrom};
 ghost use Rattle.stock.specs.Stock.{Stocked};
 ghost use Rattle.editing.specs.Tables.{spot, kidSpots, supplied, suppliedAll};
 ghost use Rattle.edit.specs.Small.{AllSmall};
@@ -13,8 +14,7 @@ use crate::spots::kid;
 use crate::steps::link_in;
 use stock::find::next_free;
 
-// Links in the kid l, m of the row p, unless it is there; the next number to look for free ones from. The one before it may have taken the number at the
-// place last of the stock.
+// Links in the kid l, m of the row p under the number k, the next free one from low on, unless it is there; where to look for the next one from.
 fn supply(
     t: &mut [i32],
     cap: usize,
@@ -22,17 +22,15 @@ fn supply(
     p: usize,
     l: u32,
     m: u32,
-    stock: &[u16; 16],
+    k: usize,
     low: usize,
-    last: usize,
 ) -> usize
-    requires { ⌜ (cap * rowWords + rowWords ≤ length (now t)) × (cap ≤ 4095) × (p ≤ cap) × (d ≤ 32) × (l < 2) × (m < 2) × (low ≤ cap + 1) × AllSmall 1073741824 (now t) cap d × Stocked cap (now t) [] (now stock) × Plain (now t) cap × (last < 14) ⌝ }
+    requires { ⌜ (cap * rowWords + rowWords ≤ length (now t)) × (cap ≤ 4095) × (p ≤ cap) × (d ≤ 32) × (l < 2) × (m < 2) × (low ≤ cap + 1) × AllSmall 1073741824 (now t) cap d × (k ≤ cap) × Plain (now t) cap × (k ≡ freeFrom (now t) (cap + 1 - low) low) ⌝ }
     ensures { λ r. ⌜ (r ≤ cap + 1) × (lending (now (t .exit)) r ≡ supplied cap d (spot p l m) (lending (now (t .entry)) low)) × Plain (now (t .exit)) cap ⌝ }
 {
     if kid(t, cap, p, l, m) != 0 {
         return low;
     }
-    let k = next_free(t, cap, low, stock, last);
     link_in(t, cap, d, p, l, m, k);
     k + 1
 }
@@ -49,10 +47,14 @@ pub fn supply_kids(
     requires { ⌜ (cap * rowWords + rowWords ≤ length (now t)) × (cap ≤ 4095) × (n ≤ cap) × (d ≤ 32) × (low ≤ cap + 1) × AllSmall 1048576 (now t) cap d × Stocked cap (now t) [] (now stock) × Plain (now t) cap ⌝ }
     ensures { λ r. ⌜ (r ≤ cap + 1) × (lending (now (t .exit)) r ≡ suppliedAll cap d (kidSpots (now (t .entry)) cap n) (lending (now (t .entry)) low)) × Plain (now (t .exit)) cap ⌝ }
 {
-    let a = supply(t, cap, d, n, 0, 0, stock, low, 0);
-    let b = supply(t, cap, d, n, 1, 0, stock, a, 0);
-    let c = supply(t, cap, d, n, 0, 1, stock, b, 1);
-    supply(t, cap, d, n, 1, 1, stock, c, 2)
+    let g = next_free(t, cap, low, stock, 0);
+    let a = supply(t, cap, d, n, 0, 0, g, low);
+    let h = next_free(t, cap, a, stock, 0);
+    let b = supply(t, cap, d, n, 1, 0, h, a);
+    let i = next_free(t, cap, b, stock, 1);
+    let c = supply(t, cap, d, n, 0, 1, i, b);
+    let j = next_free(t, cap, c, stock, 2);
+    supply(t, cap, d, n, 1, 1, j, c)
 }
 
 // The others that the kids want: of the row north SW, SE; of the row east NW, SW; of the row north-east SW.
@@ -69,9 +71,14 @@ pub fn supply_corners(
     requires { ⌜ (cap * rowWords + rowWords ≤ length (now t)) × (cap ≤ 4095) × (north ≤ cap) × (east ≤ cap) × (both ≤ cap) × (d ≤ 32) × (low ≤ cap + 1) × AllSmall 16777216 (now t) cap d × Stocked cap (now t) [] (now stock) × Plain (now t) cap ⌝ }
     ensures { λ r. ⌜ (r ≤ cap + 1) × (lending (now (t .exit)) r ≡ suppliedAll cap d (cornerSpots north east both) (lending (now (t .entry)) low)) × Plain (now (t .exit)) cap ⌝ }
 {
-    let a = supply(t, cap, d, north, 0, 0, stock, low, 3);
-    let b = supply(t, cap, d, north, 1, 0, stock, a, 4);
-    let c = supply(t, cap, d, east, 0, 1, stock, b, 5);
-    let e = supply(t, cap, d, east, 0, 0, stock, c, 6);
-    supply(t, cap, d, both, 0, 0, stock, e, 7)
+    let g = next_free(t, cap, low, stock, 3);
+    let a = supply(t, cap, d, north, 0, 0, g, low);
+    let h = next_free(t, cap, a, stock, 4);
+    let b = supply(t, cap, d, north, 1, 0, h, a);
+    let i = next_free(t, cap, b, stock, 5);
+    let c = supply(t, cap, d, east, 0, 1, i, b);
+    let j = next_free(t, cap, c, stock, 6);
+    let e = supply(t, cap, d, east, 0, 0, j, c);
+    let k = next_free(t, cap, e, stock, 7);
+    supply(t, cap, d, both, 0, 0, k, e)
 }

@@ -15,22 +15,10 @@ same-length c = search needs
 returns : tie.Need-returns
 returns c = (omega arith, supplied-there _ _ _ _ _ _ _ (c .before .kid .ensures .1) (c .if1 .taken), c .before .before .before .pre .9)
 
-next-free-requires : tie.Need-next-free-requires
-next-free-requires c κs = search needs
-
 link-in-requires : tie.Need-link-in-requires
-link-in-requires c κs = (
-  omega arith,
-  omega arith,
-  omega arith,
-  omega arith,
-  omega arith,
-  omega arith,
-  omega arith,
-  let b₁ = c .before .before .before .before .before .before in
-      b₁ .pre .7 (b₁ .args .p) (b₁ .pre .2),
-  c .before .before .before .before .before .before .pre .9,
-)
+link-in-requires c κs =
+    let b = c .before .before .before .before in
+    (omega arith, omega arith, omega arith, omega arith, omega arith, omega arith, omega arith, b .pre .7 (b .args .p) (b .pre .2), b .pre .9)
 
 add-result : tie.Need-add-result
 add-result c = search needs
@@ -39,15 +27,12 @@ same-length-2 : tie.Need-same-length-2
 same-length-2 c = search needs
 
 returns-2 : tie.Need-returns-2
-returns-2 c = (
-  omega arith,
-  let b₁ = c .before in
-      let b₂ = b₁ .before .before in
-      let b₃ = b₂ .before .before in
-      let b₄ = b₃ .before in
-      supplied-new _ _ _ _ _ _ _ (b₄ .kid .ensures .1) (b₃ .if1 .left) (b₂ .next-free .ensures .1) (b₁ .link-in .ensures .0),
-  c .before .link-in .ensures .1,
-)
+returns-2 c =
+    let b₁ = c .before in
+    let b₂ = b₁ .before .before in
+    let b₃ = b₂ .before in
+    let pre = b₃ .before .before .pre in
+    (omega arith, supplied-new _ _ _ _ _ _ _ (b₃ .kid .ensures .1) (b₂ .if1 .left) (pre .10) (b₁ .link-in .ensures .0), b₁ .link-in .ensures .1)
 
 pub supply-spec : {M : Type 1} → statement M
 supply-spec =
@@ -56,7 +41,6 @@ supply-spec =
     kid-requires
     same-length
     returns
-    next-free-requires
     link-in-requires
     add-result
     same-length-2

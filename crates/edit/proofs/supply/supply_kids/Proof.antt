@@ -8,77 +8,94 @@ use Rattle.edit.proofs.Supplying.{stock-after}
 use Rattle.edit.proofs.supply.supply_kids.Statement.{statement}
 use Rattle.edit.proofs.supply.supply_kids.Tie as tie
 
+next-free-requires : tie.Need-next-free-requires
+next-free-requires c κs = (omega arith, omega arith, omega arith, omega arith, c .before .pre .6)
+
 supply-requires : tie.Need-supply-requires
-supply-requires c κs = (omega arith, omega arith, omega arith, omega arith, omega arith, omega arith, omega arith, all-more 1048576 _ _ _ _ (c .before .pre .5) (omega arith), c .before .pre .6, c .before .pre .7, omega arith)
+supply-requires c κs =
+    let f₁ = c .before in
+    let pre = f₁ .before .before .pre in
+    (omega arith, omega arith, omega arith, omega arith, omega arith, omega arith, omega arith, all-more 1048576 _ _ _ _ (pre .5) (omega arith), f₁ .next-free .ensures .0, pre .7, f₁ .next-free .ensures .1)
+
+next-free-requires-2 : tie.Need-next-free-requires-2
+next-free-requires-2 c κs =
+    let s₁ = c .before .before in
+    let f₁ = s₁ .before .before in
+    let pre = f₁ .before .before .pre in
+    (omega arith, omega arith, omega arith, omega arith, stock-after _ _ _ _ _ (pre .6) (s₁ .supply .ensures .1) (omega arith))
 
 supply-requires-2 : tie.Need-supply-requires-2
-supply-requires-2 c κs = (omega arith, omega arith, omega arith, omega arith, omega arith, omega arith, omega arith, all-more 2097152 _ _ _ _ (small-after 1048576 _ _ _ _ _ _ _ (c .before .before .before .before .pre .5) (c .before .before .supply .ensures .1) (c .before .before .before .before .pre .2) (omega arith) (omega arith) (omega arith)) (omega arith), stock-after _ _ _ _ _ (c .before .before .before .before .pre .6) (c .before .before .supply .ensures .1) (omega arith), c .before .before .supply .ensures .2, omega arith)
+supply-requires-2 c κs =
+    let f₂ = c .before in
+    let s₁ = f₂ .before .before .before in
+    let f₁ = s₁ .before .before in
+    let pre = f₁ .before .before .pre in
+    (omega arith, omega arith, omega arith, omega arith, omega arith, omega arith, omega arith, all-more 2097152 _ _ _ _ (small-after 1048576 _ _ _ _ _ _ _ (pre .5) (s₁ .supply .ensures .1) (pre .2) (omega arith) (omega arith) (omega arith)) (omega arith), f₂ .next-free2 .ensures .0, s₁ .supply .ensures .2, f₂ .next-free2 .ensures .1)
+
+next-free-requires-3 : tie.Need-next-free-requires-3
+next-free-requires-3 c κs =
+    let s₂ = c .before .before in
+    let f₂ = s₂ .before .before in
+    let s₁ = f₂ .before .before .before in
+    let f₁ = s₁ .before .before in
+    let pre = f₁ .before .before .pre in
+    (omega arith, omega arith, omega arith, omega arith, stock-after _ _ _ _ _ (stock-after _ _ _ _ _ (pre .6) (s₁ .supply .ensures .1) (omega arith)) (s₂ .supply2 .ensures .1) (omega arith))
 
 supply-requires-3 : tie.Need-supply-requires-3
-supply-requires-3 c κs = (
-  omega arith,
-  omega arith,
-  omega arith,
-  omega arith,
-  omega arith,
-  omega arith,
-  omega arith,
-  let b₁ = c .before .before in
-      let b₂ = b₁ .before .before .before in
-      let b₃ = b₂ .before .before in
-      all-more 4194304 _ _ _ _ (small-after 2097152 _ _ _ _ _ _ _ (small-after 1048576 _ _ _ _ _ _ _ (b₃ .pre .5) (b₂ .supply .ensures .1) (b₃ .pre .2) (omega arith) (omega arith) (omega arith)) (b₁ .supply2 .ensures .1) (b₃ .pre .2) (omega arith) (omega arith) (omega arith)) (omega arith),
-  let b₁ = c .before .before in
-      let b₂ = b₁ .before .before .before in
-      let b₃ = b₂ .before .before in
-      stock-after _ _ _ _ _ (stock-after _ _ _ _ _ (b₃ .pre .6) (b₂ .supply .ensures .1) (omega arith)) (b₁ .supply2 .ensures .1) (omega arith),
-  c .before .before .supply2 .ensures .2,
-  omega arith,
-)
+supply-requires-3 c κs =
+    let f₃ = c .before in
+    let s₂ = f₃ .before .before .before in
+    let f₂ = s₂ .before .before in
+    let s₁ = f₂ .before .before .before in
+    let f₁ = s₁ .before .before in
+    let pre = f₁ .before .before .pre in
+    (omega arith, omega arith, omega arith, omega arith, omega arith, omega arith, omega arith, all-more 4194304 _ _ _ _ (small-after 2097152 _ _ _ _ _ _ _ (small-after 1048576 _ _ _ _ _ _ _ (pre .5) (s₁ .supply .ensures .1) (pre .2) (omega arith) (omega arith) (omega arith)) (s₂ .supply2 .ensures .1) (pre .2) (omega arith) (omega arith) (omega arith)) (omega arith), f₃ .next-free3 .ensures .0, s₂ .supply2 .ensures .2, f₃ .next-free3 .ensures .1)
+
+next-free-requires-4 : tie.Need-next-free-requires-4
+next-free-requires-4 c κs =
+    let s₃ = c .before .before in
+    let f₃ = s₃ .before .before in
+    let s₂ = f₃ .before .before .before in
+    let f₂ = s₂ .before .before in
+    let s₁ = f₂ .before .before .before in
+    let f₁ = s₁ .before .before in
+    let pre = f₁ .before .before .pre in
+    (omega arith, omega arith, omega arith, omega arith, stock-after _ _ _ _ _ (stock-after _ _ _ _ _ (stock-after _ _ _ _ _ (pre .6) (s₁ .supply .ensures .1) (omega arith)) (s₂ .supply2 .ensures .1) (omega arith)) (s₃ .supply3 .ensures .1) (omega arith))
 
 supply-requires-4 : tie.Need-supply-requires-4
-supply-requires-4 c κs = (
-  omega arith,
-  omega arith,
-  omega arith,
-  omega arith,
-  omega arith,
-  omega arith,
-  omega arith,
-  let b₁ = c .before .before in
-      let b₂ = b₁ .before .before .before in
-      let b₃ = b₂ .before .before .before in
-      let b₄ = b₃ .before .before in
-      all-more 8388608 _ _ _ _ (small-after 4194304 _ _ _ _ _ _ _ (small-after 2097152 _ _ _ _ _ _ _ (small-after 1048576 _ _ _ _ _ _ _ (b₄ .pre .5) (b₃ .supply .ensures .1) (b₄ .pre .2) (omega arith) (omega arith) (omega arith)) (b₂ .supply2 .ensures .1) (b₄ .pre .2) (omega arith) (omega arith) (omega arith)) (b₁ .supply3 .ensures .1) (b₄ .pre .2) (omega arith) (omega arith) (omega arith)) (omega arith),
-  let b₁ = c .before .before in
-      let b₂ = b₁ .before .before .before in
-      let b₃ = b₂ .before .before .before in
-      let b₄ = b₃ .before .before in
-      stock-after _ _ _ _ _ (stock-after _ _ _ _ _ (stock-after _ _ _ _ _ (b₄ .pre .6) (b₃ .supply .ensures .1) (omega arith)) (b₂ .supply2 .ensures .1) (omega arith)) (b₁ .supply3 .ensures .1) (omega arith),
-  c .before .before .supply3 .ensures .2,
-  omega arith,
-)
+supply-requires-4 c κs =
+    let f₄ = c .before in
+    let s₃ = f₄ .before .before .before in
+    let f₃ = s₃ .before .before in
+    let s₂ = f₃ .before .before .before in
+    let f₂ = s₂ .before .before in
+    let s₁ = f₂ .before .before .before in
+    let f₁ = s₁ .before .before in
+    let pre = f₁ .before .before .pre in
+    (omega arith, omega arith, omega arith, omega arith, omega arith, omega arith, omega arith, all-more 8388608 _ _ _ _ (small-after 4194304 _ _ _ _ _ _ _ (small-after 2097152 _ _ _ _ _ _ _ (small-after 1048576 _ _ _ _ _ _ _ (pre .5) (s₁ .supply .ensures .1) (pre .2) (omega arith) (omega arith) (omega arith)) (s₂ .supply2 .ensures .1) (pre .2) (omega arith) (omega arith) (omega arith)) (s₃ .supply3 .ensures .1) (pre .2) (omega arith) (omega arith) (omega arith)) (omega arith), f₄ .next-free4 .ensures .0, s₃ .supply3 .ensures .2, f₄ .next-free4 .ensures .1)
 
 same-length : tie.Need-same-length
 same-length c = search needs
 
 returns : tie.Need-returns
-returns c = (
-  omega arith,
-  let b₁ = c .before in
-      let b₂ = b₁ .before .before .before in
-      let b₃ = b₂ .before .before .before in
-      let b₄ = b₃ .before .before .before in
-      supply-more _ _ _ _ _ (b₄ .supply .ensures .1) (supply-more _ _ _ _ _ (b₃ .supply2 .ensures .1) (supply-more _ _ _ _ _ (b₂ .supply3 .ensures .1) (supply-more _ _ _ _ _ (b₁ .supply4 .ensures .1) (supply-none _ _ _)))),
-  c .before .supply4 .ensures .2,
-)
+returns c =
+    let s₄ = c .before in
+    let s₃ = s₄ .before .before .before .before .before in
+    let s₂ = s₃ .before .before .before .before .before in
+    let s₁ = s₂ .before .before .before .before .before in
+    (omega arith, supply-more _ _ _ _ _ (s₁ .supply .ensures .1) (supply-more _ _ _ _ _ (s₂ .supply2 .ensures .1) (supply-more _ _ _ _ _ (s₃ .supply3 .ensures .1) (supply-more _ _ _ _ _ (s₄ .supply4 .ensures .1) (supply-none _ _ _)))), s₄ .supply4 .ensures .2)
 
 pub supply-kids-spec : {M : Type 1} → statement M
 supply-kids-spec =
     tie.close
     (tie.spec
+    next-free-requires
     supply-requires
+    next-free-requires-2
     supply-requires-2
+    next-free-requires-3
     supply-requires-3
+    next-free-requires-4
     supply-requires-4
     same-length
     returns)
