@@ -11,6 +11,7 @@ use Rattle.geometry.proofs.Bools.{is-yes}
 use Rattle.table.specs.Words.{wordOf}
 use Rattle.editing.specs.Steps.{linkIn}
 use Rattle.table.specs.Plain.{Plain}
+use Rattle.table.proofs.Links.{level-from}
 use Rattle.edit.specs.Small.{Small}
 use Rattle.edit.proofs.PlainRows.{linked-plain}
 use Rattle.editing.proofs.Growing.{dark}
@@ -39,7 +40,7 @@ module _ (g : Grid) (cap d : ℕ) where
     kid-new h e = rw (← test-is, just-so there h, e)
 
   pub kid-small : {up p l m k : ℕ} {t : List ℤ} → Able g cap d up p l m (growth t k) → Small 1073741824 t d p
-  kid-small a = record { col = omega (arith, a .col); row = omega (arith, a .row); depth = omega (arith, a .depth) }
+  kid-small a = record { col = omega (arith, a .col); row = omega (arith, a .row); level = level-from _ _ _ (omega (arith, a .depth)); depth = omega (arith, a .depth) }
 
 -- the table between two kids is a linked one without a flag
 pub kids-plain : {g : Grid} {cap up p k : ℕ} {ws : List Wind} {t : List ℤ} → KidsToGrow g cap up p ws (growth t k) → Plain t cap

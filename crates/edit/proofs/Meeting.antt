@@ -18,6 +18,7 @@ use Rattle.mesh.specs.Picture.{rowWords, table}
 use Rattle.geometry.proofs.Base.{base-range, patch-inside, ghost-inside}
 use Rattle.geometry.proofs.Tree.{patch-high}
 use Rattle.table.specs.Words.{wordOf, depthOf}
+use Rattle.table.proofs.Links.{level-from}
 use Rattle.pictures.proofs.Rows.{table-length}
 use Rattle.pictures.proofs.Pictured.{word-col, word-row, depth-within, free-words, nil-words}
 use Rattle.edit.specs.Small.{Small, AllSmall}
@@ -28,7 +29,7 @@ picture-long {s} v = omega (arith, table-length s, v .sizes)
 -- a row without a patch is all 0, so that it says level 0
 small-zero : (t : List ℤ) (d n : ℕ) → d ≤ 6 → ((w : ℕ) → w < 12 → wordOf t n w ≡ 0) → Small 1048576 t d n
 unfolding depthOf
-small-zero t d n h z = record { col = rw (z 10 (omega arith)) (omega arith); row = rw (z 11 (omega arith)) (omega arith); depth = rw (z 9 (omega arith)) (omega arith) }
+small-zero t d n h z = record { col = rw (z 10 (omega arith)) (omega arith); row = rw (z 11 (omega arith)) (omega arith); level = rw (z 9 (omega arith)) (omega arith); depth = rw (z 9 (omega arith)) (omega arith) }
 
 module _ {s : State} (v : Valid s) where
   abbrev g : Grid
@@ -65,4 +66,4 @@ module _ {s : State} (v : Valid s) where
           let high = patch-high g (cells (s .entries)) (v .mesh) p t in
           let low = base-range g (v .rectangle) .1 in
           let (i, j) = place-small p t in
-          record { col = rw (word-col s n p h) i; row = rw (word-row s n p h) j; depth = rw (depth-within s n p h low high) (omega arith) }
+          record { col = rw (word-col s n p h) i; row = rw (word-row s n p h) j; level = level-from (table s) (base g) n (rw (depth-within s n p h low high) (omega arith)); depth = rw (depth-within s n p h low high) (omega arith) }

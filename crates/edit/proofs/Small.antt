@@ -13,7 +13,7 @@ use Rattle.mesh.specs.Winds.{wordOfWind}
 use Rattle.mesh.specs.Picture.{rowWords}
 use Rattle.table.specs.Words.{code, wordOf, depthFrom, depthOf}
 use Rattle.table.specs.Worked.{kidWord, sideOf}
-use Rattle.table.proofs.Links.{depth-back}
+use Rattle.table.proofs.Links.{depth-back, level-of}
 use Rattle.pictures.proofs.Linked.{kid-word-lt}
 use Rattle.editing.specs.Steps.{putWord, linkSide, placeIn, linkIn}
 use Rattle.stock.specs.Free.{freeFrom}
@@ -30,7 +30,7 @@ keeps-side t cap k w = keeps-then (keeps-put t k (wordOfWind w) (sideOf t cap k 
 
 keeps-small : {b d n : ℕ} {t u : List ℤ} → Keeps t u → Small b t d n → Small b u d n
 unfolding depthOf
-keeps-small {b} {d} {n} f s = record { col = rw (f .same n 10 (omega arith) (omega arith)) (s .col); row = rw (f .same n 11 (omega arith) (omega arith)) (s .row); depth = rw (f .same n 9 (omega arith) (omega arith)) (s .depth) }
+keeps-small {b} {d} {n} f s = record { col = rw (f .same n 10 (omega arith) (omega arith)) (s .col); row = rw (f .same n 11 (omega arith) (omega arith)) (s .row); level = rw (f .same n 9 (omega arith) (omega arith)) (s .level); depth = rw (f .same n 9 (omega arith) (omega arith)) (s .depth) }
 
 -- ---- a new row
 
@@ -81,17 +81,27 @@ module _ (b : ℕ) (t : List ℤ) (d p l m k : ℕ) (lh : l < 2) (mh : m < 2) (b
         let new : 2 * wordOf t p 11 + m < 2 * b = omega (arith, s .row) in
         subst (λ x. x < 2 * b) (sym after) (word-either t₃ k 11 (pos (2 * wordOf t p 11 + m)) n 11 (λ x. x < 2 * b) new there)
 
+    after : wordOf t₆ n 9 ≡ wordOf t₂ n 9
+    after = kid-last 9 (omega arith) (omega arith) ∙ word-other t₄ k 12 (pos 0) n 9 (omega arith) (omega arith) (λ e. omega arith) ∙ word-other t₃ k 11 _ n 9 (omega arith) (omega arith) (λ e. omega arith) ∙ word-other t₂ k 10 _ n 9 (omega arith) (omega arith) (λ e. omega arith)
+
+    before : wordOf t₁ n 9 ≡ wordOf t n 9
+    before = word-other t k 0 _ n 9 (omega arith) (omega arith) (λ e. omega arith)
+
+    level-placed : wordOf t₆ n 9 < 2147483648 + d
+    level-placed =
+        let there : wordOf t₁ n 9 < 2147483648 + d = subst (λ x. x < 2147483648 + d) (sym before) (o .level) in
+        let new : code (subℕ (depthOf t d p + 1) d) < 2147483648 + d = level-of d (depthOf t d p + 1) (omega (arith, s .depth)) in
+        subst (λ x. x < 2147483648 + d) (sym after) (word-either t₁ k 9 (subℕ (depthOf t d p + 1) d) n 9 (λ x. x < 2147483648 + d) new there)
+
     depth-placed : depthOf t₆ d n < 2 * b
     depth-placed =
-        let after : wordOf t₆ n 9 ≡ wordOf t₂ n 9 = kid-last 9 (omega arith) (omega arith) ∙ word-other t₄ k 12 (pos 0) n 9 (omega arith) (omega arith) (λ e. omega arith) ∙ word-other t₃ k 11 _ n 9 (omega arith) (omega arith) (λ e. omega arith) ∙ word-other t₂ k 10 _ n 9 (omega arith) (omega arith) (λ e. omega arith) in
-        let before : wordOf t₁ n 9 ≡ wordOf t n 9 = word-other t k 0 _ n 9 (omega arith) (omega arith) (λ e. omega arith) in
         let there : depthFrom d (wordOf t₁ n 9) < 2 * b = subst (λ x. depthFrom d x < 2 * b) (sym before) (deep t d n (o .depth)) in
         let new : depthFrom d (code (subℕ (depthOf t d p + 1) d)) < 2 * b = subst (λ x. x < 2 * b) (sym (depth-back d (depthOf t d p + 1) (omega (arith, s .depth)))) (omega (arith, s .depth)) in
         depth-as t₆ d n (subst (λ x. depthFrom d x < 2 * b) (sym after) (word-either t₁ k 9 (subℕ (depthOf t d p + 1) d) n 9 (λ x. depthFrom d x < 2 * b) new there))
 
     small-placed : Small (2 * b) (placeIn t d p l m k) d n
     unfolding placeIn
-    small-placed = record { col = col-placed; row = row-placed; depth = depth-placed }
+    small-placed = record { col = col-placed; row = row-placed; level = level-placed; depth = depth-placed }
 
   small-linked : (cap n : ℕ) → Small b t d n → Small (2 * b) (linkIn t cap d p l m k) d n
   unfolding linkIn
@@ -100,7 +110,7 @@ module _ (b : ℕ) (t : List ℤ) (d p l m k : ℕ) (lh : l < 2) (mh : m < 2) (b
 -- ---- the rows of a table
 
 small-more : {b e : ℕ} {t : List ℤ} {d n : ℕ} → b ≤ e → Small b t d n → Small e t d n
-small-more h s = record { col = omega (arith, s .col); row = omega (arith, s .row); depth = omega (arith, s .depth) }
+small-more h s = record { col = omega (arith, s .col); row = omega (arith, s .row); level = s .level; depth = omega (arith, s .depth) }
 
 pub all-more : (b e : ℕ) (t : List ℤ) (cap d : ℕ) → AllSmall b t cap d → b ≤ e → AllSmall e t cap d
 all-more b e t cap d s h n l = small-more h (s n l)

@@ -1,6 +1,6 @@
--- Rows whose indices and depth are small enough that those of a kid fit a word.
+-- Rows whose indices and depth are small enough that those of a kid fit a word, and whose level is not below that of depth 0.
 -- Assumes nothing.
-use Prim.Native.Nat.{ℕ, _<_, _≤_}
+use Prim.Native.Nat.{ℕ, _+_, _<_, _≤_}
 use mathlib.Core.List.{List}
 use lib.IntN.{ℤ}
 use Rattle.table.specs.Words.{wordOf, depthOf}
@@ -8,6 +8,7 @@ use Rattle.table.specs.Words.{wordOf, depthOf}
 pub record Small (b : ℕ) (t : List ℤ) (d n : ℕ) : Type 0 where
   pub col : wordOf t n 10 < b
   pub row : wordOf t n 11 < b
+  pub level : wordOf t n 9 < 2147483648 + d
   pub depth : depthOf t d n < b
 
 -- every row of the table is

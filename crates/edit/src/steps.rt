@@ -11,7 +11,6 @@ ghost use Rattle.edit.specs.Links.{linkBy};
 ghost use Rattle.edit.specs.Small.{Small};
 use table::plain;
 use table::plain::link;
-use table::words::depth;
 use table::words::word;
 use table::worked::kid_word;
 use table::worked::side_by;
@@ -47,7 +46,7 @@ fn place_in(t: &mut [i32], d: u32, p: usize, l: u32, m: u32, k: usize)
     requires { ⌜ (p * rowWords + rowWords ≤ length (now t)) × (k * rowWords + rowWords ≤ length (now t)) × (p ≤ 4095) × (k ≤ 4095) × (d ≤ 32) × (l < 2) × (m < 2) × Small 1073741824 (now t) d p ⌝ }
     ensures { λ _. ⌜ now (t .exit) ≡ placeIn (now (t .entry)) d p l m k ⌝ }
 {
-    let e = depth(t, d, p);
+    let e = plain::depth(t, d, p);
     let i = plain::word(t, p, 10);
     let j = plain::word(t, p, 11);
     put(t, k, 0, p as u32);

@@ -35,7 +35,8 @@ fn supply(
     k + 1
 }
 
-// The four kids.
+// The four kids. Numbers are found outside of supply, so that it is short enough to be compiled for each place by itself; the last argument of next_free
+// is the place in stock of the number before, if every kid so far was new.
 pub fn supply_kids(
     t: &mut [i32],
     cap: usize,

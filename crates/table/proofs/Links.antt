@@ -34,6 +34,23 @@ depth-back d e h = go (decLt e d)
     go (yes a) = rw (lt-ltb e d a) (ghost (d - suc e) (omega arith) ∙ omega arith)
     go (no a) = rw (le-ltb e d (omega arith)) (rw (lt-ltb (e - d) 2147483648 (omega arith)) (let z : e - d + d ≡ e = omega arith in z))
 
+-- the level of a depth is not below that of depth 0
+pub level-of : (d e : ℕ) → e < 2147483648 → code (subℕ e d) < 2147483648 + d
+level-of d e h = go (decLt e d)
+  where
+    go : Dec (e < d) → code (subℕ e d) < 2147483648 + d
+    go (yes a) = rw (lt-ltb e d a) (omega arith)
+    go (no a) = rw (le-ltb e d (omega arith)) (omega arith)
+
+-- and so is one that says a depth
+pub level-from : (t : List ℤ) (d n : ℕ) → depthOf t d n < d + 13 → wordOf t n 9 < 2147483648 + d
+unfolding depthOf
+level-from t d n h = go (wordOf t n 9) h (decLt (wordOf t n 9) (2147483648 + d))
+  where
+    go : (c : ℕ) → depthFrom d c < d + 13 → Dec (c < 2147483648 + d) → c < 2147483648 + d
+    go c h (yes l) = l
+    go c h (no l) = absurd (let z : d + 13 < d + 13 = rw (le-ltb c 2147483648 (omega (arith, l)), le-ltb (c - 2147483648) d (omega (arith, l))) at h in omega arith)
+
 -- a row is on level 0 exactly if its level's word is 0
 pub level-zero : (t : List ℤ) (d n : ℕ) → eqb (depthOf t d n) d ≡ eqb (wordOf t n 9) 0
 unfolding depthOf

@@ -6,7 +6,7 @@ use Prim.Native.Nat.{ℕ, suc, _+_, _-_, _<_, _≤_}
 use native.Mathlib.Omega.{arith}
 use lib.Dec.{T, eqb, leb}
 use borrow.Author.Tests.{leb-true, leb-false, lt-ltb, le-ltb, le-leb, lt-leb, ne-eqb}
-use lib.IntN.{ℤ, pos, negsuc, natAbs, subℕ}
+use lib.IntN.{ℤ, pos, negsuc, natAbs, subℕ, _+ℤ_}
 use lib.Signed.{leZ}
 use mir.Syntax.{w32}
 use mir.Val.{SFits, toZ, ofZ}
@@ -103,6 +103,17 @@ module _ (m : ℕ) (h : m ≤ 4095) {z : ℤ} where
   link-none n =
       let l : m < 2147483648 + n .size = omega arith in
       (omega arith, rw (n .is, lt-leb (2147483648 + n .size) m l))
+
+-- the depth that a level from that of depth 0 on says, as a sum
+pub depth-sum : (d : ℕ) {z : ℤ} → SFits w32 z → d ≤ 32 → code z < 2147483648 + d → toZ w32 (ofZ w32 z) +ℤ toZ w32 d ≡ pos (depthFrom d (code z))
+depth-sum d {z} f h l = rw (toZ-ofZ f, toZ-pos w32 {n = d} (omega arith)) (go z f l)
+  where
+    go : (z : ℤ) → SFits w32 z → code z < 2147483648 + d → z +ℤ pos d ≡ pos (depthFrom d (code z))
+    go (pos n) f l = rw (lt-ltb n 2147483648 (f .sfits))
+    go (negsuc n) f l =
+        let e : 2147483648 + n - 2147483648 ≡ n = omega arith in
+        let s : 2147483648 ≤ 2147483648 + n = omega arith in
+        rw (le-ltb d (suc n) (omega arith), le-ltb (2147483648 + n) 2147483648 s, e, lt-ltb n d (omega arith)) (ap pos (omega arith))
 
 -- the depth that a level says, in each arm of the tests
 module _ (d : ℕ) {z : ℤ} where

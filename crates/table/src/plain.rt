@@ -3,7 +3,7 @@ ghost use mathlib.Core.Path.{_≡_};
 ghost use Prim.Native.Nat.{_+_, _*_, _<_, _≤_};
 ghost use lib.ListN.{length};
 ghost use Rattle.mesh.specs.Picture.{rowWords};
-ghost use Rattle.table.specs.Words.{wordOf, linkOf, flagOf};
+ghost use Rattle.table.specs.Words.{wordOf, linkOf, flagOf, depthOf};
 ghost use Rattle.table.specs.Plain.{Unsigned, Plain};
 use crate::words::raw;
 
@@ -21,6 +21,14 @@ pub fn link(t: &[i32], cap: usize, n: usize, w: usize) -> usize
     ensures { λ r. ⌜ (r ≤ cap) × (r ≡ linkOf (now (t .entry)) cap n w) ⌝ }
 {
     word(t, n, w) as usize
+}
+
+// The depth of the row n, whose level is not below that of depth 0.
+pub fn depth(t: &[i32], d: u32, n: usize) -> u32
+    requires { ⌜ (n * rowWords + rowWords ≤ length (now t)) × (d ≤ 32) × (wordOf (now t) n 9 < 2147483648 + d) × (depthOf (now t) d n < 2147483648) ⌝ }
+    ensures { λ r. ⌜ r ≡ depthOf (now (t .entry)) d n ⌝ }
+{
+    (raw(t, n, 9) + d as i32) as u32
 }
 
 // The flags of the row n.

@@ -8,7 +8,7 @@ use Rattle.edit.proofs.steps.place_in.Statement.{statement}
 use Rattle.edit.proofs.steps.place_in.Tie as tie
 
 depth-requires : tie.Need-depth-requires
-depth-requires c κs = search needs
+depth-requires c κs = (omega arith, omega arith, c .before .pre .7 .level, omega (arith, c .before .pre .7 .depth))
 
 word-requires : tie.Need-word-requires
 word-requires c κs = (omega arith, word-unsigned (c .before .before .before .args .t .now) (c .before .before .before .args .p) 10 (omega (arith, c .before .before .before .pre .7 .col)))
@@ -73,7 +73,7 @@ returns c =
     let b₈ = b₇ .before .before in
     let b₉ = b₈ .before .before in
     let b₁₀ = b₉ .before .before in
-    placed-in _ _ _ _ _ _ (b₁₀ .depth .ensures .1) (b₉ .word .ensures) (b₈ .word2 .ensures) (b₇ .put .ensures) (b₆ .put-level .ensures) (b₅ .put2 .ensures) (b₄ .put3 .ensures) (b₃ .put4 .ensures) (b₂ .kid-word .ensures .1) (b₁ .put5 .ensures)
+    placed-in _ _ _ _ _ _ (b₁₀ .depth .ensures) (b₉ .word .ensures) (b₈ .word2 .ensures) (b₇ .put .ensures) (b₆ .put-level .ensures) (b₅ .put2 .ensures) (b₄ .put3 .ensures) (b₃ .put4 .ensures) (b₂ .kid-word .ensures .1) (b₁ .put5 .ensures)
 
 pub place-in-spec : {M : Type 1} → statement M
 place-in-spec =
