@@ -1,6 +1,6 @@
 // An accepted kill.
 ghost use mathlib.Core.Path.{_≡_};
-ghost use Prim.Native.Nat.{_+_, _-_, _*_, _<_, _≤_};
+ghost use Prim.Native.Nat.{_+_, _*_, _<_, _≤_};
 ghost use lib.Dec.{T};
 ghost use lib.ListN.{length, getD};
 ghost use Rattle.mesh.specs.Tools.{all};
@@ -14,6 +14,7 @@ use crate::anew::refresh_unless_nil;
 use crate::remove::touched_row;
 use crate::steps::take_out;
 use table::plain::link;
+use stock::find::lesser;
 use table::words::word;
 use table::writes::put;
 use table::writes::put_value;
@@ -28,12 +29,6 @@ fn kidless(t: &[i32], cap: usize, n: usize) -> bool
     let c = link(t, cap, n, 3);
     let e = link(t, cap, n, 4);
     (a == 0) & ((b == 0) & ((c == 0) & (e == 0)))
-}
-
-fn lesser(a: usize, b: usize) -> usize
-    ensures { λ r. ⌜ r ≡ a - (a - b) ⌝ }
-{
-    if a < b { a } else { b }
 }
 
 // The row k, which has no kids, is free; the least number that is freed, with it.

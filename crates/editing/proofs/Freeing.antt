@@ -10,7 +10,7 @@ use mathlib.Core.List.{List, [], _∷_, map}
 use lib.Dec.{eqb, leb}
 use lib.IntN.{ℤ, pos, subℕ}
 use lib.ListN.{length, getD}
-use borrow.Author.Tests.{eq-eqb, eqb-true}
+use borrow.Author.Tests.{eq-eqb}
 use Rattle.mesh.specs.Tools.{any}
 use Rattle.mesh.specs.Place.{Wind, N, E, S, W, compass}
 use Rattle.mesh.specs.Winds.{wordOfWind}
@@ -24,9 +24,9 @@ use Rattle.stock.specs.Free.{freeFrom}
 use Rattle.stock.specs.Stock.{Stocked}
 use Rattle.stock.proofs.Keeping.{freed-stock}
 use Rattle.editing.specs.Steps.{putWord, putUnlessNil, placeIn, linkSide, linkIn, dropSide, takeOut}
-use Rattle.editing.specs.Tables.{Lending, Spot, kidAt, kidSpots, wantedSpots, supplied, suppliedAll, putCells, kidStatus, refreshNear, refineTable, touchedRow, dropAt, removeTable}
+use Rattle.editing.specs.Tables.{Lending, Spot, kidAt, kidSpots, wantedSpots, supplied, suppliedAll, putCells, kidStatus, refineTable, touchedRow, dropAt, removeTable}
 use Rattle.editing.proofs.Spots.{put-same, put-other}
-use Rattle.editing.proofs.Lengths.{unnamed, length-unnamed, length-putCells, length-takeOut}
+use Rattle.editing.proofs.Lengths.{length-unnamed, length-putCells, length-takeOut}
 use Rattle.editing.proofs.Written.{word-other, word-either, wind-word}
 use Rattle.editing.proofs.Lowering.{FreesNone, nothing, next, either, frees-word, frees-flags, frees-set, frees-cells, frees-near, out-other}
 

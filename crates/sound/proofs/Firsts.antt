@@ -3,7 +3,7 @@
 use Prim.Native.Nat.{ℕ, _+_, _-_, _≤_, _<_}
 use native.Mathlib.Omega.{arith}
 use native.Mathlib.Decide.{ℕ-discrete}
-use mathlib.Core.Path.{_≡_, refl, sym, ap, _∙_}
+use mathlib.Core.Path.{_≡_, refl, sym, _∙_}
 use mathlib.Core.Logic.{_≢_}
 use mathlib.Core.Bool.{Bool, true, false, _&&_}
 use mathlib.Core.List.{List}
@@ -13,7 +13,6 @@ use lib.Ieee.{Float}
 use borrow.Author.Tests.{eqb-true}
 use Rattle.mesh.specs.Place.{Grid}
 use Rattle.table.specs.Words.{wordOf, vacant}
-use Rattle.stock.specs.Free.{NoneBelow}
 use Rattle.checking.specs.Rowwise.{emptyOk, usedOk, rowOk, zeroOk, rowwise}
 use Rattle.sound.specs.Firsts.{RowFirst, Passes}
 

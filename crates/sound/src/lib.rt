@@ -9,7 +9,7 @@ pub mod tree;
 
 ghost use mathlib.Core.Path.{_≡_};
 ghost use mathlib.Core.Bool.{cond};
-ghost use Prim.Native.Nat.{_-_, _≤_};
+ghost use Prim.Native.Nat.{_≤_};
 ghost use lib.Dec.{ltb};
 ghost use Rattle.mesh.specs.Place.{rectangle};
 ghost use Rattle.table.specs.Words.{depthOf};
@@ -17,6 +17,7 @@ ghost use Rattle.checking.specs.Rowwise.{ghostOk, pointOk, usedOk};
 ghost use Rattle.sound.specs.Lent.{Lent};
 ghost use Rattle.sound.specs.Firsts.{RowFirst, Passes};
 use crate::plain::is_positive;
+use stock::find::lesser;
 use table::words::says;
 
 // A ghost, or a row from level 0 up.
@@ -48,12 +49,6 @@ pub fn used_ok(t: &[i32], v: &[f64], cap: usize, columns: u32, rows: u32, d: u32
         return false;
     }
     amounts::value_ok(t, v, cap, columns, rows, d, n)
-}
-
-fn lesser(a: usize, b: usize) -> usize
-    ensures { λ r. ⌜ r ≡ a - (a - b) ⌝ }
-{
-    if a < b { a } else { b }
 }
 
 // The row n: 0 if it fails, otherwise the first free number, with it; none before first was known.

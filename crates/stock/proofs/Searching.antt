@@ -142,7 +142,3 @@ module _ {cap : ℕ} {t : List ℤ} {s : List ℕ} (h : Stocked cap t [] s) (low
       let top = h .bounded in
       let none : NoneFrom t cap low m = none-from m (λ j x y w. past p j x w (omega arith) (λ c n o q. omega arith)) in
       f ∙ sym (free-past t cap (m - low) low m (omega arith) (omega arith) none)
-
--- what a search comes to
-pub stock-search : {cap : ℕ} {t : List ℤ} {ks s : List ℕ} {low r : ℕ} → Stocked cap t ks s → r ≡ freeFrom t (cap + 1 - low) low → Found t cap low r
-stock-search {cap} {t} {low = low} h e = search-found t cap (h .nil) (cap + 1 - low) low refl e

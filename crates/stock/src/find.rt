@@ -44,6 +44,12 @@ fn suits(t: &[i32], cap: usize, low: usize, bound: usize, k: usize) -> bool
     is_vacant(t, k)
 }
 
+pub fn lesser(a: usize, b: usize) -> usize
+    ensures { λ r. ⌜ r ≡ a - (a - b) ⌝ }
+{
+    if a < b { a } else { b }
+}
+
 fn greater(a: usize, b: usize) -> usize
     ensures { λ r. ⌜ r ≡ a + (b - a) ⌝ }
 {

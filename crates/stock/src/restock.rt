@@ -84,7 +84,7 @@ fn pad(stock: &mut [u16; 16], w: usize, b: u16)
     }
 }
 
-// How many numbers are in stock then.
+// Drops the numbers that are taken, and finds more where fewer than nine are left; how many are free and in stock then.
 pub fn restock(t: &[i32], cap: usize, stock: &mut [u16; 16]) -> usize
     requires { ⌜ (cap * rowWords + rowWords ≤ length (now t)) × (cap ≤ 4095) × Stocked cap (now t) [] (now stock) ⌝ }
     ensures { λ r. ⌜ Stocked cap (now (t .entry)) [] (now (stock .exit)) × Counted cap (now (t .entry)) r ⌝ }

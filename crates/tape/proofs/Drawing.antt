@@ -2,18 +2,15 @@
 -- Assumes nothing.
 use Prim.Native.Nat.{ℕ, _+_, _-_, _%_}
 use mathlib.Core.Path.{_≡_, ap, _∙_}
-use mathlib.Core.Bool.{false}
 use mathlib.Core.List.{List}
 use lib.IntN.{ℤ}
 use lib.Ieee.{Float}
 use Rattle.mesh.specs.Place.{Grid, rectangle, base}
-use Rattle.mesh.specs.State.{State, Header, isFree, entry, gridOf, capacity}
+use Rattle.mesh.specs.State.{State, Header, gridOf, capacity}
 use Rattle.mesh.specs.Valid.{Valid}
 use Rattle.mesh.specs.Picture.{table, amounts}
 use Rattle.mesh.specs.Refusal.{refusal}
 use Rattle.mesh.specs.Request.{Request, checks, effect, marked, accepted, request}
-use Rattle.table.specs.Words.{vacant}
-use Rattle.pictures.proofs.Taken.{vacant-row}
 use Rattle.laws.proofs.Requests.{Done, request-done}
 use Rattle.tape.specs.Drawn.{Drawn}
 

@@ -2,7 +2,6 @@
 -- Assumes nothing.
 use mathlib.Core.Path.{_∙_}
 use native.Mathlib.Omega.{arith}
-use borrow.Author.Needs.{needs}
 use Rattle.edit.proofs.Nearby.{supply-more, supply-none}
 use Rattle.edit.proofs.Small.{all-more, small-after}
 use Rattle.edit.proofs.Supplying.{stock-after}

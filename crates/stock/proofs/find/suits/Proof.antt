@@ -1,7 +1,6 @@
 -- `stock::find::suits` meets its contract.
 -- Assumes nothing.
 use native.Mathlib.Omega.{arith}
-use mathlib.Core.Path.{sym, _∙_}
 use borrow.Author.Needs.{needs}
 use Rattle.stock.proofs.Searching.{suits-not, suits-if}
 use Rattle.stock.proofs.find.suits.Statement.{statement}

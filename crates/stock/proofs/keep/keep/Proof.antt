@@ -1,8 +1,7 @@
 -- `stock::keep::keep` meets its contract. The invariant: the numbers from the place i on, all greater than k, have moved up by a place.
 -- Assumes nothing.
-use Prim.Native.Nat.{_-_, _≤_}
+use Prim.Native.Nat.{_-_}
 use native.Mathlib.Omega.{arith}
-use borrow.Author.Needs.{needs}
 use mathlib.Core.Path.{refl}
 use Rattle.stock.proofs.Keeping.{Shifting, shifting-none, shifting-on, shifting-done, shifting-first, left-out}
 use Rattle.stock.proofs.keep.keep.Statement.{statement}

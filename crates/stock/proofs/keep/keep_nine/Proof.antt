@@ -1,9 +1,7 @@
 -- `stock::keep::keep_nine` meets its contract. The invariant: the numbers from the place i on are still to be kept.
 -- Assumes nothing.
-use Prim.Native.Nat.{_+_, _-_, _≤_}
+use Prim.Native.Nat.{_-_, _≤_}
 use native.Mathlib.Omega.{arith}
-use mathlib.Core.Path.{_≡_, refl}
-use borrow.Author.Needs.{needs}
 use lib.ListN.{drop}
 use Rattle.stock.specs.Stock.{Stocked}
 use Rattle.stock.proofs.Keeping.{nine-next, nine-done}

@@ -2,9 +2,8 @@
 -- Assumes nothing.
 use Prim.Native.Nat.{_+_, _-_, _≤_}
 use native.Mathlib.Omega.{arith}
-use mathlib.Core.Path.{_≡_, refl}
+use mathlib.Core.Path.{refl}
 use borrow.Author.Needs.{needs}
-use mathlib.Core.Bool.{false}
 use Rattle.stock.specs.Stock.{Filling}
 use Rattle.stock.proofs.Filling.{fill-found, fill-all}
 use Rattle.stock.proofs.restock.find_more.Statement.{statement}

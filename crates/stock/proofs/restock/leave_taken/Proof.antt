@@ -1,8 +1,7 @@
 -- `stock::restock::leave_taken` meets its contract. The invariant: those before the place i that are free stand in the first w places.
 -- Assumes nothing.
-use Prim.Native.Nat.{_-_, _≤_}
+use Prim.Native.Nat.{_-_}
 use native.Mathlib.Omega.{arith}
-use borrow.Author.Needs.{needs}
 use mathlib.Core.Path.{refl}
 use Rattle.stock.proofs.Filling.{Moving, moving-none, moving-on, next-within, moving-top, moving-done}
 use Rattle.stock.proofs.restock.leave_taken.Statement.{statement}

@@ -1,6 +1,6 @@
 -- `stock::restock::pad` meets its contract. The invariant: up to the place i the numbers are those that they are to be.
 -- Assumes nothing.
-use Prim.Native.Nat.{_-_, _≤_}
+use Prim.Native.Nat.{_-_}
 use native.Mathlib.Omega.{arith}
 use mathlib.Core.Path.{refl}
 use Rattle.stock.proofs.Filling.{Padding, padding-none, padding-on, padding-done}
