@@ -1,27 +1,15 @@
--- `dossier::main` is safe and ends: what is printed fits the output.
+-- `dossier::answer` is safe and ends: what is printed fits the output.
 -- Assumes nothing.
 use mathlib.Core.Path.{sym}
 use lib.Seq.{length-take-le}
 use Rattle.printing.proofs.Fits.{count-fits}
 use native.Mathlib.Omega.{arith}
 use borrow.Author.Needs.{needs}
-use Rattle.dossier.proofs.main.Statement.{statement}
-use Rattle.dossier.proofs.main.Tie as tie
-
-slice-aggregate-read-full : tie.Need-slice-aggregate-read-full
-slice-aggregate-read-full c = search needs
-
-read-full-requires : tie.Need-read-full-requires
-read-full-requires c κs = search needs
-
-array-share-prefix-input : tie.Need-array-share-prefix-input
-array-share-prefix-input c = search needs
+use Rattle.dossier.proofs.answer.Statement.{statement}
+use Rattle.dossier.proofs.answer.Tie as tie
 
 slice-aggregate-print : tie.Need-slice-aggregate-print
 slice-aggregate-print c = search needs
-
-slice-aggregate-print-2 : tie.Need-slice-aggregate-print-2
-slice-aggregate-print-2 c = search needs
 
 print-requires : tie.Need-print-requires
 print-requires c κs = search needs
@@ -35,20 +23,28 @@ slice-aggregate-write-all c = sym (length-take-le _ _ (omega (arith, count-fits 
 write-all-requires : tie.Need-write-all-requires
 write-all-requires c κs = search needs
 
+slice-aggregate-complain : tie.Need-slice-aggregate-complain
+slice-aggregate-complain c = search needs
+
+complain-requires : tie.Need-complain-requires
+complain-requires c κs = search needs
+
 returns : tie.Need-returns
 returns c = search needs
 
-pub main-spec : {M : Type 1} → statement M
-main-spec =
+returns-2 : tie.Need-returns-2
+returns-2 c = search needs
+
+pub answer-spec : {M : Type 1} → statement M
+answer-spec =
     tie.close
     (tie.spec
-    slice-aggregate-read-full
-    read-full-requires
-    array-share-prefix-input
     slice-aggregate-print
-    slice-aggregate-print-2
     print-requires
     array-share-prefix-out
     slice-aggregate-write-all
     write-all-requires
-    returns)
+    slice-aggregate-complain
+    complain-requires
+    returns
+    returns-2)
