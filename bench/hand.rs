@@ -21,8 +21,8 @@ const E: usize = 6;
 const S: usize = 7;
 const W: usize = 8;
 pub const LEVEL: usize = 9;
-const I: usize = 10;
-const J: usize = 11;
+pub const I: usize = 10;
+pub const J: usize = 11;
 pub const FLAGS: usize = 12;
 const STATUS: usize = 13;
 

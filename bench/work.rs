@@ -1,7 +1,7 @@
 //! The workloads: lists to start from and calls to make on them. Tapes are made by a seeded generator that looks at the hand-written version's state,
 //! so that every request is accepted and the table stays near full.
 
-use crate::hand::{self, row, Desk, Header, COMPLETE, FLAGS, LEVEL, NE, NW, ROW, SE, SENTENCED, SW};
+use crate::hand::{self, row, Desk, Header, COMPLETE, FLAGS, I, J, LEVEL, NE, NW, ROW, SE, SENTENCED, SW};
 
 #[derive(Clone)]
 pub struct Lists {
@@ -109,6 +109,8 @@ pub const WORKLOADS: &[(&str, fn() -> Job)] = &[
     ("cycle-sparse", || cycles(built(8, 8, 4095))),
     ("cycle-full", || cycles(nearly_full())),
     ("cycle-scattered", || cycles(scattered())),
+    ("families-1000", || families(1000)),
+    ("families-4095", || families(4095)),
     ("refine-fresh", || refinement(built(8, 8, 4095))),
     ("refine-full", || refinement(nearly_full())),
     ("build-32", build),
@@ -405,6 +407,39 @@ fn cycles(start: Lists) -> Job {
             units += 1;
         }
     }
+    Job { start, work: Work::Tapes(vec![maker.tape]), per: Per::Requests(units) }
+}
+
+/// Three cells refined first, so that their numbers are low, and then the half of the square that is away from them, until the last numbers alone are
+/// free. 100 times the three families are removed, which frees more low numbers than are remembered, and refined again.
+fn families(capacity: usize) -> Job {
+    let mut start = built(8, 8, capacity);
+    let mut maker = Maker::new(&mut start, 12);
+    let place = |maker: &Maker, n: usize| (row(maker.desk.t, n)[LEVEL], row(maker.desk.t, n)[I], row(maker.desk.t, n)[J]);
+    let cells = [0, 3, 6].map(|j| (1..maker.rows()).find(|&n| maker.is_leaf(n) && place(&maker, n) == (0, 0, j)).expect("a cell"));
+    for n in cells {
+        assert!(maker.ask(1, n, None));
+    }
+    let mut failures = 0;
+    while maker.desk.free > 12 && failures < 20_000 {
+        let leaf = maker.some_leaf();
+        let (level, i, _) = place(&maker, leaf);
+        failures += (i >> level < 4 || !maker.ask(1, leaf, None)) as usize;
+    }
+    let mut end = start.clone();
+    let mut maker = Maker::new(&mut end, 13);
+    for _ in 0..100 {
+        for n in cells {
+            for kid in maker.kids(n) {
+                assert!(maker.ask(2, kid, None));
+            }
+            assert!(maker.ask(3, n, None));
+        }
+        for n in cells {
+            assert!(maker.ask(1, n, None));
+        }
+    }
+    let units = maker.requests;
     Job { start, work: Work::Tapes(vec![maker.tape]), per: Per::Requests(units) }
 }
 
