@@ -59,6 +59,8 @@ END {
     grows("check, a row, full table of 4,095 rows", "check-mixed", "whole")
     grows("a request without the check, tape of 5,000", "mixed-1000-short", "less")
     grows("a request without the check, tape of 20,000", "mixed-1000", "less")
+    grows("a request without the check, free numbers low and high: three families removed and refined again, capacity 1,000", "families-1000", "less")
+    grows("the same, capacity 4,095", "families-4095", "less")
     grows("a tape of one request, the whole call, at capacity 1,000", "single-1000", "whole")
     grows("page without the check, a leaf, of 427 leaves", "page-quarter", "less", 427)
     grows("page without the check, a leaf, of 1,714 leaves", "page", "less", 1714)

@@ -410,13 +410,14 @@ fn cycles(start: Lists) -> Job {
     Job { start, work: Work::Tapes(vec![maker.tape]), per: Per::Requests(units) }
 }
 
-/// Three cells refined first, so that their numbers are low, and then the half of the square that is away from them, until the last numbers alone are
-/// free. 100 times the three families are removed, which frees more low numbers than are remembered, and refined again.
+/// Three cells beside each other refined first, so that their numbers are low, and then the half of the square that is away from them, until the last
+/// numbers alone are free. 100 times the three families are removed, which frees more low numbers than are remembered, and refined again: the last of
+/// them has fewer than nine low numbers to choose from, and the next free one is far away.
 fn families(capacity: usize) -> Job {
     let mut start = built(8, 8, capacity);
     let mut maker = Maker::new(&mut start, 12);
     let place = |maker: &Maker, n: usize| (row(maker.desk.t, n)[LEVEL], row(maker.desk.t, n)[I], row(maker.desk.t, n)[J]);
-    let cells = [0, 3, 6].map(|j| (1..maker.rows()).find(|&n| maker.is_leaf(n) && place(&maker, n) == (0, 0, j)).expect("a cell"));
+    let cells = [0, 1, 2].map(|j| (1..maker.rows()).find(|&n| maker.is_leaf(n) && place(&maker, n) == (0, 0, j)).expect("a cell"));
     for n in cells {
         assert!(maker.ask(1, n, None));
     }

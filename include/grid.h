@@ -5,7 +5,30 @@
  * beside a length of 0; a list has as many places as its length says; and nothing that a call writes overlaps anything else that it is lent.
  *
  * Every call returns the number of a refusal, or 0. What its last pointers name is always written: 0, or +0 for the value, when it is refused (of a
- * tape: what was done). The refused step changes nothing else. */
+ * tape: what was done). The refused step changes nothing else. docs/FORMAT.md says what a tape, a table, a page and the flags are.
+ *
+ * The refusals, each given exactly when:
+ *    1  table_len is not 14 * (capacity + 1), values_len is not capacity + 1, or the capacity is not 5 to 4,095
+ *    2  the columns or the rows are not 1 to 32
+ *    3  header, table and values are not sound: they do not picture a grid
+ *    4  the tape ends inside a request
+ *    5  the kind of a request is none of 1 to 5
+ *    6  the number is 0, above the capacity, or free
+ *    7  the patch is no cell
+ *    8  the cell has kids
+ *    9  the cell's level is 12
+ *   10  the cell is sentenced
+ *   11  fewer numbers are free than needed
+ *   12  a level-0 cell is to be sentenced, or a cell above level 0 to be killed
+ *   13  the cell has no kids
+ *   14  not all four kids are sentenced
+ *   15  it is the only level-0 cell
+ *   16  the value is infinite or not a number
+ *   17  the order is no permutation of the four kid winds, the kind of scan is none of 1 to 6, from_level is below the start's level, or to_level
+ *       is below from_level
+ *   18  the output is too short
+ *   19  no leaf holds the point
+ * (20 is the program's own.) */
 #ifndef GRID_H
 #define GRID_H
 

@@ -1,5 +1,5 @@
 -- A stock of free numbers: what the report's LastSpace remembers, a number below which none is free, and besides the free numbers below it that are
--- known. So no request passes over rows that a request before it has passed over.
+-- known, as many as there is room for: a request passes over rows from the bound on alone.
 -- Assumes nothing.
 use Prim.Native.Nat.{ℕ, suc, _+_, _-_, _≤_, _<_}
 use mathlib.Core.Path.{_≡_}
