@@ -5,7 +5,7 @@ use mathlib.Core.Path.{_≡_}
 use mathlib.Core.List.{List, [], _∷_, _++_, map}
 use lib.Dec.{eqb}
 use lib.ListN.{getD, replicate}
-use lib.IntN.{pos, negsuc, natAbs}
+use lib.IntN.{ℤ, pos, negsuc, natAbs}
 use Rattle.mesh.specs.Tools.{keep}
 use Rattle.mesh.specs.Place.{rectangle}
 use Rattle.mesh.specs.State.{inUse, plusZero}
@@ -33,9 +33,13 @@ wordAt l w n = natAbs (getD (l .words) (n * rowWords + w) (pos 0))
 abbrev pub flagsAt : Lent → List ℕ → List ℕ
 flagsAt l ns = map (wordAt l 12) ns
 
--- i and j of the rows with these numbers
-abbrev spotsAt : Lent → List ℕ → List (ℕ × ℕ)
-spotsAt l ns = map (λ n. (wordAt l 10 n, wordAt l 11 n)) ns
+-- level, i and j of the rows with these numbers
+abbrev spotsAt : Lent → List ℕ → List (ℤ × ℕ × ℕ)
+spotsAt l ns = map (λ n. (getD (l .words) (n * rowWords + 9) (pos 0), wordAt l 10 n, wordAt l 11 n)) ns
+
+-- places of one level
+abbrev on : ℤ → List (ℕ × ℕ) → List (ℤ × ℕ × ℕ)
+on k ps = map (λ p. (k, p .0, p .1)) ps
 
 abbrev usedIn : Lent → ℕ
 usedIn l = inUse (stateOf l .entries)
@@ -94,12 +98,12 @@ unfoldable pub grids : List Claim
 grids =
     -- P1
     (build 1 1 14 .in-use is 5) ∷
-    (spotsAt (build 1 1 14 .lent) (2 ∷ 3 ∷ 4 ∷ 5 ∷ []) is ((0, 0) ∷ (0, 1) ∷ (1, 0) ∷ (1, 1) ∷ [])) ∷
+    (spotsAt (build 1 1 14 .lent) (1 ∷ 2 ∷ 3 ∷ 4 ∷ 5 ∷ []) is ((negsuc 0, 0, 0) ∷ on (pos 0) ((0, 0) ∷ (0, 1) ∷ (1, 0) ∷ (1, 1) ∷ []))) ∷
     -- P2
     (flagsAt (build 1 1 14 .lent) (2 ∷ 3 ∷ 4 ∷ 5 ∷ []) is (127 ∷ 26 ∷ 44 ∷ 8 ∷ [])) ∷
     -- P3
     (spotsAt (tape 1 1 14 refine2 .lent) (6 ∷ 7 ∷ 8 ∷ 9 ∷ 10 ∷ 11 ∷ 12 ∷ 13 ∷ 14 ∷ []) is
-    ((0, 0) ∷ (1, 0) ∷ (0, 1) ∷ (1, 1) ∷ (0, 2) ∷ (1, 2) ∷ (2, 1) ∷ (2, 0) ∷ (2, 2) ∷ [])) ∷
+    on (pos 1) ((0, 0) ∷ (1, 0) ∷ (0, 1) ∷ (1, 1) ∷ (0, 2) ∷ (1, 2) ∷ (2, 1) ∷ (2, 0) ∷ (2, 2) ∷ [])) ∷
     (outcome (tape 1 1 14 refine2) is (1, 0, 3)) ∷
     (outcome (tape 1 1 13 refine2) is (0, 11, 0)) ∷
     -- P4: the rows were free before
