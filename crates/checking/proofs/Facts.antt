@@ -20,7 +20,7 @@ use Rattle.mesh.specs.State.{plusZero}
 use Rattle.mesh.specs.Test.{sameFloat}
 use Rattle.table.specs.Words.{wordOf, linkOf, depthOf}
 use Rattle.table.specs.Worked.{kidWord, sideOf}
-use Rattle.checking.specs.Rowwise.{below, emptyOk, zeroOk, rootOk, childOk, placeOk, kidOk, kidsOk, sidesOk, ghostOk, pointOk, valueOk, usedOk, rowOk, rowwise}
+use Rattle.checking.specs.Rowwise.{below, isPlusZero, emptyOk, zeroOk, rootTests, rootOk, childTests, childOk, placeOk, kidTests, kidOk, kidsTests, kidsOk, sideTests, sidesOk, ghostOk, pointOk, valueOk, usedTests, usedOk, rowOk, rowwise}
 use Rattle.geometry.proofs.Bools.{and-left, and-right, or-cases}
 use Rattle.geometry.proofs.Lists.{every-at}
 use Rattle.geometry.proofs.Places.{place-path}
@@ -114,7 +114,7 @@ module _ (g : Grid) (cap : ℕ) (t : List ℤ) (v : List Float) where
   empty-facts n h =
       let a = below 12 (λ w. eqb (wordOf t n w) 0) in
       let b = eqb (wordOf t n 13) 0 in
-      let c = sameFloat (getD v n plusZero) plusZero in
+      let c = isPlusZero g cap t v n in
       record {
         words = λ w l. eqb→eq _ _ (below-at 12 (λ w. eqb (wordOf t n w) 0) (and-left a (b && c) h) w l);
         status = eqb→eq _ _ (and-left b c (and-right a (b && c) h));
@@ -124,19 +124,14 @@ module _ (g : Grid) (cap : ℕ) (t : List ℤ) (v : List Float) where
   root-facts : (n : ℕ) → T (rootOk g cap t v n) → (wordOf t n 0 ≡ 0) × (spot g t n ≡ root)
   unfolding rootOk spot
   root-facts n h =
-      let nth = every-at (eqb (wordOf t n 0) 0 ∷ eqb (depthOf t (base g) n) 0 ∷ eqb (wordOf t n 10) 0 ∷ eqb (wordOf t n 11) 0 ∷ []) h in
+      let nth = every-at (rootTests g cap t v n) h in
       (eqb→eq _ _ (nth 0), place-path (at (depthOf t (base g) n) (wordOf t n 10) (wordOf t n 11)) root (eqb→eq _ _ (nth 1)) (eqb→eq _ _ (nth 2)) (eqb→eq _ _ (nth 3)))
-
-  abbrev childTests : ℕ → ℕ → List Bool
-  childTests n p =
-      not (eqb p 0) ∷ eqb (wordOf t n 0) p ∷ not (eqb (wordOf t p 12) 8192) ∷ eqb (depthOf t (base g) p + 1) (depthOf t (base g) n) ∷
-      eqb (wordOf t p 10) (wordOf t n 10 / 2) ∷ eqb (wordOf t p 11) (wordOf t n 11 / 2) ∷ eqb (wordOf t p (kidWord (wordOf t n 10 % 2) (wordOf t n 11 % 2))) n ∷ []
 
   child-facts : (n : ℕ) → T (childOk g cap t v n) → Child g cap t n
   unfolding childOk spot up
   child-facts n h =
       let p = linkOf t cap n 0 in
-      let nth = every-at (childTests n p) h in
+      let nth = every-at (childTests g cap t v n) h in
       let d : depthOf t (base g) p + 1 ≡ depthOf t (base g) n = eqb→eq _ _ (nth 3) in
       let x : wordOf t p 10 ≡ wordOf t n 10 / 2 = eqb→eq _ _ (nth 4) in
       let y : wordOf t p 11 ≡ wordOf t n 11 / 2 = eqb→eq _ _ (nth 5) in
@@ -148,26 +143,26 @@ module _ (g : Grid) (cap : ℕ) (t : List ℤ) (v : List Float) where
         named = eqb→eq _ _ (nth 6);
       }
 
-  abbrev kidTests : ℕ → ℕ → ℕ → ℕ → List Bool
-  kidTests n k l m = not (eqb (wordOf t k 12) 8192) ∷ eqb (wordOf t k 0) n ∷ eqb (wordOf t k 10 % 2) l ∷ eqb (wordOf t k 11 % 2) m ∷ []
-
   kid-word-facts : (n l m : ℕ) → T (kidOk g cap t v n l m) → wordOf t n (kidWord l m) ≡ linkOf t cap n (kidWord l m)
   unfolding kidOk
   kid-word-facts n l m h =
       let k = linkOf t cap n (kidWord l m) in
-      eqb→eq _ _ (and-left (eqb (wordOf t n (kidWord l m)) k) (eqb k 0 || every (kidTests n k l m)) h)
+      eqb→eq _ _ (and-left (eqb (wordOf t n (kidWord l m)) k) (eqb k 0 || every (kidTests g cap t v n l m k)) h)
 
   kid-facts : (n l m : ℕ) → T (kidOk g cap t v n l m) → linkOf t cap n (kidWord l m) ≢ 0 → Kid cap t n (linkOf t cap n (kidWord l m)) l m
   unfolding kidOk
-  kid-facts n l m h z = go (or-cases (eqb k 0) (every (kidTests n k l m)) (and-right (eqb (wordOf t n (kidWord l m)) k) (eqb k 0 || every (kidTests n k l m)) h))
+  kid-facts n l m h z = go (or-cases (eqb k 0) (every bs) (and-right (eqb (wordOf t n (kidWord l m)) k) (eqb k 0 || every bs) h))
     where
       k : ℕ
       k = linkOf t cap n (kidWord l m)
 
-      go : T (eqb k 0) ⊎ T (every (kidTests n k l m)) → Kid cap t n k l m
+      bs : List Bool
+      bs = kidTests g cap t v n l m k
+
+      go : T (eqb k 0) ⊎ T (every bs) → Kid cap t n k l m
       go (inl e) = absurd (z (eqb→eq k 0 e))
       go (inr e) =
-          let nth = every-at (kidTests n k l m) e in
+          let nth = every-at bs e in
           record {
             here = link-used t cap n (kidWord l m) z (unequal _ _ (nth 0));
             back = eqb→eq _ _ (nth 1);
@@ -179,8 +174,8 @@ module _ (g : Grid) (cap : ℕ) (t : List ℤ) (v : List Float) where
   unfolding kidsOk
   kid-at n h l m a b = go l m a b
     where
-      nth : (i : ℕ) → T (getD (kidOk g cap t v n 1 1 ∷ kidOk g cap t v n 1 0 ∷ kidOk g cap t v n 0 0 ∷ kidOk g cap t v n 0 1 ∷ []) i true)
-      nth = every-at (kidOk g cap t v n 1 1 ∷ kidOk g cap t v n 1 0 ∷ kidOk g cap t v n 0 0 ∷ kidOk g cap t v n 0 1 ∷ []) h
+      nth : (i : ℕ) → T (getD (kidsTests g cap t v n) i true)
+      nth = every-at (kidsTests g cap t v n) h
 
       go : (l m : ℕ) → l ≤ 1 → m ≤ 1 → T (kidOk g cap t v n l m)
       go zero zero a b = nth 2
@@ -195,8 +190,8 @@ module _ (g : Grid) (cap : ℕ) (t : List ℤ) (v : List Float) where
   unfolding sidesOk
   side-facts n h w a = go w a
     where
-      nth : (i : ℕ) → T (getD (eqb (wordOf t n 5) (sideOf t cap n N) ∷ eqb (wordOf t n 6) (sideOf t cap n E) ∷ eqb (wordOf t n 7) (sideOf t cap n S) ∷ eqb (wordOf t n 8) (sideOf t cap n W) ∷ []) i true)
-      nth = every-at (eqb (wordOf t n 5) (sideOf t cap n N) ∷ eqb (wordOf t n 6) (sideOf t cap n E) ∷ eqb (wordOf t n 7) (sideOf t cap n S) ∷ eqb (wordOf t n 8) (sideOf t cap n W) ∷ []) h
+      nth : (i : ℕ) → T (getD (sideTests g cap t v n) i true)
+      nth = every-at (sideTests g cap t v n) h
 
       go : (w : Wind) → T (aside w) → wordOf t n (wordOfWind w) ≡ sideOf t cap n w
       go N a = eqb→eq _ _ (nth 0)
@@ -212,9 +207,7 @@ module _ (g : Grid) (cap : ℕ) (t : List ℤ) (v : List Float) where
   unfolding usedOk placeOk
   row-facts n h =
       let d = depthOf t (base g) n in
-      let ghosts = ghostOk g cap t v n in
-      let points = pointOk g cap t v n in
-      let nth = every-at (placeOk g cap t v n ∷ kidsOk g cap t v n ∷ sidesOk g cap t v n ∷ cond (ltb d (base g)) ghosts points ∷ valueOk g cap t v n ∷ []) h in
+      let nth = every-at (usedTests g cap t v n) h in
       let high = leb d (base g + 12) in
       let place = cond (eqb n 1) (rootOk g cap t v n) (childOk g cap t v n) in
       record {

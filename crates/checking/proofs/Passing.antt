@@ -24,7 +24,7 @@ use Rattle.mesh.specs.Picture.{table, amounts}
 use Rattle.mesh.specs.Test.{sameFloat}
 use Rattle.table.specs.Words.{wordOf, linkOf, flagOf, depthOf}
 use Rattle.table.specs.Worked.{kidWord, sideOf, flagsFrom}
-use Rattle.checking.specs.Rowwise.{below, isPlusZero, emptyOk, zeroOk, rootOk, childOk, placeOk, kidOk, kidsOk, sidesOk, ghostOk, touchedOk, kidCellsAre, cellOk, sentenceOk, pointOk, blankOk, heldOk, valueOk, usedOk, rowOk, rowwise}
+use Rattle.checking.specs.Rowwise.{below, isPlusZero, emptyOk, zeroOk, rootOk, childOk, placeOk, kidTests, kidOk, kidsTests, kidsOk, sideTests, sidesOk, ghostOk, touchedOk, kidCellsAre, cellOk, sentenceTests, sentenceOk, pointTests, pointOk, blankOk, heldOk, valueOk, usedTests, usedOk, rowOk, rowwise}
 use Rattle.geometry.proofs.Bools.{is-yes, yes-is, no-is, and-both, or-left, or-right, implies, either, beq-refl}
 use Rattle.geometry.proofs.Lists.{at-every}
 use Rattle.geometry.proofs.Kids.{up, parent-up, no-parent, parent-depth, all-kids, kids-all, kid-has, leaf-cell, leaf-kidless}
@@ -189,7 +189,7 @@ module _ (s : State) (v : Valid s) where
         k : ℕ
         k = number es q
 
-        go : Dec (k ≡ 0) → T (eqb k 0 || every (not (eqb (word k 12) 8192) ∷ eqb (word k 0) n ∷ eqb (word k 10 % 2) l ∷ eqb (word k 11 % 2) m ∷ []))
+        go : Dec (k ≡ 0) → T (eqb k 0 || every (pictured kidTests s n l m k))
         go (yes z) = rw (eq-eqb k 0 z) tt
         go (no z) =
             let there : placeOf (entry es k) ≡ some q = number-place es q z in
@@ -217,13 +217,12 @@ module _ (s : State) (v : Valid s) where
     kids-ok : T (pictured kidsOk s n)
     unfolding kidsOk
     kids-ok =
-        let ok = pictured kidOk s n in
-        at-every (ok 1 1 ∷ ok 1 0 ∷ ok 0 0 ∷ ok 0 1 ∷ [])
+        at-every (pictured kidsTests s n)
         (kid-ok 1 1 (lit≤ tt) (lit≤ tt), (kid-ok 1 0 (lit≤ tt) (lit≤ tt), (kid-ok 0 0 (lit≤ tt) (lit≤ tt), (kid-ok 0 1 (lit≤ tt) (lit≤ tt), tt))))
 
     sides-ok : T (pictured sidesOk s n)
     unfolding sidesOk
-    sides-ok = at-every (test N ∷ test E ∷ test S ∷ test W ∷ []) (ok N tt, (ok E tt, (ok S tt, (ok W tt, tt))))
+    sides-ok = at-every (pictured sideTests s n) (ok N tt, (ok E tt, (ok S tt, (ok W tt, tt))))
       where
         test : Wind → Bool
         test w = eqb (word n (wordOfWind w)) (sideOf (table s) (capacity s) n w)
@@ -305,26 +304,27 @@ module _ (s : State) (v : Valid s) where
     sentence-ok d =
         let (x, e) = sentenced-cell (entry es n) p h d in
         let (l, k) = v .sentences n p x e (rw e at d) in
-        rw (cell-of s v n p h, yes-is (c p) (leaf-cell g c p k), depth-of s v n p h, ne-eqb (p .depth) (base g) (λ z. omega arith))
-        (and-both (pictured kidCellsAre s n false) true (kid-cells false (λ q a. no-is (c q) (leaf-kidless g c p k q a))) tt)
+        at-every (pictured sentenceTests s n) (
+          rw (cell-of s v n p h) (leaf-cell g c p k),
+          (rw (depth-of s v n p h, ne-eqb (p .depth) (base g) (λ z. omega arith)) tt, (kid-cells false (λ q a. no-is (c q) (leaf-kidless g c p k q a)), tt)),
+        )
 
     point-ok : base g ≤ p .depth → T (pictured pointOk s n)
     unfolding pointOk
     point-ok l =
-        let sentenced : flagOf (table s) 12 n ≡ isSentenced (entry es n) = sentenced-flag s n p h in
         let mark = isSentenced (entry es n) in
+        let sentenced : flagOf (table s) 12 n ≡ mark = sentenced-flag s n p h in
         let flagged : word n 12 ≡ digits (flagsFrom (table s) (capacity s) (base g) n mark) = word-flags s n p h ∙ ap digits (sym (flags-from s v n p h l mark)) in
-        rw (sentenced, cell-of s v n p h)
-        (at-every (pictured touchedOk s n ∷ (not (c p) || pictured cellOk s n) ∷ (not mark || pictured sentenceOk s n) ∷ eqb (word n 12) (digits (flagsFrom (table s) (capacity s) (base g) n mark)) ∷ []) (
+        at-every (pictured pointTests s n) (
           touched-ok l,
           (
-            implies (c p) (pictured cellOk s n) cell-ok,
+            rw (cell-of s v n p h) (implies (c p) (pictured cellOk s n) cell-ok),
             (
-              implies mark (pictured sentenceOk s n) sentence-ok,
-              (is-eqb (word n 12) (digits (flagsFrom (table s) (capacity s) (base g) n mark)) flagged, tt),
+              rw sentenced (implies mark (pictured sentenceOk s n) sentence-ok),
+              (rw sentenced (is-eqb (word n 12) (digits (flagsFrom (table s) (capacity s) (base g) n mark)) flagged), tt),
             ),
           ),
-        ))
+        )
 
     -- ---- values
 
@@ -353,12 +353,9 @@ module _ (s : State) (v : Valid s) where
     used-ok : T (pictured usedOk s n)
     unfolding usedOk
     used-ok =
-        at-every (pictured placeOk s n ∷ pictured kidsOk s n ∷ pictured sidesOk s n ∷ levelTest ∷ pictured valueOk s n ∷ [])
+        at-every (pictured usedTests s n)
         (place-ok, (kids-ok, (sides-ok, (rw (depth-of s v n p h) (go (decLt (p .depth) (base g))), (value-ok, tt)))))
       where
-        levelTest : Bool
-        levelTest = cond (ltb (depthOf (table s) (base g) n) (base g)) (pictured ghostOk s n) (pictured pointOk s n)
-
         go : Dec (p .depth < base g) → T (cond (ltb (p .depth) (base g)) (pictured ghostOk s n) (pictured pointOk s n))
         go (yes l) = rw (lt-ltb (p .depth) (base g) l) (ghost-ok l)
         go (no l) = rw (le-ltb (p .depth) (base g) (omega (arith, l))) (point-ok (omega (arith, l)))

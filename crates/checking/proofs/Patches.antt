@@ -19,7 +19,7 @@ use Rattle.mesh.specs.Valid.{finite}
 use Rattle.mesh.specs.Test.{sameFloat}
 use Rattle.table.specs.Words.{wordOf, linkOf, flagOf, depthOf}
 use Rattle.table.specs.Worked.{kidWord, flagsFrom}
-use Rattle.checking.specs.Rowwise.{ghostOk, touchedOk, kidCellsAre, cellOk, sentenceOk, pointOk, blankOk, heldOk, valueOk}
+use Rattle.checking.specs.Rowwise.{isPlusZero, kidless, hasKid, ghostOk, touchedOk, kidCellTests, kidCellsAre, cellTests, cellOk, sentenceTests, sentenceOk, pointTests, pointOk, blankOk, carriedTests, heldTests, heldOk, valueOk}
 use Rattle.geometry.proofs.Bools.{is-yes, and-left, and-right, or-cases, implied, beq-is}
 use Rattle.geometry.proofs.Lists.{every-at, at-every}
 use Rattle.pictures.proofs.Equal.{float-is}
@@ -89,7 +89,7 @@ pub record Blank (cap : ℕ) (t : List ℤ) (v : List Float) (n : ℕ) : Type 0 
 module _ (g : Grid) (cap : ℕ) (t : List ℤ) (v : List Float) where
   pub ghost-facts : (n : ℕ) → T (ghostOk g cap t v n) → Ghost cap t n
   unfolding ghostOk
-  ghost-facts n h = record { flags = eqb→eq _ _ (and-left a (not (every bs)) h); kid = go (ℕ-discrete (k 1) 0) (ℕ-discrete (k 2) 0) (ℕ-discrete (k 3) 0) (ℕ-discrete (k 4) 0) }
+  ghost-facts n h = record { flags = eqb→eq _ _ (and-left a (hasKid g cap t v n) h); kid = go (ℕ-discrete (k 1) 0) (ℕ-discrete (k 2) 0) (ℕ-discrete (k 3) 0) (ℕ-discrete (k 4) 0) }
     where
       k : ℕ → ℕ
       k w = linkOf t cap n w
@@ -98,7 +98,7 @@ module _ (g : Grid) (cap : ℕ) (t : List ℤ) (v : List Float) where
       a = eqb (wordOf t n 12) 0
 
       bs : List Bool
-      bs = eqb (k 1) 0 ∷ eqb (k 2) 0 ∷ eqb (k 3) 0 ∷ eqb (k 4) 0 ∷ []
+      bs = kidless g cap t v n
 
       is : (w : ℕ) → k w ≡ 0 → T (eqb (k w) 0)
       is w e = is-yes (eqb (k w) 0) (eq-eqb (k w) 0 e)
@@ -108,12 +108,11 @@ module _ (g : Grid) (cap : ℕ) (t : List ℤ) (v : List Float) where
       go (yes e₁) (no e₂) d₃ d₄ = (1, 0, omega arith, omega arith, e₂)
       go (yes e₁) (yes e₂) (no e₃) d₄ = (0, 0, omega arith, omega arith, e₃)
       go (yes e₁) (yes e₂) (yes e₃) (no e₄) = (0, 1, omega arith, omega arith, e₄)
-      go (yes e₁) (yes e₂) (yes e₃) (yes e₄) = absurd (T-not (every bs) (and-right a (not (every bs)) h) (at-every bs (is 1 e₁, (is 2 e₂, (is 3 e₃, (is 4 e₄, tt))))))
+      go (yes e₁) (yes e₂) (yes e₃) (yes e₄) = absurd (T-not (every bs) (and-right a (hasKid g cap t v n) h) (at-every bs (is 1 e₁, (is 2 e₂, (is 3 e₃, (is 4 e₄, tt))))))
 
   kid-cells : (n : ℕ) (b : Bool) → T (kidCellsAre g cap t v n b) → KidCells cap t n b
   kid-cells n b h =
-      let c : ℕ → Bool = λ w. flagOf t 0 (linkOf t cap n w) in
-      let nth = every-at (Bool·beq (c 1) b ∷ Bool·beq (c 2) b ∷ Bool·beq (c 3) b ∷ Bool·beq (c 4) b ∷ []) h in
+      let nth = every-at (kidCellTests g cap t v n b) h in
       by-kid (λ w. flagOf t 0 (linkOf t cap n w) ≡ b) (beq-is _ b (nth 0)) (beq-is _ b (nth 1)) (beq-is _ b (nth 2)) (beq-is _ b (nth 3))
 
   cell-facts : (n : ℕ) → T (cellOk g cap t v n) → CellRow g cap t n
@@ -122,9 +121,7 @@ module _ (g : Grid) (cap : ℕ) (t : List ℤ) (v : List Float) where
       let d = depthOf t (base g) n in
       let x = ltb (wordOf t n 10) (g .columns) in
       let y = ltb (wordOf t n 11) (g .rows) in
-      let bs = not (eqb (linkOf t cap n 6) 0) ∷ not (eqb (linkOf t cap n 5) 0) ∷ not (eqb (linkOf t cap (linkOf t cap n 6) 5) 0) ∷
-      cond (eqb d (base g)) (x && y) (flagOf t 0 (linkOf t cap n 0)) ∷ (kidCellsAre g cap t v n true || kidCellsAre g cap t v n false) ∷ [] in
-      let nth = every-at bs h in
+      let nth = every-at (cellTests g cap t v n) h in
       record {
         east = unequal _ _ (nth 0);
         north = unequal _ _ (nth 1);
@@ -141,15 +138,13 @@ module _ (g : Grid) (cap : ℕ) (t : List ℤ) (v : List Float) where
   sentence-facts : (n : ℕ) → T (sentenceOk g cap t v n) → Sentence g cap t n
   unfolding sentenceOk
   sentence-facts n h =
-      let nth = every-at (flagOf t 0 n ∷ not (eqb (depthOf t (base g) n) (base g)) ∷ kidCellsAre g cap t v n false ∷ []) h in
+      let nth = every-at (sentenceTests g cap t v n) h in
       record { cell = nth 0; high = unequal _ _ (nth 1); kidless = kid-cells n false (nth 2) }
 
   pub point-facts : (n : ℕ) → T (pointOk g cap t v n) → Point g cap t v n
   unfolding pointOk
   point-facts n h =
-      let a = not (flagOf t 0 n) || cellOk g cap t v n in
-      let b = not (flagOf t 12 n) || sentenceOk g cap t v n in
-      let nth = every-at (touchedOk g cap t v n ∷ a ∷ b ∷ eqb (wordOf t n 12) (digits (flagsFrom t cap (base g) n (flagOf t 12 n))) ∷ []) h in
+      let nth = every-at (pointTests g cap t v n) h in
       record {
         touched = nth 0;
         cell = λ c. cell-facts n (implied (flagOf t 0 n) (cellOk g cap t v n) (nth 1) c);
@@ -160,7 +155,7 @@ module _ (g : Grid) (cap : ℕ) (t : List ℤ) (v : List Float) where
   blank-facts : (n : ℕ) → T (blankOk g cap t v n) → Blank cap t v n
   unfolding blankOk
   blank-facts n h =
-      let a = sameFloat (getD v n plusZero) plusZero in
+      let a = isPlusZero g cap t v n in
       let b = eqb (wordOf t (linkOf t cap n 0) 13) 0 in
       record { zero-value = float-is _ _ (and-left a (not (flagOf t 0 n) || b) h); above = λ c. eqb→eq _ _ (implied (flagOf t 0 n) b (and-right a (not (flagOf t 0 n) || b) h) c) }
 
@@ -169,10 +164,10 @@ module _ (g : Grid) (cap : ℕ) (t : List ℤ) (v : List Float) where
   held-facts n h = record { cell = nth 0; is-finite = nth 1; status = go (or-cases (eqb (wordOf t n 13) 1) (every bs) (nth 2)) }
     where
       bs : List Bool
-      bs = eqb (wordOf t n 13) 2 ∷ not (eqb (wordOf t (linkOf t cap n 0) 13) 0) ∷ sameFloat (getD v (linkOf t cap n 0) plusZero) (getD v n plusZero) ∷ []
+      bs = carriedTests g cap t v n
 
-      nth : (k : ℕ) → T (getD (flagOf t 0 n ∷ finite (getD v n plusZero) ∷ (eqb (wordOf t n 13) 1 || every bs) ∷ []) k true)
-      nth = every-at (flagOf t 0 n ∷ finite (getD v n plusZero) ∷ (eqb (wordOf t n 13) 1 || every bs) ∷ []) h
+      nth : (k : ℕ) → T (getD (heldTests g cap t v n) k true)
+      nth = every-at (heldTests g cap t v n) h
 
       go : T (eqb (wordOf t n 13) 1) ⊎ T (every bs) → (wordOf t n 13 ≡ 1) ⊎ ((wordOf t n 13 ≡ 2) × (wordOf t (linkOf t cap n 0) 13 ≢ 0) × (getD v (linkOf t cap n 0) plusZero ≡ getD v n plusZero))
       go (inl e) = inl (eqb→eq _ _ e)
