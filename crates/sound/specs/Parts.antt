@@ -1,28 +1,25 @@
--- Parts of the tests of a row that have no name there.
+-- Parts of the tests of a row, as the functions take them: with the lists and the numbers that play a part in them alone.
 -- Assumes nothing.
 use Prim.Native.Nat.{ℕ}
-use mathlib.Core.Bool.{Bool, not, _&&_, cond}
+use mathlib.Core.Bool.{Bool, _&&_, cond}
 use mathlib.Core.List.{List, [], _∷_}
 use lib.Dec.{eqb, ltb}
-use lib.ListN.{getD}
 use lib.IntN.{ℤ}
 use lib.Ieee.{Float}
 use Rattle.mesh.specs.Tools.{every}
 use Rattle.mesh.specs.Place.{rectangle, N, E, S, W}
-use Rattle.mesh.specs.State.{plusZero}
-use Rattle.mesh.specs.Test.{sameFloat}
 use Rattle.table.specs.Words.{wordOf, linkOf, flagOf, depthOf}
 use Rattle.table.specs.Sides.{sideBy}
-use Rattle.checking.specs.Rowwise.{below, kidCellsAre}
+use Rattle.checking.specs.Rowwise.{below, kidless, kidCellsAre, carriedTests}
 
 module _ (t : List ℤ) (cap : ℕ) where
-  -- each of the four kids is a cell, or none is: the rectangle and the values play no part
+  -- each of the four kids is a cell, or none is
   abbrev pub kidCells : ℕ → Bool → Bool
   kidCells n b = kidCellsAre (rectangle 0 0) cap t [] n b
 
   -- no kid word names a row
   abbrev pub noKids : ℕ → Bool
-  noKids n = every (eqb (linkOf t cap n 1) 0 ∷ eqb (linkOf t cap n 2) 0 ∷ eqb (linkOf t cap n 3) 0 ∷ eqb (linkOf t cap n 4) 0 ∷ [])
+  noKids n = every (kidless (rectangle 0 0) cap t [] n)
 
   -- a cell of level 0 lies in the rectangle, and any other in a cell of the level below
   abbrev pub insideOf : ℕ → ℕ → ℕ → ℕ → Bool
@@ -30,7 +27,7 @@ module _ (t : List ℤ) (cap : ℕ) where
 
   -- "its parent is not blank, and the value bits are the parent's"
   abbrev pub carried : List Float → ℕ → Bool
-  carried v n = every (eqb (wordOf t n 13) 2 ∷ not (eqb (wordOf t (linkOf t cap n 0) 13) 0) ∷ sameFloat (getD v (linkOf t cap n 0) plusZero) (getD v n plusZero) ∷ [])
+  carried v n = every (carriedTests (rectangle 0 0) cap t v n)
 
   -- each link names a row or none
   abbrev pub linked : ℕ → Bool
