@@ -7,8 +7,8 @@ use mathlib.Core.Path.{_≡_, sym, ap, _∙_}
 use mathlib.Core.Logic.{_≢_, _⊎_, inl, inr}
 use mathlib.Core.Bool.{Bool, true, not, _&&_, _||_, cond}
 use mathlib.Core.Option.{some}
-use mathlib.Core.List.{List, [], _∷_}
-use lib.Dec.{T, T-not, eqb, leb, ltb, eqb→eq, eqb-refl, leb→le}
+use mathlib.Core.List.{List}
+use lib.Dec.{T, T-not, eqb, leb, eqb→eq, eqb-refl, leb→le}
 use lib.ListN.{getD}
 use lib.IntN.{ℤ}
 use lib.Ieee.{Float}
@@ -17,7 +17,6 @@ use Rattle.mesh.specs.Tools.{every}
 use Rattle.mesh.specs.Place.{Place, Grid, at, root, base, parent, Wind, NE, SE, SW, NW, N, E, S, W}
 use Rattle.mesh.specs.Winds.{wordOfWind}
 use Rattle.mesh.specs.State.{plusZero}
-use Rattle.mesh.specs.Test.{sameFloat}
 use Rattle.table.specs.Words.{wordOf, linkOf, depthOf}
 use Rattle.table.specs.Worked.{kidWord, sideOf}
 use Rattle.checking.specs.Rowwise.{below, isPlusZero, emptyOk, zeroOk, rootTests, rootOk, childTests, childOk, placeOk, kidTests, kidOk, kidsTests, kidsOk, sideTests, sidesOk, ghostOk, pointOk, valueOk, usedTests, usedOk, rowOk, rowwise}

@@ -5,8 +5,8 @@ use native.Mathlib.Omega.{arith}
 use native.Mathlib.Decide.{ℕ-discrete}
 use mathlib.Core.Path.{_≡_}
 use mathlib.Core.Logic.{_≢_, _⊎_, inl, inr}
-use mathlib.Core.Bool.{Bool, true, false, not, _&&_, _||_, cond, Bool·beq}
-use mathlib.Core.List.{List, [], _∷_}
+use mathlib.Core.Bool.{Bool, true, false, not, _&&_, _||_}
+use mathlib.Core.List.{List}
 use lib.Dec.{T, T-not, eqb, ltb, eqb→eq, ltb→lt}
 use lib.ListN.{getD}
 use lib.IntN.{ℤ}
@@ -16,7 +16,6 @@ use Rattle.mesh.specs.Tools.{every, digits}
 use Rattle.mesh.specs.Place.{Grid, base}
 use Rattle.mesh.specs.State.{plusZero}
 use Rattle.mesh.specs.Valid.{finite}
-use Rattle.mesh.specs.Test.{sameFloat}
 use Rattle.table.specs.Words.{wordOf, linkOf, flagOf, depthOf}
 use Rattle.table.specs.Worked.{kidWord, flagsFrom}
 use Rattle.checking.specs.Rowwise.{isPlusZero, kidless, hasKid, ghostOk, touchedOk, kidCellTests, kidCellsAre, cellTests, cellOk, sentenceTests, sentenceOk, pointTests, pointOk, blankOk, carriedTests, heldTests, heldOk, valueOk}
