@@ -2,9 +2,10 @@
 -- Assumes nothing.
 use Prim.Native.Nat.{ℕ}
 use mathlib.Core.Path.{_≡_, refl, ap, _∙_, fun-ext}
+use mathlib.Core.Logic.{Iff·trans}
 use mathlib.Core.List.{List}
 use Rattle.mesh.specs.Place.{Grid}
-use Rattle.mesh.specs.State.{State, inUse}
+use Rattle.mesh.specs.State.{State, inUse, gridOf}
 use Rattle.mesh.specs.Refusal.{refusal}
 use Rattle.mesh.specs.Build.{built}
 use Rattle.mesh.specs.Call.{Lent, picture, Built, buildChecks, buildCall}
@@ -15,6 +16,7 @@ use Rattle.walking.proofs.Scans.{scan-all}
 use Rattle.walking.proofs.Counts.{in-use-counts}
 use Rattle.laws.specs.Deeds.{Deed, setRules, after, deeds}
 use Rattle.laws.specs.Demand.{Demand3}
+use Rattle.laws.proofs.Adjacent.{around-adjacent}
 use Rattle.laws.proofs.Refusals.{unless-accepted, unless-why}
 use Rattle.walking.proofs.Lookups.{lookup-leaf, lookup-none}
 use Rattle.laws.proofs.Tapes.{Led, tapes-led}
@@ -28,7 +30,7 @@ demanded g cap b ds s l = record {
   mark = l .mark;
   valid = l .valid;
   by-set-rules = l .by-rules ∙ ap (setRules ds) (fun-ext (built-contents g cap (b .rectangle)));
-  linked = link-place s (l .valid);
+  linked = λ n m w p q h a b. Iff·trans (link-place s (l .valid) n m w p q h a b) (around-adjacent (gridOf s) w p q);
   returned = links-return s (l .valid);
   parents = parent-kid-return s (l .valid);
   tiled = λ u v t. lookup-leaf (l .valid) u v t;

@@ -1,4 +1,5 @@
 -- The laws of demand 3, and of refusals.
+pub mod Adjacent
 pub mod Prefixes
 pub mod Refusals
 pub mod Answers

@@ -7,11 +7,11 @@ use mathlib.Core.Bool.{cond}
 use mathlib.Core.Option.{none, some}
 use mathlib.Core.List.{List}
 use lib.Dec.{T, eqb}
-use lib.ListN.{length, getD}
+use lib.ListN.{length}
 use lib.IntN.{ℤ, pos}
 use lib.Signed.{leZ}
 use Rattle.mesh.specs.Tools.{count}
-use Rattle.mesh.specs.Place.{Place, Grid, Wind, compass, kidWinds, sideWinds, around, root, level}
+use Rattle.mesh.specs.Place.{Place, Grid, Wind, compass, kidWinds, sideWinds, root, level}
 use Rattle.mesh.specs.Winds.{wordOfWind}
 use Rattle.mesh.specs.Mesh.{leaf}
 use Rattle.mesh.specs.State.{State, placeOf, isUsed, entry, cells, number, inUse, gridOf}
@@ -23,6 +23,7 @@ use Rattle.geometry.proofs.Tiling.{groundOf}
 use Rattle.numbering.proofs.Numbers.{contents}
 use Rattle.pictures.proofs.Links.{_of_, linkWord}
 use Rattle.walking.specs.Points.{total}
+use Rattle.laws.specs.Adjacent.{Adjacent}
 use Rattle.laws.specs.Deeds.{Deed, Contents, setRules}
 
 -- the mark after so many accepted requests
@@ -42,9 +43,9 @@ pub record Demand3 (g : Grid) (ds : List Deed) (s : State) : Type 0 where
   pub valid : Valid s
   -- "the mesh that the accepted requests give by the set rules alone"
   pub by-set-rules : contents (s .entries) ≡ setRules ds (fullContents g)
-  -- "links exactly between adjacent patches": the word w of the row of n names m exactly if m stands at the w-th place around
+  -- "links exactly between adjacent patches": the word w of the row of n names m exactly if m's place is adjacent to n's in the word's direction
   pub linked : (n m w : ℕ) (p q : Place) → w < 9 → placeOf (entry (s .entries) n) ≡ some p → placeOf (entry (s .entries) m) ≡ some q
-      → (linkWord s n w ≡ pos m) ↔ (getD (around (gridOf s) (some p)) w none ≡ some q)
+      → (linkWord s n w ≡ pos m) ↔ Adjacent (gridOf s) w p q
   -- "and returned": by the opposite wind, and between parent and kid
   pub returned : (w : Wind) → T (w of sideWinds) → (n m : ℕ) → m ≢ 0 → linkWord s n (wordOfWind w) ≡ pos m → linkWord s m (wordOfWind (compass w .opposite)) ≡ pos n
   pub parents : (n m : ℕ)

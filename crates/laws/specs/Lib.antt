@@ -1,3 +1,4 @@
--- The set rules, and what a list of tapes does.
+-- The set rules, what is adjacent, and what a list of tapes does.
+pub mod Adjacent
 pub mod Deeds
 pub mod Demand

@@ -1,0 +1,70 @@
+-- The places around a place are the adjacent ones: what a row's words are drawn by agrees with the plain words of 01.
+-- Assumes nothing.
+use Prim.Native.Nat.{ℕ, zero, suc, _/_, _<_}
+use native.Mathlib.Omega.{arith}
+use mathlib.Core.Path.{_≡_, sym, ap}
+use mathlib.Core.Logic.{_↔_}
+use mathlib.Core.Option.{none, some, Option·none-ne-some, Option·some-injective}
+use lib.ListN.{getD}
+use Rattle.mesh.specs.Place.{Place, Grid, Wind, NE, SE, SW, NW, at, compass, toNorth, toEast, toSouth, toWest, step, kid, parent, around}
+use Rattle.mesh.proofs.Winds.{rule}
+use Rattle.geometry.proofs.Places.{place-path, south-north, west-east, north-south, east-west}
+use Rattle.geometry.proofs.Kids.{up, parent-up, parent-depth, up-depth, up-is, parent-kid}
+use Rattle.laws.specs.Adjacent.{NorthOf, EastOf, KidOf, KidAt, Adjacent}
+
+north-is : (g : Grid) (p q : Place) → (toNorth g p ≡ q) ↔ NorthOf g q p
+unfolding toNorth
+north-is g p q = (
+  λ e. (ap (λ (x : Place). x .depth) (sym e), ap (λ (x : Place). x .col) (sym e), let h : suc (p .row) ≡ q .row = ap (λ (x : Place). x .row) e in omega arith),
+  λ (d, c, r). place-path (at (p .depth) (p .col) (suc (p .row))) q (sym d) (sym c) (omega arith),
+)
+
+east-is : (g : Grid) (p q : Place) → (toEast g p ≡ q) ↔ EastOf g q p
+unfolding toEast
+east-is g p q = (
+  λ e. (ap (λ (x : Place). x .depth) (sym e), (let h : suc (p .col) ≡ q .col = ap (λ (x : Place). x .col) e in omega arith), ap (λ (x : Place). x .row) (sym e)),
+  λ (d, c, r). place-path (at (p .depth) (suc (p .col)) (p .row)) q (sym d) (omega arith) (sym r),
+)
+
+-- south and west lead back
+south-is : (g : Grid) (p q : Place) → (toSouth g p ≡ some q) ↔ NorthOf g p q
+south-is g p q = (
+  λ e. north-is g q p .0 (south-north g p q e),
+  λ h. rw (← north-is g q p .1 h) (north-south g q),
+)
+
+west-is : (g : Grid) (p q : Place) → (toWest g p ≡ some q) ↔ EastOf g p q
+west-is g p q = (
+  λ e. east-is g q p .0 (west-east g p q e),
+  λ h. rw (← east-is g q p .1 h) (east-west g q),
+)
+
+parent-is : (q p : Place) → (parent q ≡ some p) ↔ KidOf q p
+unfolding up
+parent-is q p = (
+  λ e. let h = up-is q p e in ((let d = parent-depth q p e in omega arith), ap (λ (x : Place). x .col) h, ap (λ (x : Place). x .row) h),
+  λ (d, c, r). let h : 0 < q .depth = omega arith in rw (parent-up q h) (ap some (place-path (up q) p (omega (arith, up-depth q h)) c r)),
+)
+
+kid-is : (w : Wind) (p q : Place) → (kid w p ≡ q) ↔ KidAt (compass w .east / 2) (compass w .north / 2) q p
+unfolding kid
+kid-is w p q = (
+  λ e. (parent-is q p .0 (rw (← e) (parent-kid w p)), rw (← e) (omega (arith, rule w .east-back)), rw (← e) (omega (arith, rule w .north-back))),
+  λ ((d, c, r), x, y). place-path (kid w p) q (omega arith) (omega arith) (omega arith),
+)
+
+of-some : {p q : Place} {A : Type 0} → (p ≡ q) ↔ A → (some p ≡ some q) ↔ A
+of-some h = (λ e. h .0 (Option·some-injective _ _ e), λ a. ap some (h .1 a))
+
+pub around-adjacent : (g : Grid) (w : ℕ) (p q : Place) → (getD (around g (some p)) w none ≡ some q) ↔ Adjacent g w p q
+unfolding around step
+around-adjacent g zero p q = parent-is p q
+around-adjacent g (suc zero) p q = of-some (kid-is NE p q)
+around-adjacent g (suc (suc zero)) p q = of-some (kid-is SE p q)
+around-adjacent g (suc (suc (suc zero))) p q = of-some (kid-is SW p q)
+around-adjacent g (suc (suc (suc (suc zero)))) p q = of-some (kid-is NW p q)
+around-adjacent g (suc (suc (suc (suc (suc zero))))) p q = of-some (north-is g p q)
+around-adjacent g (suc (suc (suc (suc (suc (suc zero)))))) p q = of-some (east-is g p q)
+around-adjacent g (suc (suc (suc (suc (suc (suc (suc zero))))))) p q = south-is g p q
+around-adjacent g (suc (suc (suc (suc (suc (suc (suc (suc zero)))))))) p q = west-is g p q
+around-adjacent g (suc (suc (suc (suc (suc (suc (suc (suc (suc w))))))))) p q = (λ e. absurd (Option·none-ne-some _ e), λ a. absurd a)
