@@ -2,7 +2,7 @@
 -- Assumes nothing.
 use Prim.Native.Nat.{ℕ, zero, suc, _+_}
 use native.Mathlib.Omega.{arith}
-use mathlib.Core.Path.{_≡_, refl, sym, subst, _∙_}
+use mathlib.Core.Path.{_≡_, refl, sym, subst}
 use mathlib.Core.Logic.{_⊎_, inl, inr}
 use mathlib.Core.Bool.{Bool, true, false}
 use mathlib.Core.Option.{Option, none, some}
@@ -10,7 +10,7 @@ use mathlib.Core.List.{List, [], _∷_, _++_}
 use lib.Dec.{T, eqb, ltb}
 use lib.ListN.{length, take}
 use lib.IntN.{ℤ}
-use borrow.Author.Tests.{eqb-true, eq-eqb, ne-eqb}
+use borrow.Author.Tests.{eqb-true, eq-eqb}
 use Rattle.mesh.specs.Tools.{any, all}
 use Rattle.mesh.specs.Place.{Grid}
 use Rattle.mesh.specs.State.{State}
@@ -22,6 +22,7 @@ use Rattle.mesh.specs.Lookup.{lookupChecks}
 use Rattle.mesh.specs.Page.{pageChecks}
 use Rattle.mesh.specs.Call.{Lent, stateOf, lentChecks, picture, unless, checkCall, Built, buildChecks, buildCall, Taped, tapeCall, Wrote, scanCall, Found, lookupCall, pageCall}
 use Rattle.mesh.proofs.Runs.{run-stop, run-next}
+use Rattle.laws.proofs.Exactly.{refused-is}
 use Rattle.laws.proofs.Refusals.{unless-names}
 use Rattle.geometry.proofs.Bools.{or-left, or-right, or-cases, and-left, and-right, is-yes, yes-is}
 
@@ -70,15 +71,7 @@ checks-among s (kill n) = listed s (kill n) tt
 checks-among s (setValue n x) = listed s (setValue n x) tt
 
 refused-among : (s : State) (r : Request) (k : ℕ) → request s r ≡ refused k → T (among ofTapes k)
-unfolding request
-refused-among s r k h = go (refusal (checks s r)) refl
-  where
-    go : (m : ℕ) → refusal (checks s r) ≡ m → T (among ofTapes k)
-    go zero e = absurd (let x : accepted _ ≡ refused k = rw e at h in let z : _≡_ {A = ℕ} 0 1 = cc in omega arith)
-    go (suc m) e =
-        let x : refused (suc m) ≡ refused k = rw (e, ne-eqb (suc m) 0 (λ y. omega arith)) at h in
-        let i : suc m ≡ k = cc in
-        subst (λ (n : ℕ). T (among ofTapes n)) (e ∙ i) (checks-among s r)
+refused-among s r k h = subst (λ (n : ℕ). T (among ofTapes n)) (refused-is s r k h .1) (checks-among s r)
 
 step-among : (s : State) (o : Option Kind) (bs : List ℕ) (r : ℕ) → stepBy s o bs ≡ stop r → T (among ofTapes r)
 step-among s none bs r e = let i : 5 ≡ r = cc in subst (λ (n : ℕ). T (among ofTapes n)) i tt

@@ -1,5 +1,6 @@
 -- The laws of demand 3, and of refusals.
 pub mod Adjacent
+pub mod Exactly
 pub mod Prefixes
 pub mod Refusals
 pub mod Answers

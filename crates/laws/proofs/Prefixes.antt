@@ -9,38 +9,17 @@ use mathlib.Core.Logic.{_≢_}
 use mathlib.Core.Bool.{Bool, true, false}
 use mathlib.Core.Option.{Option, none, some}
 use mathlib.Core.List.{List, [], _∷_}
-use lib.Dec.{T, ltb}
+use lib.Dec.{ltb}
 use lib.ListN.{length, take}
 use lib.Seq.{length-take-le, take-take}
-use borrow.Author.Tests.{le-ltb, ltb-false, ne-eqb}
+use borrow.Author.Tests.{le-ltb, ltb-false}
 use Rattle.mesh.specs.State.{State}
-use Rattle.mesh.specs.Refusal.{refusal}
-use Rattle.mesh.specs.Request.{Request, refine, sentence, remove, kill, setValue, checks, Result, refused, accepted, request}
+use Rattle.mesh.specs.Request.{Request, Result, refused, accepted, request}
 use Rattle.mesh.specs.Tape.{Kind, kind, Step, stop, next, answered, stepBy, runFrom, run}
 use Rattle.mesh.proofs.Runs.{run-stop, run-next}
-use Rattle.numbering.proofs.Checks.{from, refused-from}
+use Rattle.laws.proofs.Exactly.{refused-is}
 
 -- ---- one request
-
--- a request's refusals are 6 and above
-checks-from : (s : State) (r : Request) → T (from 6 (checks s r))
-unfolding checks
-checks-from s (refine n) = tt
-checks-from s (sentence n) = tt
-checks-from s (remove n) = tt
-checks-from s (kill n) = tt
-checks-from s (setValue n x) = tt
-
-refused-is : (s : State) (r : Request) (k : ℕ) → request s r ≡ refused k → 6 ≤ k
-unfolding request
-refused-is s r k h = go (refusal (checks s r)) refl
-  where
-    go : (m : ℕ) → refusal (checks s r) ≡ m → 6 ≤ k
-    go zero e = absurd (let x : accepted _ ≡ refused k = rw e at h in let z : _≡_ {A = ℕ} 0 1 = cc in omega arith)
-    go (suc m) e =
-        let x : refused (suc m) ≡ refused k = rw (e, ne-eqb (suc m) 0 (λ y. omega arith)) at h in
-        let i : suc m ≡ k = cc in
-        omega (arith, refused-from 6 (checks s r) (checks-from s r) (λ z. omega arith))
 
 -- what stops a tape is 4 or above
 step-stop : (s : State) (o : Option Kind) (bs : List ℕ) (r : ℕ) → stepBy s o bs ≡ stop r → 4 ≤ r
@@ -51,7 +30,7 @@ step-stop s (some k) bs r e = body (ltb (length bs) (k .len)) refl
     q = k .ask (take (k .len) bs)
 
     done : (x : Result) → request s q ≡ x → answered x (k .len) ≡ stop r → 4 ≤ r
-    done (refused n) f h = let i : n ≡ r = cc in omega (arith, refused-is s q n f)
+    done (refused n) f h = let i : n ≡ r = cc in omega (arith, refused-is s q n f .0)
     done (accepted u) f h = absurd (let z : _≡_ {A = ℕ} 0 1 = cc in omega arith)
 
     body : (b : Bool) → ltb (length bs) (k .len) ≡ b → 4 ≤ r

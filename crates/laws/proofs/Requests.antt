@@ -1,7 +1,6 @@
 -- An accepted request: it keeps the state valid, changes the cells by its set rule, and keeps the numbers of the patches that stay.
 -- Assumes nothing.
-use Prim.Native.Nat.{ℕ, zero, suc, _+_, _%_}
-use native.Mathlib.Omega.{arith}
+use Prim.Native.Nat.{ℕ, _+_, _%_}
 use mathlib.Core.Path.{_≡_, refl, sym, ap, _∙_, subst, fun-ext}
 use mathlib.Core.Logic.{_≢_}
 use mathlib.Core.Bool.{cond}
@@ -9,14 +8,13 @@ use mathlib.Core.Option.{Option, some}
 use mathlib.Core.List.{List}
 use lib.Dec.{T}
 use lib.ListN.{length}
-use borrow.Author.Tests.{ne-eqb}
 use Rattle.mesh.specs.Place.{Place, same}
 use Rattle.mesh.specs.Mesh.{patch}
 use Rattle.mesh.specs.Tools.{any}
 use Rattle.mesh.specs.State.{State, Header, free, Cell, Value, blank, measured, carried, placeOf, entry, cells, number, gridOf}
 use Rattle.mesh.specs.Valid.{Valid, ValueRule}
 use Rattle.mesh.specs.Refusal.{refusal}
-use Rattle.mesh.specs.Request.{Request, refine, sentence, remove, kill, setValue, checks, effect, marked, refused, accepted, request}
+use Rattle.mesh.specs.Request.{Request, refine, sentence, remove, kill, setValue, checks, effect, marked, accepted, request}
 use Rattle.geometry.proofs.Bools.{yes-is}
 use Rattle.numbering.proofs.Numbers.{contents}
 use Rattle.numbering.proofs.Keeping.{Kept}
@@ -24,6 +22,7 @@ use Rattle.numbering.proofs.Marking.{sentence-kept, setValue-kept}
 use Rattle.numbering.proofs.Taking.{remove-kept, kill-kept}
 use Rattle.numbering.proofs.Refining.{refine-valid, refine-contents, refine-number, refine-frame, refine-stays}
 use Rattle.laws.specs.Deeds.{deedOf, setRule}
+use Rattle.laws.proofs.Exactly.{accepted-is}
 
 -- ---- the mark plays no part
 
@@ -50,14 +49,6 @@ marked-valid s v = record {
 }
 
 -- ---- what an accepted request leaves
-
-pub accepted-is : (s : State) (r : Request) (t : State) → request s r ≡ accepted t → (refusal (checks s r) ≡ 0) × (t ≡ marked (effect s r))
-unfolding request
-accepted-is s r t h = go (refusal (checks s r)) refl
-  where
-    go : (k : ℕ) → refusal (checks s r) ≡ k → (refusal (checks s r) ≡ 0) × (t ≡ marked (effect s r))
-    go zero e = let x : accepted (marked (effect s r)) ≡ accepted t = rw e at h in (e, cc)
-    go (suc k) e = absurd (let x : refused (suc k) ≡ accepted t = rw (e, ne-eqb (suc k) 0 (λ y. omega arith)) at h in let z : _≡_ {A = ℕ} 0 1 = cc in omega arith)
 
 -- what an accepted request does to a state s, in which the cells at ps become x
 pub record Done (s : State) (r : Request) (t : State) : Type 0 where

@@ -1,4 +1,5 @@
 -- The set rules, what is adjacent, and what a list of tapes does.
 pub mod Adjacent
 pub mod Deeds
+pub mod Exactly
 pub mod Demand
