@@ -1,11 +1,11 @@
 -- Demand 3, for every accepted build and every list of tapes, refused requests among them: the theorem that the laws are for.
 -- Assumes nothing.
-use Prim.Native.Nat.{ℕ}
-use mathlib.Core.Path.{_≡_, refl, ap, _∙_, fun-ext}
+use Prim.Native.Nat.{ℕ, _-_}
+use mathlib.Core.Path.{_≡_, refl, sym, ap, _∙_, subst, fun-ext}
 use mathlib.Core.Logic.{Iff·trans}
 use mathlib.Core.List.{List}
 use Rattle.mesh.specs.Place.{Grid}
-use Rattle.mesh.specs.State.{State, inUse, gridOf}
+use Rattle.mesh.specs.State.{State, inUse, gridOf, capacity}
 use Rattle.mesh.specs.Refusal.{refusal}
 use Rattle.mesh.specs.Build.{built}
 use Rattle.mesh.specs.Call.{Lent, picture, Built, buildChecks, buildCall}
@@ -16,6 +16,8 @@ use Rattle.walking.proofs.Scans.{scan-all}
 use Rattle.walking.proofs.Counts.{in-use-counts}
 use Rattle.laws.specs.Deeds.{Deed, setRules, after, deeds}
 use Rattle.laws.specs.Demand.{Demand3}
+use Rattle.laws.specs.Numbers.{History}
+use Rattle.laws.proofs.Numbers.{built-numbers}
 use Rattle.laws.proofs.Adjacent.{around-adjacent}
 use Rattle.laws.proofs.Refusals.{unless-accepted, unless-why}
 use Rattle.walking.proofs.Lookups.{lookup-leaf, lookup-none}
@@ -30,6 +32,8 @@ demanded g cap b ds s l = record {
   mark = l .mark;
   valid = l .valid;
   by-set-rules = l .by-rules ∙ ap (setRules ds) (fun-ext (built-contents g cap (b .rectangle)));
+  first-numbers = built-numbers g (capacity s);
+  numbers = subst (λ (c : ℕ). History (built g c) ds s) (sym (build-valid cap g b .1) ∙ ap (λ (n : ℕ). n - 1) (sym (l .same-length))) (l .history);
   linked = λ n m w p q h a b. Iff·trans (link-place s (l .valid) n m w p q h a b) (around-adjacent (gridOf s) w p q);
   returned = links-return s (l .valid);
   parents = parent-kid-return s (l .valid);

@@ -4,6 +4,7 @@ pub mod Exactly
 pub mod Prefixes
 pub mod Refusals
 pub mod Answers
+pub mod Numbers
 pub mod Requests
 pub mod Tapes
 pub mod Calls

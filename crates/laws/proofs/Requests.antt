@@ -1,28 +1,26 @@
--- An accepted request: it keeps the state valid, changes the cells by its set rule, and keeps the numbers of the patches that stay.
+-- An accepted request: it keeps the state valid, changes the cells by its set rule, and gives the numbers that the rules give.
 -- Assumes nothing.
-use Prim.Native.Nat.{ℕ, _+_, _%_}
+use Prim.Native.Nat.{_+_, _%_}
 use mathlib.Core.Path.{_≡_, refl, sym, ap, _∙_, subst, fun-ext}
-use mathlib.Core.Logic.{_≢_}
 use mathlib.Core.Bool.{cond}
-use mathlib.Core.Option.{Option, some}
-use mathlib.Core.List.{List}
-use lib.Dec.{T}
+use mathlib.Core.Option.{Option}
+use mathlib.Core.List.{List, []}
 use lib.ListN.{length}
 use Rattle.mesh.specs.Place.{Place, same}
-use Rattle.mesh.specs.Mesh.{patch}
 use Rattle.mesh.specs.Tools.{any}
-use Rattle.mesh.specs.State.{State, Header, free, Cell, Value, blank, measured, carried, placeOf, entry, cells, number, gridOf}
+use Rattle.mesh.specs.State.{State, Header, Cell, Value, blank, measured, carried, gridOf}
 use Rattle.mesh.specs.Valid.{Valid, ValueRule}
 use Rattle.mesh.specs.Refusal.{refusal}
 use Rattle.mesh.specs.Request.{Request, refine, sentence, remove, kill, setValue, checks, effect, marked, accepted, request}
-use Rattle.geometry.proofs.Bools.{yes-is}
 use Rattle.numbering.proofs.Numbers.{contents}
 use Rattle.numbering.proofs.Keeping.{Kept}
 use Rattle.numbering.proofs.Marking.{sentence-kept, setValue-kept}
 use Rattle.numbering.proofs.Taking.{remove-kept, kill-kept}
-use Rattle.numbering.proofs.Refining.{refine-valid, refine-contents, refine-number, refine-frame, refine-stays}
+use Rattle.numbering.proofs.Refining.{refine-valid, refine-contents, refine-frame}
 use Rattle.laws.specs.Deeds.{deedOf, setRule}
+use Rattle.laws.specs.Numbers.{turns, Numbers}
 use Rattle.laws.proofs.Exactly.{accepted-is}
+use Rattle.laws.proofs.Numbers.{refine-numbers, kept-numbers, marked-numbers}
 
 -- ---- the mark plays no part
 
@@ -58,9 +56,8 @@ pub record Done (s : State) (r : Request) (t : State) : Type 0 where
   pub next-mark : t .header .mark ≡ (s .header .mark + 1) % 65536
   -- the mesh by the set rule alone
   pub by-rule : contents (t .entries) ≡ setRule (deedOf (s .entries) r) (contents (s .entries))
-  -- a patch that stays keeps its number, and the number of one that goes is free
-  pub keeps : (q : Place) → number (s .entries) q ≢ 0 → T (patch (gridOf t) (cells (t .entries)) q) → number (t .entries) q ≡ number (s .entries) q
-  pub frees : (n : ℕ) (q : Place) → placeOf (entry (s .entries) n) ≡ some q → (T (patch (gridOf t) (cells (t .entries)) q) → ⊥) → entry (t .entries) n ≡ free
+  -- with the numbers that the rules give
+  pub numbers : Numbers s (deedOf (s .entries) r) t
 
 -- the same of the state before the mark is raised
 record Effected (s : State) (r : Request) : Type 0 where
@@ -68,17 +65,15 @@ record Effected (s : State) (r : Request) : Type 0 where
   same-header : effect s r .header ≡ s .header
   same-length : length (effect s r .entries) ≡ length (s .entries)
   by-rule : (q : Place) → contents (effect s r .entries) q ≡ setRule (deedOf (s .entries) r) (contents (s .entries)) q
-  keeps : (q : Place) → number (s .entries) q ≢ 0 → T (patch (gridOf s) (cells (effect s r .entries)) q) → number (effect s r .entries) q ≡ number (s .entries) q
-  frees : (n : ℕ) (q : Place) → placeOf (entry (s .entries) n) ≡ some q → (T (patch (gridOf s) (cells (effect s r .entries)) q) → ⊥) → entry (effect s r .entries) n ≡ free
+  numbers : Numbers s (deedOf (s .entries) r) (effect s r)
 
-kept-effected : (s : State) (r : Request) (ps : List Place) (x : Option Cell) → ((q : Place) → setRule (deedOf (s .entries) r) (contents (s .entries)) q ≡ cond (any (same q) ps) x (contents (s .entries) q)) → Kept s ps x (effect s r) → Effected s r
-kept-effected s r ps x rule k = record {
+kept-effected : (s : State) (r : Request) (ps : List Place) (x : Option Cell) → turns (gridOf s) (deedOf (s .entries) r) ≡ [] → ((q : Place) → setRule (deedOf (s .entries) r) (contents (s .entries)) q ≡ cond (any (same q) ps) x (contents (s .entries) q)) → Kept s ps x (effect s r) → Effected s r
+kept-effected s r ps x none-new rule k = record {
   valid = k .valid;
   same-header = k .header-is;
   same-length = k .length-is;
   by-rule = λ q. k .contents-is q ∙ sym (rule q);
-  keeps = λ q h t. k .number-is q ∙ rw (yes-is (patch (gridOf s) (cells (effect s r .entries)) q) t);
-  frees = k .freed;
+  numbers = kept-numbers (deedOf (s .entries) r) none-new k;
 }
 
 effected : (s : State) → Valid s → (r : Request) → refusal (checks s r) ≡ 0 → Effected s r
@@ -88,13 +83,12 @@ effected s v (refine n) ok = record {
   same-header = refine-frame s v n ok .0;
   same-length = refine-frame s v n ok .1;
   by-rule = refine-contents s v n ok;
-  keeps = λ q h t. refine-number s v n ok q h;
-  frees = λ m q h f. absurd (f (refine-stays s v n ok q (v .each m q h)));
+  numbers = refine-numbers s v n ok;
 }
-effected s v (sentence n) ok = kept-effected s (sentence n) _ _ (λ q. refl) (sentence-kept s v n ok)
-effected s v (remove n) ok = kept-effected s (remove n) _ _ (λ q. refl) (remove-kept s v n ok)
-effected s v (kill n) ok = kept-effected s (kill n) _ _ (λ q. refl) (kill-kept s v n ok)
-effected s v (setValue n x) ok = kept-effected s (setValue n x) _ _ (λ q. refl) (setValue-kept s v n x ok)
+effected s v (sentence n) ok = kept-effected s (sentence n) _ _ refl (λ q. refl) (sentence-kept s v n ok)
+effected s v (remove n) ok = kept-effected s (remove n) _ _ refl (λ q. refl) (remove-kept s v n ok)
+effected s v (kill n) ok = kept-effected s (kill n) _ _ refl (λ q. refl) (kill-kept s v n ok)
+effected s v (setValue n x) ok = kept-effected s (setValue n x) _ _ refl (λ q. refl) (setValue-kept s v n x ok)
 
 marked-done : (s : State) (r : Request) → Effected s r → Done s r (marked (effect s r))
 unfolding marked
@@ -104,8 +98,7 @@ marked-done s r k = record {
   same-length = k .same-length;
   next-mark = ap (λ (x : Header). (x .mark + 1) % 65536) (k .same-header);
   by-rule = fun-ext (k .by-rule);
-  keeps = λ q h t. k .keeps q h (rw (k .same-header) at t);
-  frees = λ n q h f. k .frees n q h (λ t. f (rw (k .same-header) t));
+  numbers = marked-numbers s (deedOf (s .entries) r) (effect s r) (k .numbers);
 }
 
 pub request-done : (s : State) → Valid s → (r : Request) (t : State) → request s r ≡ accepted t → Done s r t

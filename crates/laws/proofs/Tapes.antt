@@ -16,7 +16,9 @@ use Rattle.mesh.specs.Tape.{Kind, kind, Step, stop, next, answered, stepBy, run
 use Rattle.mesh.proofs.Runs.{run-stop, run-next}
 use Rattle.numbering.proofs.Numbers.{contents}
 use Rattle.laws.specs.Deeds.{Deed, deedOf, setRule, setRules, askedBy, deedsFrom, after, deeds}
+use Rattle.laws.specs.Numbers.{History, no-more, one-more}
 use Rattle.laws.specs.Demand.{raised}
+use Rattle.laws.proofs.Numbers.{history-then}
 use Rattle.laws.proofs.Requests.{Done, request-done}
 
 -- ---- from a state by some deeds to another
@@ -27,10 +29,11 @@ pub record Led (s : State) (ds : List Deed) (t : State) : Type 0 where
   pub same-length : length (t .entries) ≡ length (s .entries)
   pub mark : t .header .mark ≡ raised (length ds) (s .header .mark)
   pub by-rules : contents (t .entries) ≡ setRules ds (contents (s .entries))
+  pub history : History s ds t
 
 led-none : (s : State) → Valid s → Led s [] s
 unfolding setRules
-led-none s v = record { valid = v; same-grid = refl; same-length = refl; mark = refl; by-rules = refl }
+led-none s v = record { valid = v; same-grid = refl; same-length = refl; mark = refl; by-rules = refl; history = no-more }
 
 led-more : (s t u : State) (r : Request) (ds : List Deed) → Done s r t → Led t ds u → Led s (deedOf (s .entries) r ∷ ds) u
 unfolding setRules
@@ -40,6 +43,7 @@ led-more s t u r ds d l = record {
   same-length = l .same-length ∙ d .same-length;
   mark = l .mark ∙ ap (raised (length ds)) (d .next-mark);
   by-rules = l .by-rules ∙ ap (setRules ds) (d .by-rule);
+  history = one-more (d .valid) (d .by-rule) (d .numbers) (l .history);
 }
 
 raised-more : (n k m : ℕ) → raised (n + k) m ≡ raised k (raised n m)
@@ -61,6 +65,7 @@ led-then s t u ds es a b = record {
   same-length = b .same-length ∙ a .same-length;
   mark = b .mark ∙ ap (raised (length es)) (a .mark) ∙ sym (ap (λ (n : ℕ). raised n (s .header .mark)) (length-append ds es) ∙ raised-more (length ds) (length es) (s .header .mark));
   by-rules = b .by-rules ∙ ap (setRules es) (a .by-rules) ∙ sym (rules-more ds es (contents (s .entries)));
+  history = history-then (a .history) (b .history);
 }
 
 -- ---- one tape

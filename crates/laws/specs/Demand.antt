@@ -14,9 +14,9 @@ use Rattle.mesh.specs.Tools.{count}
 use Rattle.mesh.specs.Place.{Place, Grid, Wind, compass, kidWinds, sideWinds, root, level}
 use Rattle.mesh.specs.Winds.{wordOfWind}
 use Rattle.mesh.specs.Mesh.{leaf}
-use Rattle.mesh.specs.State.{State, placeOf, isUsed, entry, cells, number, inUse, gridOf}
+use Rattle.mesh.specs.State.{State, placeOf, isUsed, entry, cells, number, inUse, gridOf, capacity}
 use Rattle.mesh.specs.Valid.{Valid}
-use Rattle.mesh.specs.Build.{full, blankCell}
+use Rattle.mesh.specs.Build.{full, numbered, blankCell, built}
 use Rattle.mesh.specs.Scan.{permutation, scan}
 use Rattle.mesh.specs.Lookup.{holds, lookup}
 use Rattle.geometry.proofs.Tiling.{groundOf}
@@ -25,6 +25,7 @@ use Rattle.pictures.proofs.Links.{_of_, linkWord}
 use Rattle.walking.specs.Points.{total}
 use Rattle.laws.specs.Adjacent.{Adjacent}
 use Rattle.laws.specs.Deeds.{Deed, Contents, setRules}
+use Rattle.laws.specs.Numbers.{NumberedAs, History}
 
 -- the mark after so many accepted requests
 abbrev pub raised : ℕ → ℕ → ℕ
@@ -43,6 +44,9 @@ pub record Demand3 (g : Grid) (ds : List Deed) (s : State) : Type 0 where
   pub valid : Valid s
   -- "the mesh that the accepted requests give by the set rules alone"
   pub by-set-rules : contents (s .entries) ≡ setRules ds (fullContents g)
+  -- "with the numbers those rules give": at the build of the same capacity those of its order, and from there by one deed after the other
+  pub first-numbers : NumberedAs (numbered g) (built g (capacity s))
+  pub numbers : History (built g (capacity s)) ds s
   -- "links exactly between adjacent patches": the word w of the row of n names m exactly if m's place is adjacent to n's in the word's direction
   pub linked : (n m w : ℕ) (p q : Place) → w < 9 → placeOf (entry (s .entries) n) ≡ some p → placeOf (entry (s .entries) m) ≡ some q
       → (linkWord s n w ≡ pos m) ↔ Adjacent (gridOf s) w p q

@@ -2,4 +2,5 @@
 pub mod Adjacent
 pub mod Deeds
 pub mod Exactly
+pub mod Numbers
 pub mod Demand
