@@ -1,28 +1,31 @@
 -- Demands 1, 2 and 3 of the public calls: what any outcome that a call's contract allows must be.
 -- Assumes nothing.
-use Prim.Native.Nat.{ℕ, _≤_}
+use Prim.Native.Nat.{ℕ, _+_, _≤_}
+use native.Mathlib.Omega.{arith}
 use mathlib.Core.Path.{_≡_, refl, sym, ap, subst, _∙_}
 use mathlib.Core.Logic.{_≢_, _↔_}
 use mathlib.Core.List.{List, [], _∷_}
 use lib.Dec.{T}
-use lib.ListN.{take}
+use lib.ListN.{length, take}
 use lib.IntN.{ℤ}
 use lib.Ieee.{Float}
 use Rattle.mesh.specs.Place.{rectangle}
 use Rattle.mesh.specs.Picture.{Sound}
 use Rattle.mesh.specs.Tape.{run}
 use Rattle.mesh.specs.State.{blank}
-use Rattle.mesh.specs.Build.{built}
+use Rattle.mesh.specs.Build.{full, built}
 use Rattle.mesh.specs.Call as Call
 use Rattle.mesh.specs.Call.{stateOf, picture, checkCall, buildCall, tapeCall, scanCall, lookupCall, pageCall}
 use Rattle.walk.specs.declared.calls.Found.{Found}
 use Rattle.walk.specs.Calls.{foundOf, valueOfReading}
+use Rattle.walking.specs.Points.{total}
+use Rattle.pictures.proofs.Rows.{amounts-length}
 use Rattle.laws.specs.Deeds.{deeds, after}
 use Rattle.laws.specs.Demand.{Demand3}
 use Rattle.laws.proofs.Refusals.{build-refused, tape-refused, scan-refused, lookup-refused-call, page-refused}
 use Rattle.laws.proofs.Prefixes.{tape-prefix}
 use Rattle.laws.proofs.Answers.{among, ofTapes, check-answers, build-answers, tape-answers, scan-answers, lookup-answers, page-answers}
-use Rattle.laws.proofs.Calls.{afterCalls}
+use Rattle.laws.proofs.Calls.{tape-checked, afterCalls}
 use Rattle.laws.proofs.Demand as laws
 use Rattle.grid.specs.declared.Header.{Header}
 use Rattle.grid.specs.declared.Wrote.{Wrote}
@@ -118,6 +121,17 @@ demand-2 h t v cap r e = (
   λ p. e ∙ sound-check cap (lentOf h t v) (p .0) (p .1),
 )
 
+-- so a tape on a sound table, refused or not, leaves a sound one
+pub tape-keeps-sound : (h : Header) (t : List ℤ) (v : List Float) (cap : ℕ) (h′ : Header) (t′ : List ℤ) (v′ : List Float) (bytes : List ℕ) (r : Taped)
+    → Tapes h t v cap bytes h′ t′ v′ r → Sizes cap (lentOf h t v) → Sound (headerOf h) t v → Sizes cap (lentOf h′ t′ v′) × Sound (headerOf h′) t′ v′
+tape-keeps-sound h t v cap h′ t′ v′ bytes r b z o =
+    let s = o .state in
+    let drawn : lentOf h t v ≡ picture s = λ i. record { header = o .is-header i; words = o .is-table i; values = o .is-values i } in
+    let long : length (s .entries) ≡ cap + 1 = sym (amounts-length s) ∙ ap length (sym (o .is-values)) ∙ z .values in
+    let left : lentOf h′ t′ v′ ≡ tapeCall cap (picture s) bytes .lent = ap (λ (x : Call.Taped). x .lent) (b .is) ∙ ap (λ (l : Call.Lent). tapeCall cap l bytes .lent) drawn in
+    let ok : checkCall cap (lentOf h′ t′ v′) ≡ 0 = ap (checkCall cap) left ∙ tape-checked s (o .valid) cap (omega arith) bytes in
+    (sizes cap (lentOf h′ t′ v′) ok, check-sound cap (lentOf h′ t′ v′) ok)
+
 -- ---- demand 3: "from any accepted build, over any tapes, refused requests among them"
 
 -- tapes one after the other, each on what the one before left
@@ -141,3 +155,9 @@ demand-3 {h} {t = t} {v = v} cap columns rows r ts b ok s =
     let l = lentOf h t v in
     let (is, d) = laws.demand-3 cap l g (ap (λ (x : Call.Built). x .why) (sym (b .is)) ∙ ok) ts in
     (served-calls cap s ∙ ap (λ (x : Call.Built). afterCalls cap (x .lent) ts) (b .is) ∙ is, d)
+
+-- "accepted, a build returns the number in use": ghosts plus distinct corner points of the full rectangle, and nothing else
+pub build-counts : {h h′ : Header} {t t′ : List ℤ} {v v′ : List Float} (cap columns rows : ℕ) (r : Built) → Builds h t v cap columns rows h′ t′ v′ r → r .refusal ≡ 0
+    → r .used ≡ total (rectangle columns rows) (full (rectangle columns rows))
+build-counts {h} {t = t} {v = v} cap columns rows r b ok =
+    ap (λ (x : Call.Built). x .in-use) (b .is) ∙ laws.build-counts cap (lentOf h t v) (rectangle columns rows) (ap (λ (x : Call.Built). x .why) (sym (b .is)) ∙ ok)

@@ -18,7 +18,7 @@ use Rattle.mesh.specs.Test.{sound}
 use Rattle.mesh.specs.Refusal.{refusal}
 use Rattle.mesh.specs.Build.{numbered, built}
 use Rattle.mesh.specs.Tape.{run}
-use Rattle.mesh.specs.Call.{Lent, picture, stateOf, outside, lentChecks, buildChecks, Taped, tapeCall}
+use Rattle.mesh.specs.Call.{Lent, picture, stateOf, outside, lentChecks, checkCall, buildChecks, Taped, tapeCall}
 use Rattle.geometry.proofs.Bools.{yes-is, neither}
 use Rattle.geometry.proofs.Ranges.{within-outside, outside-within}
 use Rattle.geometry.proofs.Base.{Rectangle}
@@ -60,6 +60,15 @@ module _ (s : State) (v : Valid s) where
   tape-runs cap c bytes =
       unless-accepted _ _ (refusal (lentChecks cap (picture s))) (ap (λ (n : ℕ). refusal (lentChecks n (picture s))) (sym c) ∙ picture-accepted)
       ∙ ap (λ (t : State). let r = run t bytes in record { done = r .done; why = r .why; offset = r .offset; lent = picture (r .state) }) picture-state
+
+-- and leaves the picture of a state that no first check refuses
+pub tape-checked : (s : State) → Valid s → (cap : ℕ) → capacity s ≡ cap → (bytes : List ℕ) → checkCall cap (tapeCall cap (picture s) bytes .lent) ≡ 0
+unfolding checkCall run
+tape-checked s v cap c bytes =
+    let u = run s bytes .state in
+    let (led, n) = run-led bytes 0 s 0 0 v in
+    let d : capacity u ≡ cap = omega (arith, led .same-length) in
+    ap (λ (r : Taped). checkCall cap (r .lent)) (tape-runs s v cap c bytes) ∙ ap (λ (k : ℕ). checkCall k (picture u)) (sym d) ∙ picture-accepted u (led .valid)
 
 -- ---- a build
 

@@ -7,11 +7,12 @@ use mathlib.Core.List.{List}
 use Rattle.mesh.specs.Place.{Grid}
 use Rattle.mesh.specs.State.{State, inUse, gridOf, capacity}
 use Rattle.mesh.specs.Refusal.{refusal}
-use Rattle.mesh.specs.Build.{built}
+use Rattle.mesh.specs.Build.{full, built}
 use Rattle.mesh.specs.Call.{Lent, picture, Built, buildChecks, buildCall}
 use Rattle.geometry.proofs.Tiling.{tiling-one}
-use Rattle.numbering.proofs.Building.{built-contents}
+use Rattle.numbering.proofs.Building.{built-contents, built-cells}
 use Rattle.pictures.proofs.Links.{link-place, links-return, parent-kid-return}
+use Rattle.walking.specs.Points.{total}
 use Rattle.walking.proofs.Scans.{scan-all}
 use Rattle.walking.proofs.Counts.{in-use-counts}
 use Rattle.laws.specs.Deeds.{Deed, setRules, after, deeds}
@@ -44,15 +45,29 @@ demanded g cap b ds s l = record {
   counted = in-use-counts (l .valid);
 }
 
+-- ---- an accepted build
+
+build-accepted : (cap : ℕ) (l : Lent) (g : Grid) → buildCall cap l g .why ≡ 0
+    → Buildable cap g × (buildCall cap l g ≡ record { why = 0; in-use = inUse (built g cap .entries); lent = picture (built g cap) })
+unfolding buildCall
+build-accepted cap l g ok =
+    let n : ℕ = refusal (buildChecks cap l g) in
+    let e : n ≡ 0 = unless-why (λ n. record { why = n; in-use = 0; lent = l }) (record { why = 0; in-use = inUse (built g cap .entries); lent = picture (built g cap) }) (λ (r : Built). r .why) (λ k. refl) n ok in
+    (build-checked cap l g e, unless-accepted _ _ n e)
+
+-- "accepted, a build returns the number in use": the ghosts and the distinct corner points of the full rectangle
+pub build-counts : (cap : ℕ) (l : Lent) (g : Grid) → buildCall cap l g .why ≡ 0 → buildCall cap l g .in-use ≡ total g (full g)
+unfolding built
+build-counts cap l g ok =
+    let (b, is) = build-accepted cap l g ok in
+    ap (λ (r : Built). r .in-use) is ∙ in-use-counts (build-valid cap g b .0) ∙ ap (total g) (fun-ext (built-cells g cap (b .rectangle)))
+
 -- for every accepted build and every list of tapes: what is lent is the picture of the state that the rules give, and demand 3 holds of it
 pub demand-3 : (cap : ℕ) (l : Lent) (g : Grid) → buildCall cap l g .why ≡ 0 → (ts : List (List ℕ))
     → (afterCalls cap (buildCall cap l g .lent) ts ≡ picture (after (built g cap) ts)) × Demand3 g (deeds (built g cap) ts) (after (built g cap) ts)
-unfolding buildCall
 demand-3 cap l g ok ts =
-    let n : ℕ = refusal (buildChecks cap l g) in
-    let e : n ≡ 0 = unless-why (λ n. record { why = n; in-use = 0; lent = l }) (record { why = 0; in-use = inUse (built g cap .entries); lent = picture (built g cap) }) (λ (r : Built). r .why) (λ k. refl) n ok in
-    let b = build-checked cap l g e in
+    let (b, is) = build-accepted cap l g ok in
     let (v, c) = build-valid cap g b in (
-      ap (λ (r : Built). afterCalls cap (r .lent) ts) (unless-accepted _ _ n e) ∙ calls-picture ts cap (built g cap) v c,
+      ap (λ (r : Built). afterCalls cap (r .lent) ts) is ∙ calls-picture ts cap (built g cap) v c,
       demanded g cap b (deeds (built g cap) ts) (after (built g cap) ts) (tapes-led ts (built g cap) v),
     )
