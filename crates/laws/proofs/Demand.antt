@@ -17,7 +17,7 @@ use Rattle.walking.proofs.Scans.{scan-all}
 use Rattle.walking.proofs.Counts.{in-use-counts}
 use Rattle.laws.specs.Deeds.{Deed, setRules, after, deeds}
 use Rattle.laws.specs.Demand.{Demand3}
-use Rattle.laws.specs.Numbers.{History}
+use Rattle.laws.specs.History.{History}
 use Rattle.laws.proofs.Numbers.{built-numbers}
 use Rattle.laws.proofs.Adjacent.{around-adjacent}
 use Rattle.laws.proofs.Refusals.{unless-accepted, unless-why}

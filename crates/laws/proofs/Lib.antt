@@ -5,6 +5,7 @@ pub mod Prefixes
 pub mod Refusals
 pub mod Answers
 pub mod Numbers
+pub mod History
 pub mod Requests
 pub mod Tapes
 pub mod Calls

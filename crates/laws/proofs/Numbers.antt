@@ -1,4 +1,4 @@
--- The numbers that the rules give: those of a build, of an accepted refinement and of a change of cells; and histories one after the other.
+-- The numbers that the rules give: those of a build, of an accepted refinement and of a change of cells.
 -- Assumes nothing.
 use Prim.Native.Nat.{ℕ, zero, suc, _-_, _≤_, _<_}
 use native.Mathlib.Omega.{arith}
@@ -27,7 +27,7 @@ use Rattle.numbering.proofs.Turns.{give-append}
 use Rattle.numbering.proofs.Keeping.{Kept}
 use Rattle.numbering.proofs.Refining.{refinable, have, refine-frame, refine-stays, refine-number, refine-turn}
 use Rattle.laws.specs.Deeds.{Deed, refined}
-use Rattle.laws.specs.Numbers.{NumberedAs, turns, FreeBehind, Smallest, Numbers, History, no-more, one-more}
+use Rattle.laws.specs.Numbers.{NumberedAs, turns, FreeBehind, Smallest, Numbers}
 
 -- ---- a build
 
@@ -148,9 +148,3 @@ kept-numbers {s} {t} d none-new k = record {
 pub marked-numbers : (s : State) (d : Deed) (t : State) → Numbers s d t → Numbers s d (marked t)
 unfolding marked
 marked-numbers s d t k = record { keeps = k .keeps; frees = k .frees; takes = k .takes; in-turn = k .in-turn }
-
--- ---- one history after another
-
-pub history-then : {s t u : State} {ds es : List Deed} → History s ds t → History t es u → History s (ds ++ es) u
-history-then no-more k = k
-history-then (one-more v r m h) k = one-more v r m (history-then h k)

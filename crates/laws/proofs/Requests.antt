@@ -19,6 +19,7 @@ use Rattle.numbering.proofs.Taking.{remove-kept, kill-kept}
 use Rattle.numbering.proofs.Refining.{refine-valid, refine-contents, refine-frame}
 use Rattle.laws.specs.Deeds.{deedOf, setRule}
 use Rattle.laws.specs.Numbers.{turns, Numbers}
+use Rattle.laws.specs.History.{Follows}
 use Rattle.laws.proofs.Exactly.{accepted-is}
 use Rattle.laws.proofs.Numbers.{refine-numbers, kept-numbers, marked-numbers}
 
@@ -48,16 +49,9 @@ marked-valid s v = record {
 
 -- ---- what an accepted request leaves
 
--- what an accepted request does to a state s, in which the cells at ps become x
-pub record Done (s : State) (r : Request) (t : State) : Type 0 where
-  pub valid : Valid t
-  pub same-grid : gridOf t ≡ gridOf s
-  pub same-length : length (t .entries) ≡ length (s .entries)
-  pub next-mark : t .header .mark ≡ (s .header .mark + 1) % 65536
-  -- the mesh by the set rule alone
-  pub by-rule : contents (t .entries) ≡ setRule (deedOf (s .entries) r) (contents (s .entries))
-  -- with the numbers that the rules give
-  pub numbers : Numbers s (deedOf (s .entries) r) t
+-- what follows s by an accepted request
+abbrev pub Done : State → Request → State → Type 0
+Done s r t = Follows s (deedOf (s .entries) r) t
 
 -- the same of the state before the mark is raised
 record Effected (s : State) (r : Request) : Type 0 where

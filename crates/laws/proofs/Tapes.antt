@@ -16,9 +16,9 @@ use Rattle.mesh.specs.Tape.{Kind, kind, Step, stop, next, answered, stepBy, run
 use Rattle.mesh.proofs.Runs.{run-stop, run-next}
 use Rattle.numbering.proofs.Numbers.{contents}
 use Rattle.laws.specs.Deeds.{Deed, deedOf, setRule, setRules, askedBy, deedsFrom, after, deeds}
-use Rattle.laws.specs.Numbers.{History, no-more, one-more}
+use Rattle.laws.specs.History.{History, no-more, one-more}
 use Rattle.laws.specs.Demand.{raised}
-use Rattle.laws.proofs.Numbers.{history-then}
+use Rattle.laws.proofs.History.{history-then}
 use Rattle.laws.proofs.Requests.{Done, request-done}
 
 -- ---- from a state by some deeds to another
@@ -43,7 +43,7 @@ led-more s t u r ds d l = record {
   same-length = l .same-length ∙ d .same-length;
   mark = l .mark ∙ ap (raised (length ds)) (d .next-mark);
   by-rules = l .by-rules ∙ ap (setRules ds) (d .by-rule);
-  history = one-more (d .valid) (d .by-rule) (d .numbers) (l .history);
+  history = one-more d (l .history);
 }
 
 raised-more : (n k m : ℕ) → raised (n + k) m ≡ raised k (raised n m)

@@ -25,7 +25,8 @@ use Rattle.pictures.proofs.Links.{_of_, linkWord}
 use Rattle.walking.specs.Points.{total}
 use Rattle.laws.specs.Adjacent.{Adjacent}
 use Rattle.laws.specs.Deeds.{Deed, Contents, setRules}
-use Rattle.laws.specs.Numbers.{NumberedAs, History}
+use Rattle.laws.specs.Numbers.{NumberedAs}
+use Rattle.laws.specs.History.{History}
 
 -- the mark after so many accepted requests
 abbrev pub raised : ℕ → ℕ → ℕ

@@ -3,4 +3,5 @@ pub mod Adjacent
 pub mod Deeds
 pub mod Exactly
 pub mod Numbers
+pub mod History
 pub mod Demand

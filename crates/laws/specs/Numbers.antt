@@ -1,5 +1,5 @@
--- The numbers that the rules give (01, 'Build and requests'): the build's in their order, and from there, one accepted request after the other,
--- a patch that stays keeps its number, one that no longer exists gives it up, and a new one takes the smallest that is free at its turn.
+-- The numbers that the rules give (01, 'Build and requests'): those of a build in their order; and by an accepted request a patch that stays keeps
+-- its number, one that no longer exists gives it up, and a new one takes the smallest that is free at its turn.
 -- Assumes nothing.
 use Prim.Native.Nat.{ℕ, suc, _<_}
 use mathlib.Core.Path.{_≡_}
@@ -11,11 +11,9 @@ use lib.ListN.{getD}
 use Rattle.mesh.specs.Place.{Place, Grid}
 use Rattle.mesh.specs.Mesh.{patch}
 use Rattle.mesh.specs.State.{State, free, placeOf, entry, cells, number, gridOf}
-use Rattle.mesh.specs.Valid.{Valid}
 use Rattle.mesh.specs.Request.{wanted}
 use Rattle.geometry.proofs.Places.{In}
-use Rattle.numbering.proofs.Numbers.{contents}
-use Rattle.laws.specs.Deeds.{Deed, refined, sentenced, removed, killed, measured, setRule}
+use Rattle.laws.specs.Deeds.{Deed, refined, sentenced, removed, killed, measured}
 
 -- "numbers go level by level from the root": the numbers from 1 on are those of the places, and no other is in use
 abbrev pub NumberedAs : List Place → State → Type 0
@@ -48,10 +46,3 @@ pub record Numbers (s : State) (d : Deed) (t : State) : Type 0 where
   pub takes : (xs ys : List Place) (q : Place) → turns (gridOf s) d ≡ xs ++ q ∷ ys → number (s .entries) q ≡ 0 → Smallest (FreeBehind s t xs) (number (t .entries) q)
   -- a new patch has a turn
   pub in-turn : (q : Place) → number (s .entries) q ≡ 0 → number (t .entries) q ≢ 0 → In q (turns (gridOf s) d)
-
--- ---- one after the other
-
-pub data History : State → List Deed → State → Type 0 where
-  no-more : {s : State} → History s [] s
-  one-more : {s t u : State} {d : Deed} {ds : List Deed} → Valid t → contents (t .entries) ≡ setRule d (contents (s .entries)) → Numbers s d t
-      → History t ds u → History s (d ∷ ds) u
