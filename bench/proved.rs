@@ -23,7 +23,7 @@ extern "C" {
         capacity: u32,
         tape: *const u8,
         tape_len: usize,
-        done: *mut u32,
+        done: *mut usize,
         offset: *mut usize,
     ) -> u32;
     fn grid_check(h: *const Header, t: *const i32, t_len: usize, v: *const f64, v_len: usize, capacity: u32) -> u32;
@@ -81,10 +81,10 @@ pub fn build(h: &mut Header, t: &mut [i32], v: &mut [f64], capacity: u32, column
 }
 
 pub fn tape(h: &mut Header, t: &mut [i32], v: &mut [f64], capacity: u32, tape: &[u8]) -> (usize, u32, usize) {
-    let (mut done, mut offset) = (u32::MAX, usize::MAX);
+    let (mut done, mut offset) = (usize::MAX, usize::MAX);
     let refusal =
         unsafe { grid_tape(h, t.as_mut_ptr(), t.len(), v.as_mut_ptr(), v.len(), capacity, tape.as_ptr(), tape.len(), &mut done, &mut offset) };
-    (done as usize, refusal, offset)
+    (done, refusal, offset)
 }
 
 pub fn scan(h: &Header, t: &[i32], v: &[f64], capacity: u32, what: &Scan, out: &mut [u16]) -> (u32, usize) {

@@ -39,7 +39,8 @@
 extern "C" {
 #endif
 
-/* The rectangle of level-0 cells, and the edit mark: each accepted request adds 1, and 65,535 is followed by 0. */
+/* The rectangle of level-0 cells, and the edit mark: each accepted request adds 1, and 65,535 is followed by 0. The two bytes behind mark are
+ * padding, and what they hold after a call is unspecified: compare headers field by field, not by memcmp. */
 typedef struct {
     uint32_t columns, rows;
     uint16_t mark;
@@ -49,10 +50,10 @@ typedef struct {
 uint32_t grid_build(grid_header *header, int32_t *table, size_t table_len, double *values, size_t values_len, uint32_t capacity,
                     uint32_t columns, uint32_t rows, uint32_t *in_use);
 
-/* Runs requests end to end, up to the first that is refused. done: those carried out, counted modulo 2^32. offset: the refused request's first
- * byte, or tape_len. Refuses 1 to 16. */
+/* Runs requests end to end, up to the first that is refused. done: those carried out. offset: the refused request's first byte, or tape_len.
+ * Refuses 1 to 16. */
 uint32_t grid_tape(grid_header *header, int32_t *table, size_t table_len, double *values, size_t values_len, uint32_t capacity,
-                   const uint8_t *tape, size_t tape_len, uint32_t *done, size_t *offset);
+                   const uint8_t *tape, size_t tape_len, size_t *done, size_t *offset);
 
 /* Whether the table, the values and the header are sound: 0 for yes, or 1, 2, 3. */
 uint32_t grid_check(const grid_header *header, const int32_t *table, size_t table_len, const double *values, size_t values_len, uint32_t capacity);

@@ -23,7 +23,7 @@ ENTRIES = [
     ("grid", "build", ["grid", "build", "build_core", "Header", "Built", "BuildOut", "Calls", "Builds", "--", *LENT, "u32", "u32"]),
     ("grid", "tape", ["grid", "tape", "tape_core", "Header", "Taped", "TapeOut", "Calls", "Tapes", "--", *LENT, "shr:u8"]),
     ("face", "grid_build", [*FACE, "grid_build", "build_core", "Header", "u32", "Left", "Outputs", "Builds", "--", *LENT, "u32", "u32", "ref:u32"]),
-    ("face", "grid_tape", [*FACE, "grid_tape", "tape_core", "Header", "u32", "Left", "Outputs", "Tapes", "--", *LENT, "shr:u8", "ref:u32", "ref:usize"]),
+    ("face", "grid_tape", [*FACE, "grid_tape", "tape_core", "Header", "u32", "Left", "Outputs", "Tapes", "--", *LENT, "shr:u8", "ref:usize", "ref:usize"]),
     ("face", "grid_check", ["--shared", *FACE, "grid_check", "check_core", "Header", "u32", "u32", "Outputs", "Checks", "--", *READ]),
     ("face", "grid_scan", ["--shared", *FACE, "grid_scan", "scan_core", "Header", "u32", "u32", "Outputs", "Scans", "--", *READ,
                            "u32", "shr:u8", "u32", "i32", "i32", "mut:u16", "ref:u32"]),

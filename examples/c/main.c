@@ -29,10 +29,9 @@ static void build(map *m, uint32_t capacity, uint32_t columns, uint32_t rows) {
 }
 
 static void run(map *m, const uint8_t *tape, size_t length) {
-    uint32_t done = 99;
-    size_t offset = 99;
+    size_t done = 99, offset = 99;
     uint32_t refusal = grid_tape(LISTS(m), tape, length, &done, &offset);
-    printf("tape %" PRIu32 " done %" PRIu32 " at %zu mark %u\n", refusal, done, offset, m->header.mark);
+    printf("tape %" PRIu32 " done %zu at %zu mark %u\n", refusal, done, offset, m->header.mark);
 }
 
 static void places(const map *m, uint32_t first, uint32_t last) {

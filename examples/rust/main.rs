@@ -19,7 +19,7 @@ extern "C" {
     fn grid_build(header: *mut Header, table: *mut i32, table_len: usize, values: *mut f64, values_len: usize, capacity: u32,
                   columns: u32, rows: u32, in_use: *mut u32) -> u32;
     fn grid_tape(header: *mut Header, table: *mut i32, table_len: usize, values: *mut f64, values_len: usize, capacity: u32,
-                 tape: *const u8, tape_len: usize, done: *mut u32, offset: *mut usize) -> u32;
+                 tape: *const u8, tape_len: usize, done: *mut usize, offset: *mut usize) -> u32;
     fn grid_check(header: *const Header, table: *const i32, table_len: usize, values: *const f64, values_len: usize, capacity: u32) -> u32;
     fn grid_scan(header: *const Header, table: *const i32, table_len: usize, values: *const f64, values_len: usize, capacity: u32,
                  start: u32, order: *const u8, order_len: usize, kind: u32, from_level: i32, to_level: i32,

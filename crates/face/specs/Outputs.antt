@@ -1,7 +1,7 @@
 -- What an exported call may do: what it is lent and given at entry; then the header and the lists at exit, what its pointers hold at exit, and the
 -- refusal that it returns. Each is one equation with the call's definition in `mesh`.
 -- Assumes nothing.
-use Prim.Native.Nat.{ℕ, _%_, _^_}
+use Prim.Native.Nat.{ℕ}
 use mathlib.Core.Path.{_≡_}
 use mathlib.Core.Bool.{cond}
 use mathlib.Core.List.{List, [], _∷_}
@@ -14,10 +14,6 @@ use Rattle.mesh.specs.State as State
 use Rattle.mesh.specs.Call as Call
 use Rattle.grid.specs.declared.Header.{Header}
 use Rattle.grid.specs.Calls.{lentOf}
-
--- the requests done are counted in 32 bits
-abbrev pub counted : Call.Taped → Call.Taped
-counted a = record { done = a .done % 2 ^ 32; why = a .why; offset = a .offset; lent = a .lent }
 
 -- an order of another length than four is no permutation; four zeros stand for it
 abbrev pub fourOf : List ℕ → List ℕ
@@ -38,7 +34,7 @@ module _ (h : Header) (t : List ℤ) (v : List Float) (cap : ℕ) where
     pub is : record { why = r; in-use = in-use; lent = lentOf h′ t′ v′ } ≡ Call.buildCall cap (lentOf h t v) (rectangle columns rows)
 
   pub record Tapes (bytes : List ℕ) (h′ : Header) (t′ : List ℤ) (v′ : List Float) (done offset r : ℕ) : Type 0 where
-    pub is : record { done = done; why = r; offset = offset; lent = lentOf h′ t′ v′ } ≡ counted (Call.tapeCall cap (lentOf h t v) bytes)
+    pub is : record { done = done; why = r; offset = offset; lent = lentOf h′ t′ v′ } ≡ Call.tapeCall cap (lentOf h t v) bytes
 
   pub record Checks (r : ℕ) : Type 0 where
     pub is : r ≡ Call.checkCall cap (lentOf h t v)

@@ -52,14 +52,13 @@ pub extern "C" fn grid_build(
     out.answer
 }
 
-// A tape has more than 2^32 - 1 requests only above 12 GiB: the count wraps there.
 fn tape_core(
     header: Header,
     table: &mut [i32],
     values: &mut [f64],
     capacity: u32,
     tape: &[u8],
-    done: &mut u32,
+    done: &mut usize,
     offset: &mut usize,
 ) -> Left
     ensures { λ r. ⌜ Tapes header (now (table .entry)) (now (values .entry)) capacity (now (tape .entry)) (r .header) (now (table .exit)) (now (values .exit)) (now (done .exit)) (now (offset .exit)) (r .answer) ⌝ }
@@ -67,7 +66,7 @@ fn tape_core(
     let out = grid::tape_core(header, table, values, capacity, tape);
     let left = out.header;
     let taped = out.answer;
-    *done = (taped.done % 4294967296) as u32;
+    *done = taped.done;
     *offset = taped.offset;
     Left {
         header: left,
@@ -83,7 +82,7 @@ pub extern "C" fn grid_tape(
     values: &mut [f64],
     capacity: u32,
     tape: &[u8],
-    done: &mut u32,
+    done: &mut usize,
     offset: &mut usize,
 ) -> u32
     ensures { λ r. ⌜ Tapes (now (header .entry)) (now (table .entry)) (now (values .entry)) capacity (now (tape .entry)) (now (header .exit)) (now (table .exit)) (now (values .exit)) (now (done .exit)) (now (offset .exit)) r ⌝ }

@@ -59,7 +59,7 @@ use Rattle.face.proofs.grid_tape.Statement as stated
 use Rattle.face.proofs.grid_tape.Code as code
 
 abbrev stayed : Stays (entry.ended .signature .params) (entry.ended .kept)
-stayed = (stay-ref (0 ∷ []) tt (plain (λ _. T.the-row)), (gave-slice (1 ∷ []) tt (plain (λ _. i32)), (gave-slice (2 ∷ []) tt (plain (λ _. f64)), (stay-none (λ _. u32) yes, (stay-none-slice (3 ∷ []) tt (plain (λ _. u8)) yes, (gave-ref (4 ∷ []) tt (plain (λ _. u32)), (gave-ref (5 ∷ []) tt (plain (λ _. usize)), tt)))))))
+stayed = (stay-ref (0 ∷ []) tt (plain (λ _. T.the-row)), (gave-slice (1 ∷ []) tt (plain (λ _. i32)), (gave-slice (2 ∷ []) tt (plain (λ _. f64)), (stay-none (λ _. u32) yes, (stay-none-slice (3 ∷ []) tt (plain (λ _. u8)) yes, (gave-ref (4 ∷ []) tt (plain (λ _. usize)), (gave-ref (5 ∷ []) tt (plain (λ _. usize)), tt)))))))
 
 -- the contract that the proof cites
 abbrev Core : {M : Type 1} (𝓤 : URA M) (H : Heap 𝓤) (A : Atoms 𝓤) (mem : Memory → SProp 𝓤) (run : Routine → Fun 𝓤) → Contract 𝓤
@@ -112,7 +112,7 @@ module _ {M : Type 1} (𝓤 : URA M) (H : Heap 𝓤) (A : Atoms 𝓤) (W : Given
   Own4 = ShrSlice (named 2) κ3 u8 .own x4 (v4 ∷ [])
 
   abbrev Own5 : Fml
-  Own5 = MutRef (named 3) κ4 u32 .own x5 (v5 ∷ [])
+  Own5 = MutRef (named 3) κ4 usize .own x5 (v5 ∷ [])
 
   abbrev Own6 : Fml
   Own6 = MutRef (named 4) κ5 usize .own x6 (v6 ∷ [])
@@ -137,16 +137,16 @@ module _ {M : Type 1} (𝓤 : URA M) (H : Heap 𝓤) (A : Atoms 𝓤) (W : Given
   of-answer r u is = LL.owed Co.the-type Co′.the-laws r _ is .1 .0
 
   exits : (r : Left) (u : Val) (z1 : List ℤ) (z2 : List Float) (z5 : ℕ) (z6 : ℕ) → Is Co.the-row r (u ∷ []) → Tapes h (x1 .now) (x2 .now) x3 (x4 .now) (r .header) z1 z2 z5 z6 (r .answer) → length z1 ≡ length (x1 .now) → length z2 ≡ length (x2 .now)
-      → ent 𝓤 (⋆ 𝓤 H A (‵ (fobs γ (R .coded .code (r .header))) ∷ ‵ (fbor κ0 (Body (mem R) b o γ)) ∷ ‵ (flft κ0 q0) ∷ (‵ (flft κ1 q1) ⊛ ‵ (flft κ2 q2) ⊛ ‵ (flft κ3 q3) ⊛ ‵ (flft κ4 q4) ⊛ ‵ (flft κ5 q5) ⊛ ‵ ftrue) ∷ ‵ (finally i32 (x1 .name) z1) ∷ ‵ (finally f64 (x2 .name) z2) ∷ ‵ Own4 ∷ ‵ (fres (x5 .name) (u32 .coded .code z5)) ∷ ‵ (fres (x6 .name) (usize .coded .code z6)) ∷ [])) (Post (answered r))
+      → ent 𝓤 (⋆ 𝓤 H A (‵ (fobs γ (R .coded .code (r .header))) ∷ ‵ (fbor κ0 (Body (mem R) b o γ)) ∷ ‵ (flft κ0 q0) ∷ (‵ (flft κ1 q1) ⊛ ‵ (flft κ2 q2) ⊛ ‵ (flft κ3 q3) ⊛ ‵ (flft κ4 q4) ⊛ ‵ (flft κ5 q5) ⊛ ‵ ftrue) ∷ ‵ (finally i32 (x1 .name) z1) ∷ ‵ (finally f64 (x2 .name) z2) ∷ ‵ Own4 ∷ ‵ (fres (x5 .name) (usize .coded .code z5)) ∷ ‵ (fres (x6 .name) (usize .coded .code z6)) ∷ [])) (Post (answered r))
   exits r u z1 z2 z5 z6 is e l1 l2 =
-      qed W (‵ (fobs γ (R .coded .code (r .header))) ∷ ‵ (fbor κ0 (Body (mem R) b o γ)) ∷ ‵ (flft κ0 q0) ∷ (‵ (flft κ1 q1) ⊛ ‵ (flft κ2 q2) ⊛ ‵ (flft κ3 q3) ⊛ ‵ (flft κ4 q4) ⊛ ‵ (flft κ5 q5) ⊛ ‵ ftrue) ∷ ‵ (finally i32 (x1 .name) z1) ∷ ‵ (finally f64 (x2 .name) z2) ∷ ‵ Own4 ∷ ‵ (fres (x5 .name) (u32 .coded .code z5)) ∷ ‵ (fres (x6 .name) (usize .coded .code z6)) ∷ []) ∵
+      qed W (‵ (fobs γ (R .coded .code (r .header))) ∷ ‵ (fbor κ0 (Body (mem R) b o γ)) ∷ ‵ (flft κ0 q0) ∷ (‵ (flft κ1 q1) ⊛ ‵ (flft κ2 q2) ⊛ ‵ (flft κ3 q3) ⊛ ‵ (flft κ4 q4) ⊛ ‵ (flft κ5 q5) ⊛ ‵ ftrue) ∷ ‵ (finally i32 (x1 .name) z1) ∷ ‵ (finally f64 (x2 .name) z2) ∷ ‵ Own4 ∷ ‵ (fres (x5 .name) (usize .coded .code z5)) ∷ ‵ (fres (x6 .name) (usize .coded .code z6)) ∷ []) ∵
       suffices ! _ (ends-at 𝓤 H A entry.ended stayed (entry.clauses 𝓤 H A at-mem run) W (((κ0, (κ1, (κ2, (κ3, (κ4, (κ5, tt)))))), (q0, (q1, (q2, (q3, (q4, (q5, tt)))))), tt, a, vals), tt) (answered r) (r .answer) (r .header, (z1, (z2, (tt, (tt, (z5, (z6, tt))))))) (tt, (l1, (l2, (tt, (tt, (tt, (tt, tt)))))))) $ says ! e $
       move ! (2 ∷ 3 ∷ []) $ join ! $ frame ! $ feqI ! (List Val) (vptr b o ∷ []) (vptr b o ∷ []) refl $ fjoin3 ! $ nothing ! $ move ! (6 ∷ 0 ∷ []) $ fjoin ! $ move ! (5 ∷ 0 ∷ []) $ fjoin ! $ move ! (4 ∷ 0 ∷ []) $ fjoin ! $ owned ! u32 (Is u32) (uint-makes 𝓤 H A W w32) x3 _ (refl, fit3) $ fjoin ! $ move ! (3 ∷ 0 ∷ []) $ fjoin ! $ move ! (2 ∷ 0 ∷ []) $ fjoin ! $ move ! (1 ∷ 0 ∷ []) $ fjoin ! $ owned ! u32 (Is u32) (uint-makes 𝓤 H A W w32) (r .answer) _ (of-answer r u is) $ move ! (1 ∷ 0 ∷ []) $ done !
 
   module _ (C : Calls 𝓤 H) (Λ : Loops 𝓤 H) (fm : FmC 𝓤 H (W .laws) C) (known : Triple 𝓤 (C #core) (Core 𝓤 H A at-mem run)) where
     walk : Room i32 (length (x1 .now)) → Room f64 (length (x2 .now)) → Room u8 (length (x4 .now)) → ent 𝓤 (onEntry 𝓤 H A entry.signature (κ0, (κ1, (κ2, (κ3, (κ4, (κ5, tt)))))) (q0, (q1, (q2, (q3, (q4, (q5, tt)))))) a vals) (WpFn 𝓤 H C Λ code.function (vptr b o ∷ v1 ∷ v2 ∷ vint w32 x3 ∷ v4 ∷ v5 ∷ v6 ∷ []) Post)
     walk room1 room2 room4 =
-        qed W ((‵ (flft κ0 q0) ⊛ ‵ (flft κ1 q1) ⊛ ‵ (flft κ2 q2) ⊛ ‵ (flft κ3 q3) ⊛ ‵ (flft κ4 q4) ⊛ ‵ (flft κ5 q5) ⊛ ‵ ftrue) ∷ ‵ (owns (MutRef (named 0) κ0 R ∷ MutSlice (named 1) κ1 i32 ∷ MutSlice (named 2) κ2 f64 ∷ u32 ∷ ShrSlice (named 3) κ3 u8 ∷ MutRef (named 4) κ4 u32 ∷ MutRef (named 5) κ5 usize ∷ []) a vals) ∷ []) ∵
+        qed W ((‵ (flft κ0 q0) ⊛ ‵ (flft κ1 q1) ⊛ ‵ (flft κ2 q2) ⊛ ‵ (flft κ3 q3) ⊛ ‵ (flft κ4 q4) ⊛ ‵ (flft κ5 q5) ⊛ ‵ ftrue) ∷ ‵ (owns (MutRef (named 0) κ0 R ∷ MutSlice (named 1) κ1 i32 ∷ MutSlice (named 2) κ2 f64 ∷ u32 ∷ ShrSlice (named 3) κ3 u8 ∷ MutRef (named 4) κ4 usize ∷ MutRef (named 5) κ5 usize ∷ []) a vals) ∷ []) ∵
         move ! (1 ∷ []) $ fsplit ! $ fsplit3 ! $ drop ! $ move ! (2 ∷ []) $ fsplit ! $ move ! (1 ∷ []) $ fsplit ! $ move ! (1 ∷ []) $ fsplit ! $ move ! (1 ∷ []) $ fsplit ! $ use1 W (‵ Own4 ⊛ ‵ Own4) (shr-slice-copy 𝓤 H A W (named 2) κ3 u8 .twice x4 (v4 ∷ [])) $ split ! $ move ! (2 ∷ []) $ fsplit ! $ move ! (1 ∷ []) $ fsplit ! $ move ! (10 ∷ []) $ split ! $ move ! (10 ∷ 11 ∷ 0 ∷ []) $
         enter ! C Λ code.function (vptr b o ∷ v1 ∷ v2 ∷ vint w32 x3 ∷ v4 ∷ v5 ∷ v6 ∷ []) _ $
         alloc1 ! (λ m0. alloc1 ! (λ m1. alloc1 ! (λ m2. alloc1 ! (λ m3. alloc1 ! (λ m4. alloc1 ! (λ m5. alloc1 ! (λ m6. alloc1 ! (λ m7. alloc1 ! (λ m8. alloc1 ! (λ m9. alloc1 ! (λ m10. alloc1 ! (λ m11. alloc1 ! (λ m12. alloc1 ! (λ m13. alloc1 ! (λ m14. alloc1 ! (λ m15. alloc0 ! $ params1 ! $
@@ -177,11 +177,11 @@ module _ {M : Type 1} (𝓤 : URA M) (H : Heap 𝓤) (A : Atoms 𝓤) (W : Given
 module _ {M : Type 1} (𝓤 : URA M) (H : Heap 𝓤) (A : Atoms 𝓤) (W : Given 𝓤 H A) (at-mem : Memory → SProp 𝓤) (run : Routine → Fun 𝓤) where
   walks : (C : Calls 𝓤 H) (Λ : Loops 𝓤 H) → FmC 𝓤 H (W .laws) C → Triple 𝓤 (C #core) (Core 𝓤 H A at-mem run) → Walks 𝓤 H A entry.ended stayed (WpFn 𝓤 H C Λ code.function) (entry.clauses 𝓤 H A at-mem run)
   walks C Λ fm known = walked 𝓤 H A entry.ended stayed (entry.clauses 𝓤 H A at-mem run) (WpFn 𝓤 H C Λ code.function)
-      (λ κs. (ptr-vals, (slice-vals, (slice-vals, (uint-vals w32, (slice-vals, (ptr-vals, (ptr-vals, tt)))))))) (λ κs. (mut-tells (named 0) (κs .0) T.the-row, (mut-slice-tells (named 1) (κs .1 .0) i32, (mut-slice-tells (named 2) (κs .1 .1 .0) f64, (uint-tells w32, (shr-slice-tells (named 3) (κs .1 .1 .1 .0) u8, (mut-tells (named 4) (κs .1 .1 .1 .1 .0) u32, (mut-tells (named 5) (κs .1 .1 .1 .1 .1 .0) usize, tt))))))))
+      (λ κs. (ptr-vals, (slice-vals, (slice-vals, (uint-vals w32, (slice-vals, (ptr-vals, (ptr-vals, tt)))))))) (λ κs. (mut-tells (named 0) (κs .0) T.the-row, (mut-slice-tells (named 1) (κs .1 .0) i32, (mut-slice-tells (named 2) (κs .1 .1 .0) f64, (uint-tells w32, (shr-slice-tells (named 3) (κs .1 .1 .1 .0) u8, (mut-tells (named 4) (κs .1 .1 .1 .1 .0) usize, (mut-tells (named 5) (κs .1 .1 .1 .1 .1 .0) usize, tt))))))))
       (λ κs qs bounds a g are. via 𝓤 _ (fst∗ 𝓤 _ (emp 𝓤)) (walk 𝓤 H A W at-mem run (κs .0) (κs .1 .0) (κs .1 .1 .0) (κs .1 .1 .1 .0) (κs .1 .1 .1 .1 .0) (κs .1 .1 .1 .1 .1 .0) (qs .0) (qs .1 .0) (qs .1 .1 .0) (qs .1 .1 .1 .0) (qs .1 .1 .1 .1 .0) (qs .1 .1 .1 .1 .1 .0) (a .0 .ptr .0) (a .0 .ptr .1) (a .0 .name) (a .0 .now) (a .1 .0) (a .1 .1 .0) (a .1 .1 .1 .0) (a .1 .1 .1 .1 .0) (a .1 .1 .1 .1 .1 .0) (a .1 .1 .1 .1 .1 .1 .0) (are .1 .1 .1 .0 .1) C Λ fm known (are .1 .0 .0 .1) (are .1 .1 .0 .0 .1) (are .1 .1 .1 .1 .0 .0 .1)))
 
   goes-all : AllGo 𝓤 H A W 6 (entry.signature .params) (entry.ended .kept) stayed
-  goes-all = (goes-ref 𝓤 H A W 6 0 tt (plain (λ _. T.the-row)), (goes-gave-slice 𝓤 H A W 6 1 tt (plain (λ _. i32)), (goes-gave-slice 𝓤 H A W 6 2 tt (plain (λ _. f64)), (goes-none 𝓤 H A W 6 (λ _. u32) yes (λ κs x f. refl), (goes-none-slice 𝓤 H A W 6 (3 ∷ []) tt (plain (λ _. u8)) yes, (goes-gave-ref 𝓤 H A W 6 4 tt (plain (λ _. u32)), (goes-gave-ref 𝓤 H A W 6 5 tt (plain (λ _. usize)), tt)))))))
+  goes-all = (goes-ref 𝓤 H A W 6 0 tt (plain (λ _. T.the-row)), (goes-gave-slice 𝓤 H A W 6 1 tt (plain (λ _. i32)), (goes-gave-slice 𝓤 H A W 6 2 tt (plain (λ _. f64)), (goes-none 𝓤 H A W 6 (λ _. u32) yes (λ κs x f. refl), (goes-none-slice 𝓤 H A W 6 (3 ∷ []) tt (plain (λ _. u8)) yes, (goes-gave-ref 𝓤 H A W 6 4 tt (plain (λ _. usize)), (goes-gave-ref 𝓤 H A W 6 5 tt (plain (λ _. usize)), tt)))))))
 
 meets : {M : Type 1} (𝓤 : URA M) (H : Heap 𝓤) (A : Atoms 𝓤) → Given 𝓤 H A → (mem : Memory → SProp 𝓤) (run : Routine → Fun 𝓤) (𝓣 : Tables 𝓤 H) → Triple 𝓤 (𝓣 .C #core) (Core 𝓤 H A mem run)
     → Meets 𝓤 H A entry.signature (WpFn 𝓤 H (𝓣 .C) (𝓣 .Λ) code.function) (entry.spec 𝓤 H A mem run)
