@@ -18,14 +18,20 @@ use Rattle.grid.specs.declared.Built.{Built}
 use Rattle.grid.specs.declared.Taped.{Taped}
 use Rattle.grid.specs.declared.BuildOut.{BuildOut}
 use Rattle.grid.specs.declared.TapeOut.{TapeOut}
+use base.Logic.{ent}
 use contract.Lifetimes.{Lfts}
+use contract.Monad.{fact, factI, fact-use}
 use denote.Ref.{RefT, at-last}
+use denote.Triple.Spec.{exits}
+use borrow.Fn.World.{World, Pr}
 use Rattle.grid.proofs.check.Reads as check
 use Rattle.grid.proofs.lookup.Reads as lookup
 use Rattle.grid.proofs.scan.Reads as scan
 use Rattle.grid.proofs.page.Reads as page
 use Rattle.grid.proofs.build_core.Reads as build-core
 use Rattle.grid.proofs.tape_core.Reads as tape-core
+use Rattle.grid.proofs.build as build
+use Rattle.grid.proofs.tape as tape
 use Rattle.grid.specs.Calls.{lentOf, wroteOf, Builds, Tapes}
 
 -- ---- what is lent
@@ -80,7 +86,7 @@ module _ {h : Header} {t : List ℤ} {v : List Float} {cap : ℕ} (h₁ h₂ : H
       let (a₁, a₂, a₃) = lent-same h₁ h₂ t₁ t₂ v₁ v₂ (λ i. e i .lent) in
       (x, a₁, a₂, a₃)
 
--- ---- the contracts themselves: any two outcomes that one allows are equal. `build` and `tape` cite the same relations as their cores
+-- ---- the contracts themselves: any two outcomes that one allows are equal
 
 module _ (h : Header) (t : RefT (List ℤ)) (v : RefT (List Float)) (cap : ℕ) where
   module _ (κs : Lfts 2) where
@@ -128,3 +134,37 @@ module _ (h : Header) (t : RefT (List ℤ)) (v : RefT (List Float)) (cap : ℕ) 
 
         pub scan-once : (r s : Wrote) (xs ys : List ℕ) → ScanAllows r xs → ScanAllows s ys → (r ≡ s) × (xs ≡ ys)
         scan-once r s xs ys p q = wrote-unique r s xs ys p q
+
+-- ---- the contracts of the entries that are lent the header, at any model `w` as in their statements: one says at exit that
+-- the core's relation holds of the answer and of what is lent, and no more; and two outcomes of which it says so are equal
+
+-- two facts that are told tell what follows from both
+pub both-told : (w : World) (P : Pr w) (F G : Type 0) {D : Type 0} → (F → G → D) → ent (w .𝓤) P (fact (w .𝓤) F) → ent (w .𝓤) P (fact (w .𝓤) G) → ent (w .𝓤) P (fact (w .𝓤) D)
+both-told w P F G {D} k p q = fact-use (w .𝓤) F p (λ x. fact-use (w .𝓤) G q (λ y. factI (w .𝓤) D P (k x y)))
+
+module _ (w : World) (h : RefT Header) (t : RefT (List ℤ)) (v : RefT (List Float)) (cap : ℕ) where
+  module _ (κs : Lfts 3) (columns rows : ℕ) where
+    abbrev BuildSays : Built → Header → List ℤ → List Float → Pr w
+    BuildSays r h′ t′ v′ =
+        build.clauses (w .𝓤) (w .H) (w .𝓖 .A) (w .𝓜 .mem) (w .𝓡 .run) κs (h, (t, (v, (cap, (columns, (rows, tt)))))) .ensures tt r (at-last h h′, (at-last t t′, (at-last v v′, (cap, (columns, (rows, tt))))))
+
+    pub build-says : (r : Built) → build.spec (w .𝓤) (w .H) (w .𝓖 .A) (w .𝓜 .mem) (w .𝓡 .run) κs (h, (t, (v, (cap, (columns, (rows, tt)))))) .ensures tt r
+        ≡ exits (w .𝓤) (w .H) (w .𝓖 .A) build.signature (build.ended .kept) κs (h, (t, (v, (cap, (columns, (rows, tt)))))) (λ e. fact (w .𝓤) (Builds (h .now) (t .now) (v .now) cap columns rows (e .0 .now) (e .1 .0 .now) (e .1 .1 .0 .now) r))
+    build-says r = refl
+
+    pub build-entry-once : (P : Pr w) (r s : Built) (h₁ h₂ : Header) (t₁ t₂ : List ℤ) (v₁ v₂ : List Float) → ent (w .𝓤) P (BuildSays r h₁ t₁ v₁) → ent (w .𝓤) P (BuildSays s h₂ t₂ v₂)
+        → ent (w .𝓤) P (fact (w .𝓤) ((r ≡ s) × (h₁ ≡ h₂) × (t₁ ≡ t₂) × (v₁ ≡ v₂)))
+    build-entry-once P r s h₁ h₂ t₁ t₂ v₁ v₂ p q = both-told w P _ _ (build-unique h₁ h₂ t₁ t₂ v₁ v₂ r s) p q
+
+  module _ (κs : Lfts 4) (bytes : RefT (List ℕ)) where
+    abbrev TapeSays : Taped → Header → List ℤ → List Float → Pr w
+    TapeSays r h′ t′ v′ =
+        tape.clauses (w .𝓤) (w .H) (w .𝓖 .A) (w .𝓜 .mem) (w .𝓡 .run) κs (h, (t, (v, (cap, (bytes, tt))))) .ensures tt r (at-last h h′, (at-last t t′, (at-last v v′, (cap, (bytes, tt)))))
+
+    pub tape-says : (r : Taped) → tape.spec (w .𝓤) (w .H) (w .𝓖 .A) (w .𝓜 .mem) (w .𝓡 .run) κs (h, (t, (v, (cap, (bytes, tt))))) .ensures tt r
+        ≡ exits (w .𝓤) (w .H) (w .𝓖 .A) tape.signature (tape.ended .kept) κs (h, (t, (v, (cap, (bytes, tt))))) (λ e. fact (w .𝓤) (Tapes (h .now) (t .now) (v .now) cap (bytes .now) (e .0 .now) (e .1 .0 .now) (e .1 .1 .0 .now) r))
+    tape-says r = refl
+
+    pub tape-entry-once : (P : Pr w) (r s : Taped) (h₁ h₂ : Header) (t₁ t₂ : List ℤ) (v₁ v₂ : List Float) → ent (w .𝓤) P (TapeSays r h₁ t₁ v₁) → ent (w .𝓤) P (TapeSays s h₂ t₂ v₂)
+        → ent (w .𝓤) P (fact (w .𝓤) ((r ≡ s) × (h₁ ≡ h₂) × (t₁ ≡ t₂) × (v₁ ≡ v₂)))
+    tape-entry-once P r s h₁ h₂ t₁ t₂ v₁ v₂ p q = both-told w P _ _ (tape-unique h₁ h₂ t₁ t₂ v₁ v₂ r s) p q
