@@ -1,5 +1,5 @@
 #!/usr/bin/env python3
-"""Writes the proofs of the entries that are lent the header by reference: a walk of each entry's code, by genwalk.py.
+"""Writes the proofs of the entries that are lent the header by reference, and of the functions that lend it: a walk of each one's code, by genwalk.py.
 
     tools/walks.py && rt fmt
 
@@ -30,6 +30,8 @@ ENTRIES = [
     ("face", "grid_lookup", ["--shared", *FACE, "grid_lookup", "lookup_core", "Header", "u32", "u32", "Outputs", "Looks", "--", *READ,
                              "u32", "u32", "ref:u32", "ref:u32", "ref:f64"]),
     ("face", "grid_page", ["--shared", *FACE, "grid_page", "page_core", "Header", "u32", "u32", "Outputs", "Pages", "--", *READ, "mut:u8", "ref:usize"]),
+    ("trials", "lent/build", ["--lends", "grid", "trials", "lent/build", "build", "Header", "Built", "BuildOut", "Calls", "Builds", "--", *LENT, "u32", "u32"]),
+    ("trials", "lent/tape", ["--lends", "grid", "trials", "lent/tape", "tape", "Header", "Taped", "TapeOut", "Calls", "Tapes", "--", *LENT, "shr:u8"]),
 ]
 
 
@@ -71,6 +73,7 @@ def main():
     for crate, entry, arguments in ENTRIES:
         made = subprocess.run([sys.executable, HERE / "genwalk.py", *arguments], capture_output=True, text=True, check=True)
         path = CRATES / crate / "proofs" / entry / "Proof.antt"
+        path.parent.mkdir(parents=True, exist_ok=True)
         path.write_text(pruned(head(made.stdout, "--shared" in arguments)), encoding="utf-8")
 
 

@@ -1,5 +1,6 @@
 // The calls, each on as much of the lists as the numbers say. The sums that are told are those of the whole lists, so that what is not lent is
 // seen to stay.
+use crate::lent;
 use crate::lines::end_line;
 use crate::lines::mix;
 use crate::lines::mix_value;
@@ -53,7 +54,7 @@ fn check(t: &[i32], v: &[f64], h: &[u32; 12], n: usize, m: usize)
 fn build(t: &mut [i32], v: &mut [f64], h: &mut [u32; 12], n: usize, m: usize)
     requires { ⌜ (n ≤ length (now t)) × (m ≤ length (now v)) ⌝ }
 {
-    let r = grid::build_core(header(h), &mut t[..n], &mut v[..m], h[3], h[6], h[7]);
+    let r = lent::build(header(h), &mut t[..n], &mut v[..m], h[3], h[6], h[7]);
     tell(r.answer.refusal as u64);
     tell(r.answer.used as u64);
     finish(t, v, h, r.header);
@@ -62,7 +63,7 @@ fn build(t: &mut [i32], v: &mut [f64], h: &mut [u32; 12], n: usize, m: usize)
 fn tape(t: &mut [i32], v: &mut [f64], h: &mut [u32; 12], n: usize, m: usize, b: &[u8], k: usize)
     requires { ⌜ (n ≤ length (now t)) × (m ≤ length (now v)) × (k ≤ length (now b)) ⌝ }
 {
-    let r = grid::tape_core(header(h), &mut t[..n], &mut v[..m], h[3], &b[..k]);
+    let r = lent::tape(header(h), &mut t[..n], &mut v[..m], h[3], &b[..k]);
     tell(r.answer.done as u64);
     tell(r.answer.refusal as u64);
     tell(r.answer.offset as u64);

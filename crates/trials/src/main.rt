@@ -19,6 +19,7 @@
 // A run has at most 4,096 bytes of items. Items past the end of what they change are passed over.
 mod calls;
 mod input;
+mod lent;
 mod lines;
 mod lists;
 

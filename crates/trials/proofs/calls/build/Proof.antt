@@ -9,29 +9,29 @@ use Rattle.trials.proofs.calls.build.Tie as tie
 header-requires : tie.Need-header-requires
 header-requires c κs = search needs
 
-slice-relend-prefix-build-core : tie.Need-slice-relend-prefix-build-core
-slice-relend-prefix-build-core c = search needs
+slice-relend-prefix-build : tie.Need-slice-relend-prefix-build
+slice-relend-prefix-build c = search needs
 
-slice-aggregate-build-core : tie.Need-slice-aggregate-build-core
-slice-aggregate-build-core c = omega (arith, length-take (c .before .before .before .before .args .n) (c .before .before .before .before .args .t .now))
+slice-aggregate-build : tie.Need-slice-aggregate-build
+slice-aggregate-build c = omega (arith, length-take (c .before .before .before .before .args .n) (c .before .before .before .before .args .t .now))
 
-slice-relend-prefix-build-core-2 : tie.Need-slice-relend-prefix-build-core-2
-slice-relend-prefix-build-core-2 c = search needs
+slice-relend-prefix-build-2 : tie.Need-slice-relend-prefix-build-2
+slice-relend-prefix-build-2 c = search needs
 
-slice-aggregate-build-core-2 : tie.Need-slice-aggregate-build-core-2
-slice-aggregate-build-core-2 c = omega (arith, length-take (c .before .before .before .before .before .args .m) (c .before .before .before .before .before .args .v .now))
+slice-aggregate-build-2 : tie.Need-slice-aggregate-build-2
+slice-aggregate-build-2 c = omega (arith, length-take (c .before .before .before .before .before .args .m) (c .before .before .before .before .before .args .v .now))
 
-element-copy-out-build-core : tie.Need-element-copy-out-build-core
-element-copy-out-build-core c = search needs
+element-copy-out-build : tie.Need-element-copy-out-build
+element-copy-out-build c = search needs
 
-element-copy-out-build-core-2 : tie.Need-element-copy-out-build-core-2
-element-copy-out-build-core-2 c = search needs
+element-copy-out-build-2 : tie.Need-element-copy-out-build-2
+element-copy-out-build-2 c = search needs
 
-element-copy-out-build-core-3 : tie.Need-element-copy-out-build-core-3
-element-copy-out-build-core-3 c = search needs
+element-copy-out-build-3 : tie.Need-element-copy-out-build-3
+element-copy-out-build-3 c = search needs
 
-build-core-requires : tie.Need-build-core-requires
-build-core-requires c κs = search needs
+build-requires : tie.Need-build-requires
+build-requires c κs = search needs
 
 cast-tell : tie.Need-cast-tell
 cast-tell c = search needs
@@ -59,14 +59,14 @@ build-spec =
     tie.close
     (tie.spec
     header-requires
-    slice-relend-prefix-build-core
-    slice-aggregate-build-core
-    slice-relend-prefix-build-core-2
-    slice-aggregate-build-core-2
-    element-copy-out-build-core
-    element-copy-out-build-core-2
-    element-copy-out-build-core-3
-    build-core-requires
+    slice-relend-prefix-build
+    slice-aggregate-build
+    slice-relend-prefix-build-2
+    slice-aggregate-build-2
+    element-copy-out-build
+    element-copy-out-build-2
+    element-copy-out-build-3
+    build-requires
     cast-tell
     tell-requires
     tell-requires-2

@@ -9,26 +9,26 @@ use Rattle.trials.proofs.calls.tape.Tie as tie
 header-requires : tie.Need-header-requires
 header-requires c κs = search needs
 
-slice-relend-prefix-tape-core : tie.Need-slice-relend-prefix-tape-core
-slice-relend-prefix-tape-core c = search needs
+slice-relend-prefix-tape : tie.Need-slice-relend-prefix-tape
+slice-relend-prefix-tape c = search needs
 
-slice-aggregate-tape-core : tie.Need-slice-aggregate-tape-core
-slice-aggregate-tape-core c = omega (arith, length-take (c .before .before .before .before .before .args .n) (c .before .before .before .before .before .args .t .now))
+slice-aggregate-tape : tie.Need-slice-aggregate-tape
+slice-aggregate-tape c = omega (arith, length-take (c .before .before .before .before .before .args .n) (c .before .before .before .before .before .args .t .now))
 
-slice-relend-prefix-tape-core-2 : tie.Need-slice-relend-prefix-tape-core-2
-slice-relend-prefix-tape-core-2 c = search needs
+slice-relend-prefix-tape-2 : tie.Need-slice-relend-prefix-tape-2
+slice-relend-prefix-tape-2 c = search needs
 
-slice-aggregate-tape-core-2 : tie.Need-slice-aggregate-tape-core-2
-slice-aggregate-tape-core-2 c = omega (arith, length-take (c .before .before .before .before .before .before .args .m) (c .before .before .before .before .before .before .args .v .now))
+slice-aggregate-tape-2 : tie.Need-slice-aggregate-tape-2
+slice-aggregate-tape-2 c = omega (arith, length-take (c .before .before .before .before .before .before .args .m) (c .before .before .before .before .before .before .args .v .now))
 
-element-copy-out-tape-core : tie.Need-element-copy-out-tape-core
-element-copy-out-tape-core c = search needs
+element-copy-out-tape : tie.Need-element-copy-out-tape
+element-copy-out-tape c = search needs
 
-slice-aggregate-tape-core-3 : tie.Need-slice-aggregate-tape-core-3
-slice-aggregate-tape-core-3 c = omega (arith, length-take (c .before .before .before .before .before .before .before .before .args .k) (c .before .before .before .before .before .before .before .before .args .b .now))
+slice-aggregate-tape-3 : tie.Need-slice-aggregate-tape-3
+slice-aggregate-tape-3 c = omega (arith, length-take (c .before .before .before .before .before .before .before .before .args .k) (c .before .before .before .before .before .before .before .before .args .b .now))
 
-tape-core-requires : tie.Need-tape-core-requires
-tape-core-requires c κs = search needs
+tape-requires : tie.Need-tape-requires
+tape-requires c κs = search needs
 
 tell-requires : tie.Need-tell-requires
 tell-requires c κs = search needs
@@ -59,13 +59,13 @@ tape-spec =
     tie.close
     (tie.spec
     header-requires
-    slice-relend-prefix-tape-core
-    slice-aggregate-tape-core
-    slice-relend-prefix-tape-core-2
-    slice-aggregate-tape-core-2
-    element-copy-out-tape-core
-    slice-aggregate-tape-core-3
-    tape-core-requires
+    slice-relend-prefix-tape
+    slice-aggregate-tape
+    slice-relend-prefix-tape-2
+    slice-aggregate-tape-2
+    element-copy-out-tape
+    slice-aggregate-tape-3
+    tape-requires
     tell-requires
     cast-tell
     tell-requires-2
