@@ -1,11 +1,13 @@
 -- The table of the winds as the code holds it: a wind by its place in the order of the words.
 -- Assumes nothing.
-use Prim.Native.Nat.{ℕ, _+_}
+use Prim.Native.Nat.{ℕ, _+_, _/_, _<_}
+use mathlib.Core.Path.{_≡_}
 use mathlib.Core.List.{List, _++_, map}
 use lib.ListN.{getD}
 use Rattle.mesh.specs.Place as Place
 use Rattle.mesh.specs.Place.{Wind, NE, SE, SW, NW, N, E, S, W, kidWinds, sideWinds}
 use Rattle.mesh.specs.declared.Compass.{Compass}
+use Rattle.mesh.specs.declared.Digits.{Digits}
 
 abbrev pub winds : List Wind
 winds = kidWinds ++ sideWinds
@@ -29,3 +31,22 @@ compassOf w = record { east = Place.compass w .east; north = Place.compass w .no
 
 abbrev pub compassAt : ℕ → Compass
 compassAt i = getD (map compassOf winds) i (record { east = 0; north = 0; opposite = 0 })
+
+-- ---- kids, by the same table
+
+-- "2i+l, 2j+m": the digits of a kid are the offsets of its wind halved
+abbrev pub digitsOf : Compass → Digits
+digitsOf c = record { col = c .east / 2; row = c .north / 2 }
+
+-- those of the kid in the wind at place i
+abbrev pub kidCol : ℕ → ℕ
+kidCol i = digitsOf (compassAt i) .col
+
+abbrev pub kidRow : ℕ → ℕ
+kidRow i = digitsOf (compassAt i) .row
+
+-- the kid wind with the digits l and m stands at place i
+pub record KidWind (l m i : ℕ) : Type 0 where
+  pub is-kid : i < 4
+  pub col : kidCol i ≡ l
+  pub row : kidRow i ≡ m

@@ -2,7 +2,7 @@
 ghost use mathlib.Core.Path.{_≡_};
 ghost use Prim.Native.Nat.{_<_, _≤_};
 ghost use Rattle.mesh.specs.Place.{base, rectangle};
-ghost use Rattle.mesh.specs.Winds.{compassAt};
+ghost use Rattle.mesh.specs.Winds.{compassAt, digitsOf, KidWind};
 
 // How far east and how far north a wind goes, each one too large, and the place of the opposite wind in the table.
 pub struct Compass {
@@ -61,6 +61,67 @@ pub fn wind(i: usize) -> Compass
     ensures { λ r. ⌜ r ≡ compassAt i ⌝ }
 {
     WINDS[i]
+}
+
+// The places of the kid winds in the table.
+pub const NE: usize = 0;
+
+pub const SE: usize = 1;
+
+pub const SW: usize = 2;
+
+pub const NW: usize = 3;
+
+// The digits that a kid's column and row end in.
+pub struct Digits {
+    pub col: u32,
+    pub row: u32,
+}
+
+// How far a wind goes, halved.
+fn halves(c: Compass) -> Digits
+    ensures { λ r. ⌜ r ≡ digitsOf c ⌝ }
+{
+    Digits {
+        col: c.east / 2,
+        row: c.north / 2,
+    }
+}
+
+// The digits of the kid in the wind at place i. The table is read at places that are written out: at any other it is copied first.
+pub fn kid_digits(i: usize) -> Digits
+    requires { ⌜ i < 4 ⌝ }
+    ensures { λ r. ⌜ (r .col < 2) × (r .row < 2) × KidWind (r .col) (r .row) i ⌝ }
+{
+    if i == NE {
+        return halves(WINDS[NE]);
+    }
+    if i == SE {
+        return halves(WINDS[SE]);
+    }
+    if i == SW {
+        return halves(WINDS[SW]);
+    }
+    halves(WINDS[NW])
+}
+
+// The place of the kid wind whose kid's column and row end in the digits l and m.
+pub fn kid_wind(l: u32, m: u32) -> usize
+    requires { ⌜ (l < 2) × (m < 2) ⌝ }
+    ensures { λ r. ⌜ KidWind l m r ⌝ }
+{
+    let east = kid_digits(NE);
+    if l == east.col {
+        if m == east.row {
+            return NE;
+        }
+        return SE;
+    }
+    let west = kid_digits(SW);
+    if m == west.row {
+        return SW;
+    }
+    NW
 }
 
 // The depth of level 0: the bit length of the larger of columns and rows.

@@ -1,6 +1,6 @@
 -- The table of winds by place: what the code reads there is the wind's compass and word.
 -- Assumes nothing.
-use mathlib.Core.Path.{_≡_, refl, ap, _∙_}
+use mathlib.Core.Path.{_≡_, refl, sym, ap, _∙_}
 use mathlib.Core.Bool.{_&&_, cond}
 use mathlib.Core.List.{List}
 use Prim.Native.Nat.{ℕ, zero, suc, _+_, _%_, _≤_, _<_}
@@ -9,8 +9,9 @@ use lib.Dec.{lit≤}
 use lib.ListN.{getD}
 use lib.IntN.{ℤ}
 use Rattle.mesh.specs.Place.{Wind, NE, compass}
-use Rattle.mesh.specs.Winds.{winds, wordOfWind, compassAt}
+use Rattle.mesh.specs.Winds.{winds, wordOfWind, compassAt, kidCol, kidRow, KidWind}
 use Rattle.mesh.specs.declared.Compass.{Compass}
+use Rattle.mesh.proofs.Winds.{each-kid}
 use Rattle.table.specs.Words.{wordOf, linkOf}
 use Rattle.table.specs.Worked.{kidWord, staysIn, sideOf}
 use Rattle.table.specs.Sides.{sideBy}
@@ -36,6 +37,14 @@ at (suc (suc (suc (suc (suc (suc (suc (suc i)))))))) h = let no : ⊥ = omega ar
 -- the offsets of what is read there
 pub small : (x : Compass) (i : ℕ) → i < 8 → x ≡ compassAt i → (x .east ≤ 2) × (x .north ≤ 2)
 small x i h e = rw e (at i h .east-small, at i h .north-small)
+
+-- the word of the kid in the wind at place i
+pub kid-word-at : (i : ℕ) → i < 4 → kidWord (kidCol i) (kidRow i) ≡ i + 1
+kid-word-at = each-kid (λ i. kidWord (kidCol i) (kidRow i) ≡ i + 1) refl refl refl refl
+
+-- by the kid's digits
+pub kid-word-wind : {l m i : ℕ} → KidWind l m i → kidWord l m ≡ i + 1
+kid-word-wind {l} {m} {i} h = ap (λ x. kidWord x m) (sym (h .col)) ∙ ap (kidWord (kidCol i)) (sym (h .row)) ∙ kid-word-at i (h .is-kid)
 
 module _ (t : List ℤ) (cap p l m : ℕ) where
   -- the row of a neighbour, by offsets and by the word of the parent's neighbour

@@ -10,6 +10,15 @@ ghost use Rattle.table.specs.Words.{code, wordOf, linkOf, flagOf, vacant
 // The words of a row.
 pub const ROW_WORDS: usize = 14;
 
+// The words of the kids: the parent's is 0, and then they stand in the order of the winds.
+pub const NE_KID: usize = mesh::NE + 1;
+
+pub const SE_KID: usize = mesh::SE + 1;
+
+pub const SW_KID: usize = mesh::SW + 1;
+
+pub const NW_KID: usize = mesh::NW + 1;
+
 // A signed word as a number.
 pub fn coded(x: i32) -> u32
     ensures { λ r. ⌜ r ≡ code x ⌝ }

@@ -19,11 +19,10 @@ use crate::words::word;
 
 // The word of the kid whose column ends in the digit l and whose row ends in the digit m.
 pub fn kid_word(l: u32, m: u32) -> usize
-    requires { ⌜ m < 2 ⌝ }
+    requires { ⌜ (l < 2) × (m < 2) ⌝ }
     ensures { λ r. ⌜ (r < 5) × (r ≡ kidWord l m) ⌝ }
 {
-    let k = m as usize;
-    if l == 1 { 2 - k } else { 3 + k }
+    mesh::kid_wind(l, m) + 1
 }
 
 // Whether a digit that was moved is still one of the same two.

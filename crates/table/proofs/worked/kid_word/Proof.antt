@@ -1,22 +1,20 @@
--- `table::kid_word` meets its contract, by the first digit.
+-- `table::kid_word` meets its contract: the words stand in the order of the winds.
 -- Assumes nothing.
-use borrow.Author.Tests.{eq-eqb, ne-eqb}
-use borrow.Author.Needs.{needs}
+use mathlib.Core.Path.{sym}
 use native.Mathlib.Omega.{arith}
+use borrow.Author.Needs.{needs}
+use Rattle.table.proofs.Offsets.{kid-word-wind}
 use Rattle.table.proofs.worked.kid_word.Statement.{statement}
 use Rattle.table.proofs.worked.kid_word.Tie as tie
 
-sub-result : tie.Need-sub-result
-sub-result c = search needs
+kid-wind-requires : tie.Need-kid-wind-requires
+kid-wind-requires c κs = search needs
 
 add-result : tie.Need-add-result
 add-result c = search needs
 
 returns : tie.Need-returns
-returns c = (omega arith, rw (eq-eqb _ _ (c .if1 .taken)))
-
-returns-2 : tie.Need-returns-2
-returns-2 c = (omega arith, rw (ne-eqb _ _ (c .if1 .left)))
+returns c = (omega arith, sym (kid-word-wind (c .kid-wind .ensures)))
 
 pub kid-word-spec : {M : Type 1} → statement M
-kid-word-spec = tie.close (tie.spec sub-result add-result returns returns-2)
+kid-word-spec = tie.close (tie.spec kid-wind-requires add-result returns)
