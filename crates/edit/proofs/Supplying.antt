@@ -19,9 +19,9 @@ module _ (t : List ℤ) (cap d p l m low : ℕ) where
   unfolding supplied
   supplied-there e h = rw (ne-eqb (kidAt t cap (spot p l m)) 0 (λ i. h (e ∙ i)))
 
-  pub supplied-new : {x k : ℕ} {u : List ℤ} → x ≡ kidAt t cap (spot p l m) → x ≡ 0 → k ≡ freeFrom t (cap + 1 - low) low → u ≡ linkIn t cap d p l m k → lending u (k + 1) ≡ supplied cap d (spot p l m) (lending t low)
+  pub supplied-new : {x k a b : ℕ} {u : List ℤ} → x ≡ kidAt t cap (spot p l m) → x ≡ 0 → k ≡ freeFrom t (cap + 1 - low) low → l ≡ a → m ≡ b → u ≡ linkIn t cap d p a b k → lending u (k + 1) ≡ supplied cap d (spot p l m) (lending t low)
   unfolding supplied
-  supplied-new e h i j = rw (eq-eqb (kidAt t cap (spot p l m)) 0 (sym e ∙ h), j, i)
+  supplied-new e h i f g j = rw (eq-eqb (kidAt t cap (spot p l m)) 0 (sym e ∙ h), j, ← f, ← g, i)
 
 -- the stock stays one for the table after it
 pub stock-after : {t u : List ℤ} {s : List ℕ} {cap a : ℕ} (d p l m low : ℕ) → Stocked cap t [] s → lending u a ≡ supplied cap d (spot p l m) (lending t low) → m < 2 → Stocked cap u [] s

@@ -3,10 +3,15 @@
 use Prim.Native.Nat.{ℕ}
 use mathlib.Core.List.{List, [], _∷_}
 use lib.IntN.{ℤ}
+use Rattle.mesh.specs.Winds.{kidCol, kidRow}
 use Rattle.editing.specs.Tables.{Lending, Spot, spot}
 
 abbrev pub lending : List ℤ → ℕ → Lending
 lending t k = record { words = t; low = k }
+
+-- the kid of the row p in the wind at place w of the table of winds
+abbrev pub kidSpot : ℕ → ℕ → Spot
+kidSpot p w = spot p (kidCol w) (kidRow w)
 
 -- of the row north SW and SE, of the row east NW and SW, of the row north-east SW
 abbrev pub cornerSpots : ℕ → ℕ → ℕ → List Spot

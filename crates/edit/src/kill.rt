@@ -13,21 +13,34 @@ ghost use Rattle.edit.specs.Edges.{ofRow, Within, borderOf, stillBorder,
 use crate::anew::refresh_unless_nil;
 use crate::remove::touched_row;
 use crate::steps::take_out;
-use table::plain::link;
 use stock::find::lesser;
+use table::plain::link;
+use table::words::NE_KID;
+use table::words::NW_KID;
+use table::words::SE_KID;
+use table::words::SW_KID;
 use table::words::word;
 use table::writes::put;
 use table::writes::put_value;
+
+// The words of the kids in a byte each.
+const NE: u8 = NE_KID as u8;
+
+const SE: u8 = SE_KID as u8;
+
+const SW: u8 = SW_KID as u8;
+
+const NW: u8 = NW_KID as u8;
 
 // Whether the row n has no kid.
 fn kidless(t: &[i32], cap: usize, n: usize) -> bool
     requires { ⌜ (cap * rowWords + rowWords ≤ length (now t)) × (cap ≤ 4095) × (n ≤ cap) × Plain (now t) cap ⌝ }
     ensures { λ r. ⌜ r ≡ kidless (now (t .entry)) cap n ⌝ }
 {
-    let a = link(t, cap, n, 1);
-    let b = link(t, cap, n, 2);
-    let c = link(t, cap, n, 3);
-    let e = link(t, cap, n, 4);
+    let a = link(t, cap, n, NE_KID);
+    let b = link(t, cap, n, SE_KID);
+    let c = link(t, cap, n, SW_KID);
+    let e = link(t, cap, n, NW_KID);
     (a == 0) & ((b == 0) & ((c == 0) & (e == 0)))
 }
 
@@ -123,17 +136,17 @@ fn refresh_level(t: &mut [i32], cap: usize, d: u32, b: Border, e: u32)
     requires { ⌜ (cap * rowWords + rowWords ≤ length (now t)) × (cap ≤ 4095) × (d ≤ 32) × Within cap b ⌝ }
     ensures { λ _. ⌜ now (t .exit) ≡ refreshLevel (borderOf b) e (now (t .entry)) cap d ⌝ }
 {
-    let own = [3u8, 2, 4, 1];
+    let own = [SW, SE, NW, NE];
     refresh_down(t, cap, d, &own, e, b.own);
-    let north = [3u8, 2];
+    let north = [SW, SE];
     refresh_down(t, cap, d, &north, e, b.north);
-    let east = [3u8, 4];
+    let east = [SW, NW];
     refresh_down(t, cap, d, &east, e, b.east);
-    let both = [3u8];
+    let both = [SW];
     refresh_down(t, cap, d, &both, e, b.both);
-    let south = [4u8, 1];
+    let south = [NW, NE];
     refresh_down(t, cap, d, &south, e, b.south);
-    let west = [2u8, 1];
+    let west = [SE, NE];
     refresh_down(t, cap, d, &west, e, b.west);
 }
 

@@ -4,16 +4,20 @@ ghost use mathlib.Core.List.{map};
 ghost use Prim.Native.Nat.{_+_, _*_, _<_, _≤_};
 ghost use lib.ListN.{length};
 ghost use Rattle.mesh.specs.Picture.{rowWords};
-ghost use Rattle.editing.specs.Tables.{spot, kidAt, wantedSpots};
+ghost use Rattle.editing.specs.Tables.{kidAt, wantedSpots};
+ghost use Rattle.edit.specs.Lent.{kidSpot};
+use mesh::NE;
+use mesh::NW;
+use mesh::SE;
+use mesh::SW;
 use table::words::link;
-use table::worked::kid_word;
 
-// The kid l, m of the row p, or 0, in 16 bits.
-fn short_kid(t: &[i32], cap: usize, p: usize, l: u32, m: u32) -> u16
-    requires { ⌜ (cap * rowWords + rowWords ≤ length (now t)) × (cap ≤ 4095) × (p ≤ cap) × (m < 2) ⌝ }
-    ensures { λ r. ⌜ r ≡ kidAt (now (t .entry)) cap (spot p l m) ⌝ }
+// The kid of the row p in the wind at place w of the table of winds, or 0, in 16 bits.
+fn short_kid(t: &[i32], cap: usize, p: usize, w: usize) -> u16
+    requires { ⌜ (cap * rowWords + rowWords ≤ length (now t)) × (cap ≤ 4095) × (p ≤ cap) × (w < 4) ⌝ }
+    ensures { λ r. ⌜ r ≡ kidAt (now (t .entry)) cap (kidSpot p w) ⌝ }
 {
-    link(t, cap, p, kid_word(l, m)) as u16
+    link(t, cap, p, w + 1) as u16
 }
 
 // The rows of the nine places that the kids of the row n want, or 0.
@@ -25,14 +29,14 @@ pub fn near_rows(t: &[i32], cap: usize, n: usize) -> [u16; 9]
     let east = link(t, cap, n, 6);
     let both = link(t, cap, east, 5);
     [
-        short_kid(t, cap, n, 0, 0),
-        short_kid(t, cap, n, 1, 0),
-        short_kid(t, cap, n, 0, 1),
-        short_kid(t, cap, n, 1, 1),
-        short_kid(t, cap, north, 0, 0),
-        short_kid(t, cap, north, 1, 0),
-        short_kid(t, cap, east, 0, 1),
-        short_kid(t, cap, east, 0, 0),
-        short_kid(t, cap, both, 0, 0),
+        short_kid(t, cap, n, SW),
+        short_kid(t, cap, n, SE),
+        short_kid(t, cap, n, NW),
+        short_kid(t, cap, n, NE),
+        short_kid(t, cap, north, SW),
+        short_kid(t, cap, north, SE),
+        short_kid(t, cap, east, NW),
+        short_kid(t, cap, east, SW),
+        short_kid(t, cap, both, SW),
     ]
 }

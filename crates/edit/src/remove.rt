@@ -3,16 +3,20 @@ ghost use mathlib.Core.Path.{_≡_};
 ghost use Prim.Native.Nat.{_+_, _*_, _<_, _≤_};
 ghost use lib.ListN.{length};
 ghost use Rattle.mesh.specs.Picture.{rowWords};
-ghost use Rattle.editing.specs.Tables.{spot, kidAt, kidSpots, touchedRow, dropUntouched, dropAt, removeTable, removeValues};
+ghost use Rattle.editing.specs.Tables.{kidSpots, touchedRow, dropUntouched, dropAt, removeTable, removeValues};
 ghost use Rattle.edit.specs.Lent.{cornerSpots};
 ghost use Rattle.table.specs.Plain.{Plain};
+use crate::spots::kid;
 use crate::spots::put_cells;
 use crate::spots::put_values;
 use crate::spots::refresh_near;
 use crate::steps::take_out;
+use mesh::NE;
+use mesh::NW;
+use mesh::SE;
+use mesh::SW;
 use table::plain::flag;
 use table::plain::link;
-use table::worked::kid_word;
 
 // Whether a cell touches the patch of the row n.
 pub fn touched_row(t: &[i32], cap: usize, d: u32, n: usize) -> bool
@@ -39,40 +43,34 @@ fn drop_untouched(t: &mut [i32], cap: usize, d: u32, n: usize)
     take_out(t, cap, n);
 }
 
-fn drop_kid(t: &mut [i32], cap: usize, d: u32, p: usize, l: u32, m: u32)
-    requires { ⌜ (cap * rowWords + rowWords ≤ length (now t)) × (cap ≤ 4095) × (p ≤ cap) × (m < 2) × Plain (now t) cap ⌝ }
-    ensures { λ _. ⌜ (now (t .exit) ≡ dropUntouched (now (t .entry)) cap d (kidAt (now (t .entry)) cap (spot p l m))) × Plain (now (t .exit)) cap ⌝ }
-{
-    let k = link(t, cap, p, kid_word(l, m));
-    drop_untouched(t, cap, d, k);
-}
-
 fn drop_kids(t: &mut [i32], cap: usize, d: u32, n: usize)
     requires { ⌜ (cap * rowWords + rowWords ≤ length (now t)) × (cap ≤ 4095) × (n ≤ cap) × Plain (now t) cap ⌝ }
     ensures { λ _. ⌜ (now (t .exit) ≡ dropAt (kidSpots (now (t .entry)) cap n) (now (t .entry)) cap d) × Plain (now (t .exit)) cap ⌝ }
 {
-    drop_kid(t, cap, d, n, 0, 0);
-    drop_kid(t, cap, d, n, 1, 0);
-    drop_kid(t, cap, d, n, 0, 1);
-    drop_kid(t, cap, d, n, 1, 1);
+    let sw = kid(t, cap, n, SW);
+    drop_untouched(t, cap, d, sw);
+    let se = kid(t, cap, n, SE);
+    drop_untouched(t, cap, d, se);
+    let nw = kid(t, cap, n, NW);
+    drop_untouched(t, cap, d, nw);
+    let ne = kid(t, cap, n, NE);
+    drop_untouched(t, cap, d, ne);
 }
 
-fn drop_corners(
-    t: &mut [i32],
-    cap: usize,
-    d: u32,
-    north: usize,
-    east: usize,
-    both: usize,
-)
+fn drop_corners(t: &mut [i32], cap: usize, d: u32, north: usize, east: usize, both: usize)
     requires { ⌜ (cap * rowWords + rowWords ≤ length (now t)) × (cap ≤ 4095) × (north ≤ cap) × (east ≤ cap) × (both ≤ cap) × Plain (now t) cap ⌝ }
     ensures { λ _. ⌜ (now (t .exit) ≡ dropAt (cornerSpots north east both) (now (t .entry)) cap d) × Plain (now (t .exit)) cap ⌝ }
 {
-    drop_kid(t, cap, d, north, 0, 0);
-    drop_kid(t, cap, d, north, 1, 0);
-    drop_kid(t, cap, d, east, 0, 1);
-    drop_kid(t, cap, d, east, 0, 0);
-    drop_kid(t, cap, d, both, 0, 0);
+    let north_sw = kid(t, cap, north, SW);
+    drop_untouched(t, cap, d, north_sw);
+    let north_se = kid(t, cap, north, SE);
+    drop_untouched(t, cap, d, north_se);
+    let east_nw = kid(t, cap, east, NW);
+    drop_untouched(t, cap, d, east_nw);
+    let east_sw = kid(t, cap, east, SW);
+    drop_untouched(t, cap, d, east_sw);
+    let both_sw = kid(t, cap, both, SW);
+    drop_untouched(t, cap, d, both_sw);
 }
 
 // Removes the kids of the row n.

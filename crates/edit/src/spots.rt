@@ -5,40 +5,33 @@ ghost use Prim.Native.Nat.{_+_, _*_, _<_, _≤_};
 ghost use lib.ListN.{length};
 ghost use Rattle.mesh.specs.Picture.{rowWords};
 ghost use Rattle.editing.specs.Anew.{wallRow, markRow};
-ghost use Rattle.editing.specs.Tables.{spot, kidAt, kidSpots, eachAt, refreshNear, putCells, putValues};
-ghost use Rattle.edit.specs.Lent.{cornerSpots, sideSpots};
-ghost use Rattle.table.specs.Words.{linkOf};
+ghost use Rattle.editing.specs.Tables.{kidAt, kidSpots, eachAt, refreshNear, putCells, putValues};
+ghost use Rattle.edit.specs.Lent.{kidSpot, cornerSpots, sideSpots};
 ghost use Rattle.table.specs.Plain.{Plain};
 use crate::anew::mark_row;
 use crate::anew::wall_row;
 use crate::steps::put_unless_nil;
+use mesh::NE;
+use mesh::NW;
+use mesh::SE;
+use mesh::SW;
 use table::plain;
-use table::worked::kid_word;
 use table::writes::put_value;
 
-// The words of the kids.
-const NE: usize = 1;
-
-const SE: usize = 2;
-
-const SW: usize = 3;
-
-const NW: usize = 4;
-
-// The kid l, m of the row p, or 0.
-pub fn kid(t: &[i32], cap: usize, p: usize, l: u32, m: u32) -> usize
-    requires { ⌜ (cap * rowWords + rowWords ≤ length (now t)) × (cap ≤ 4095) × (p ≤ cap) × (m < 2) × Plain (now t) cap ⌝ }
-    ensures { λ r. ⌜ (r ≤ cap) × (r ≡ kidAt (now (t .entry)) cap (spot p l m)) ⌝ }
+// The kid of the row p in the wind at place w of the table of winds, or 0.
+pub fn kid(t: &[i32], cap: usize, p: usize, w: usize) -> usize
+    requires { ⌜ (cap * rowWords + rowWords ≤ length (now t)) × (cap ≤ 4095) × (p ≤ cap) × (w < 4) × Plain (now t) cap ⌝ }
+    ensures { λ r. ⌜ (r ≤ cap) × (r ≡ kidAt (now (t .entry)) cap (kidSpot p w)) ⌝ }
 {
-    plain::link(t, cap, p, kid_word(l, m))
+    plain::link(t, cap, p, w + 1)
 }
 
-// Walls anew, of the kid that the word w of the row p names.
+// Walls anew, of that kid.
 fn wall_kid(t: &mut [i32], cap: usize, d: u32, p: usize, w: usize)
-    requires { ⌜ (cap * rowWords + rowWords ≤ length (now t)) × (cap ≤ 4095) × (p ≤ cap) × (w < 9) × (d ≤ 32) × Plain (now t) cap ⌝ }
-    ensures { λ _. ⌜ (now (t .exit) ≡ wallRow cap d (now (t .entry)) (linkOf (now (t .entry)) cap p w)) × Plain (now (t .exit)) cap ⌝ }
+    requires { ⌜ (cap * rowWords + rowWords ≤ length (now t)) × (cap ≤ 4095) × (p ≤ cap) × (w < 4) × (d ≤ 32) × Plain (now t) cap ⌝ }
+    ensures { λ _. ⌜ (now (t .exit) ≡ wallRow cap d (now (t .entry)) (kidAt (now (t .entry)) cap (kidSpot p w))) × Plain (now (t .exit)) cap ⌝ }
 {
-    let k = plain::link(t, cap, p, w);
+    let k = kid(t, cap, p, w);
     wall_row(t, cap, d, k);
 }
 
@@ -65,10 +58,10 @@ fn wall_corners(t: &mut [i32], cap: usize, d: u32, north: usize, east: usize, bo
 
 // Points and its cell anew.
 fn mark_kid(t: &mut [i32], cap: usize, p: usize, w: usize)
-    requires { ⌜ (cap * rowWords + rowWords ≤ length (now t)) × (cap ≤ 4095) × (p ≤ cap) × (w < 9) × Plain (now t) cap ⌝ }
-    ensures { λ _. ⌜ (now (t .exit) ≡ markRow cap (now (t .entry)) (linkOf (now (t .entry)) cap p w)) × Plain (now (t .exit)) cap ⌝ }
+    requires { ⌜ (cap * rowWords + rowWords ≤ length (now t)) × (cap ≤ 4095) × (p ≤ cap) × (w < 4) × Plain (now t) cap ⌝ }
+    ensures { λ _. ⌜ (now (t .exit) ≡ markRow cap (now (t .entry)) (kidAt (now (t .entry)) cap (kidSpot p w))) × Plain (now (t .exit)) cap ⌝ }
 {
-    let k = plain::link(t, cap, p, w);
+    let k = kid(t, cap, p, w);
     mark_row(t, cap, k);
 }
 
@@ -137,11 +130,11 @@ pub fn refresh_near(t: &mut [i32], cap: usize, d: u32, n: usize)
 }
 
 // The flags' word and the status word of a kid.
-fn put_cell(t: &mut [i32], cap: usize, p: usize, l: u32, m: u32, f: u32, st: u32)
-    requires { ⌜ (cap * rowWords + rowWords ≤ length (now t)) × (cap ≤ 4095) × (p ≤ cap) × (m < 2) × (f < 2147483648) × (st < 2147483648) × Plain (now t) cap ⌝ }
-    ensures { λ _. ⌜ (now (t .exit) ≡ putCells (spot p l m ∷ []) (now (t .entry)) cap f st) × Plain (now (t .exit)) cap ⌝ }
+fn put_cell(t: &mut [i32], cap: usize, p: usize, w: usize, f: u32, st: u32)
+    requires { ⌜ (cap * rowWords + rowWords ≤ length (now t)) × (cap ≤ 4095) × (p ≤ cap) × (w < 4) × (f < 2147483648) × (st < 2147483648) × Plain (now t) cap ⌝ }
+    ensures { λ _. ⌜ (now (t .exit) ≡ putCells (kidSpot p w ∷ []) (now (t .entry)) cap f st) × Plain (now (t .exit)) cap ⌝ }
 {
-    let k = kid(t, cap, p, l, m);
+    let k = kid(t, cap, p, w);
     put_unless_nil(t, k, 12, f);
     put_unless_nil(t, k, 13, st);
 }
@@ -151,10 +144,10 @@ pub fn put_cells(t: &mut [i32], cap: usize, n: usize, f: u32, st: u32)
     requires { ⌜ (cap * rowWords + rowWords ≤ length (now t)) × (cap ≤ 4095) × (n ≤ cap) × (f < 2147483648) × (st < 2147483648) × Plain (now t) cap ⌝ }
     ensures { λ _. ⌜ (now (t .exit) ≡ putCells (kidSpots (now (t .entry)) cap n) (now (t .entry)) cap f st) × Plain (now (t .exit)) cap ⌝ }
 {
-    put_cell(t, cap, n, 0, 0, f, st);
-    put_cell(t, cap, n, 1, 0, f, st);
-    put_cell(t, cap, n, 0, 1, f, st);
-    put_cell(t, cap, n, 1, 1, f, st);
+    put_cell(t, cap, n, SW, f, st);
+    put_cell(t, cap, n, SE, f, st);
+    put_cell(t, cap, n, NW, f, st);
+    put_cell(t, cap, n, NE, f, st);
 }
 
 // The value y for the four kids.
@@ -162,8 +155,8 @@ pub fn put_values(t: &[i32], cap: usize, n: usize, v: &mut [f64], y: f64)
     requires { ⌜ (cap * rowWords + rowWords ≤ length (now t)) × (cap ≤ 4095) × (n ≤ cap) × (cap < length (now v)) × Plain (now t) cap ⌝ }
     ensures { λ _. ⌜ now (v .exit) ≡ putValues (kidSpots (now (t .entry)) cap n) (now (t .entry)) cap y (now (v .entry)) ⌝ }
 {
-    put_value(v, kid(t, cap, n, 0, 0), y);
-    put_value(v, kid(t, cap, n, 1, 0), y);
-    put_value(v, kid(t, cap, n, 0, 1), y);
-    put_value(v, kid(t, cap, n, 1, 1), y);
+    put_value(v, kid(t, cap, n, SW), y);
+    put_value(v, kid(t, cap, n, SE), y);
+    put_value(v, kid(t, cap, n, NW), y);
+    put_value(v, kid(t, cap, n, NE), y);
 }

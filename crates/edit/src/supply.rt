@@ -7,31 +7,29 @@ ghost use Rattle.mesh.specs.Picture.{rowWords};
 ghost use Rattle.table.specs.Plain.{Plain};
 ghost use Rattle.stock.specs.Free.{freeFrom};
 ghost use Rattle.stock.specs.Stock.{Stocked};
-ghost use Rattle.editing.specs.Tables.{spot, kidSpots, supplied, suppliedAll};
+ghost use Rattle.editing.specs.Tables.{kidSpots, supplied, suppliedAll};
 ghost use Rattle.edit.specs.Small.{AllSmall};
-ghost use Rattle.edit.specs.Lent.{lending, cornerSpots};
+ghost use Rattle.edit.specs.Lent.{lending, kidSpot, cornerSpots};
 use crate::spots::kid;
 use crate::steps::link_in;
+use mesh::NE;
+use mesh::NW;
+use mesh::SE;
+use mesh::SW;
+use mesh::kid_digits;
 use stock::find::next_free;
 
-// Links in the kid l, m of the row p under the number k, the next free one from low on, unless it is there; where to look for the next one from.
-fn supply(
-    t: &mut [i32],
-    cap: usize,
-    d: u32,
-    p: usize,
-    l: u32,
-    m: u32,
-    k: usize,
-    low: usize,
-) -> usize
-    requires { ⌜ (cap * rowWords + rowWords ≤ length (now t)) × (cap ≤ 4095) × (p ≤ cap) × (d ≤ 32) × (l < 2) × (m < 2) × (low ≤ cap + 1) × AllSmall 1073741824 (now t) cap d × (k ≤ cap) × Plain (now t) cap × (k ≡ freeFrom (now t) (cap + 1 - low) low) ⌝ }
-    ensures { λ r. ⌜ (r ≤ cap + 1) × (lending (now (t .exit)) r ≡ supplied cap d (spot p l m) (lending (now (t .entry)) low)) × Plain (now (t .exit)) cap ⌝ }
+// Links in the kid of the row p in the wind at place w of the table of winds under the number k, the next free one from low on, unless it is there;
+// where to look for the next one from.
+fn supply(t: &mut [i32], cap: usize, d: u32, p: usize, w: usize, k: usize, low: usize) -> usize
+    requires { ⌜ (cap * rowWords + rowWords ≤ length (now t)) × (cap ≤ 4095) × (p ≤ cap) × (d ≤ 32) × (w < 4) × (low ≤ cap + 1) × AllSmall 1073741824 (now t) cap d × (k ≤ cap) × Plain (now t) cap × (k ≡ freeFrom (now t) (cap + 1 - low) low) ⌝ }
+    ensures { λ r. ⌜ (r ≤ cap + 1) × (lending (now (t .exit)) r ≡ supplied cap d (kidSpot p w) (lending (now (t .entry)) low)) × Plain (now (t .exit)) cap ⌝ }
 {
-    if kid(t, cap, p, l, m) != 0 {
+    if kid(t, cap, p, w) != 0 {
         return low;
     }
-    link_in(t, cap, d, p, l, m, k);
+    let e = kid_digits(w);
+    link_in(t, cap, d, p, e.col, e.row, k);
     k + 1
 }
 
@@ -49,13 +47,13 @@ pub fn supply_kids(
     ensures { λ r. ⌜ (r ≤ cap + 1) × (lending (now (t .exit)) r ≡ suppliedAll cap d (kidSpots (now (t .entry)) cap n) (lending (now (t .entry)) low)) × Plain (now (t .exit)) cap ⌝ }
 {
     let g = next_free(t, cap, low, stock, 0);
-    let a = supply(t, cap, d, n, 0, 0, g, low);
+    let a = supply(t, cap, d, n, SW, g, low);
     let h = next_free(t, cap, a, stock, 0);
-    let b = supply(t, cap, d, n, 1, 0, h, a);
+    let b = supply(t, cap, d, n, SE, h, a);
     let i = next_free(t, cap, b, stock, 1);
-    let c = supply(t, cap, d, n, 0, 1, i, b);
+    let c = supply(t, cap, d, n, NW, i, b);
     let j = next_free(t, cap, c, stock, 2);
-    supply(t, cap, d, n, 1, 1, j, c)
+    supply(t, cap, d, n, NE, j, c)
 }
 
 // The others that the kids want: of the row north SW, SE; of the row east NW, SW; of the row north-east SW.
@@ -73,13 +71,13 @@ pub fn supply_corners(
     ensures { λ r. ⌜ (r ≤ cap + 1) × (lending (now (t .exit)) r ≡ suppliedAll cap d (cornerSpots north east both) (lending (now (t .entry)) low)) × Plain (now (t .exit)) cap ⌝ }
 {
     let g = next_free(t, cap, low, stock, 3);
-    let a = supply(t, cap, d, north, 0, 0, g, low);
+    let a = supply(t, cap, d, north, SW, g, low);
     let h = next_free(t, cap, a, stock, 4);
-    let b = supply(t, cap, d, north, 1, 0, h, a);
+    let b = supply(t, cap, d, north, SE, h, a);
     let i = next_free(t, cap, b, stock, 5);
-    let c = supply(t, cap, d, east, 0, 1, i, b);
+    let c = supply(t, cap, d, east, NW, i, b);
     let j = next_free(t, cap, c, stock, 6);
-    let e = supply(t, cap, d, east, 0, 0, j, c);
+    let e = supply(t, cap, d, east, SW, j, c);
     let k = next_free(t, cap, e, stock, 7);
-    supply(t, cap, d, both, 0, 0, k, e)
+    supply(t, cap, d, both, SW, k, e)
 }

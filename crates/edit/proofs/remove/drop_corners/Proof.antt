@@ -1,24 +1,49 @@
 -- `edit::remove::drop_corners` meets its contract.
 -- Assumes nothing.
+use mathlib.Core.Path.{ap, _∙_}
+use native.Mathlib.Omega.{arith}
 use borrow.Author.Needs.{needs}
+use Rattle.editing.specs.Tables.{dropUntouched}
 use Rattle.edit.proofs.Nearby.{drop-more, drop-none}
 use Rattle.edit.proofs.remove.drop_corners.Statement.{statement}
 use Rattle.edit.proofs.remove.drop_corners.Tie as tie
 
-drop-kid-requires : tie.Need-drop-kid-requires
-drop-kid-requires c κs = search needs
+kid-requires : tie.Need-kid-requires
+kid-requires c κs = search needs
 
-drop-kid-requires-2 : tie.Need-drop-kid-requires-2
-drop-kid-requires-2 c κs = search needs
+drop-untouched-requires : tie.Need-drop-untouched-requires
+drop-untouched-requires c κs = search needs
 
-drop-kid-requires-3 : tie.Need-drop-kid-requires-3
-drop-kid-requires-3 c κs = search needs
+kid-requires-2 : tie.Need-kid-requires-2
+kid-requires-2 c κs = search needs
 
-drop-kid-requires-4 : tie.Need-drop-kid-requires-4
-drop-kid-requires-4 c κs = search needs
+drop-untouched-requires-2 : tie.Need-drop-untouched-requires-2
+drop-untouched-requires-2 c κs = search needs
 
-drop-kid-requires-5 : tie.Need-drop-kid-requires-5
-drop-kid-requires-5 c κs = search needs
+kid-requires-3 : tie.Need-kid-requires-3
+kid-requires-3 c κs = search needs
+
+drop-untouched-requires-3 : tie.Need-drop-untouched-requires-3
+drop-untouched-requires-3 c κs = search needs
+
+kid-requires-4 : tie.Need-kid-requires-4
+kid-requires-4 c κs = search needs
+
+drop-untouched-requires-4 : tie.Need-drop-untouched-requires-4
+drop-untouched-requires-4 c κs = search needs
+
+kid-requires-5 : tie.Need-kid-requires-5
+kid-requires-5 c κs = search needs
+
+drop-untouched-requires-5 : tie.Need-drop-untouched-requires-5
+drop-untouched-requires-5 c κs =
+    let k₁ = c .before in
+    let b₂ = k₁ .before .before .before in
+    let b₃ = b₂ .before .before .before .before .before in
+    let b₄ = b₃ .before .before .before .before .before in
+    let b₅ = b₄ .before .before .before .before .before in
+    let pre = b₅ .before .before .before .before .pre in
+    (omega (arith, pre .0, b₂ .drop-untouched4 .kept .0, b₃ .drop-untouched3 .kept .0, b₄ .drop-untouched2 .kept .0, b₅ .drop-untouched .kept .0), pre .1, k₁ .kid5 .ensures .0, b₂ .drop-untouched4 .ensures .1)
 
 same-length : tie.Need-same-length
 same-length c = search needs
@@ -26,20 +51,30 @@ same-length c = search needs
 returns : tie.Need-returns
 returns c =
     let b₁ = c .before in
-    let b₂ = b₁ .before .before .before in
-    let b₃ = b₂ .before .before .before in
-    let b₄ = b₃ .before .before .before in
-    let b₅ = b₄ .before .before .before in
-    (drop-more _ _ _ _ _ (b₅ .drop-kid .ensures .0) (drop-more _ _ _ _ _ (b₄ .drop-kid2 .ensures .0) (drop-more _ _ _ _ _ (b₃ .drop-kid3 .ensures .0) (drop-more _ _ _ _ _ (b₂ .drop-kid4 .ensures .0) (drop-more _ _ _ _ _ (b₁ .drop-kid5 .ensures .0) (drop-none _ _ _))))), b₁ .drop-kid5 .ensures .1)
+    let k₁ = b₁ .before .before in
+    let b₂ = k₁ .before .before .before in
+    let k₂ = b₂ .before .before in
+    let b₃ = k₂ .before .before .before in
+    let k₃ = b₃ .before .before in
+    let b₄ = k₃ .before .before .before in
+    let k₄ = b₄ .before .before in
+    let b₅ = k₄ .before .before .before in
+    let k₅ = b₅ .before .before in
+    (drop-more _ _ _ _ _ (b₅ .drop-untouched .ensures .0 ∙ ap (dropUntouched _ _ _) (k₅ .kid .ensures .1)) (drop-more _ _ _ _ _ (b₄ .drop-untouched2 .ensures .0 ∙ ap (dropUntouched _ _ _) (k₄ .kid2 .ensures .1)) (drop-more _ _ _ _ _ (b₃ .drop-untouched3 .ensures .0 ∙ ap (dropUntouched _ _ _) (k₃ .kid3 .ensures .1)) (drop-more _ _ _ _ _ (b₂ .drop-untouched4 .ensures .0 ∙ ap (dropUntouched _ _ _) (k₂ .kid4 .ensures .1)) (drop-more _ _ _ _ _ (b₁ .drop-untouched5 .ensures .0 ∙ ap (dropUntouched _ _ _) (k₁ .kid5 .ensures .1)) (drop-none _ _ _))))), b₁ .drop-untouched5 .ensures .1)
 
 pub drop-corners-spec : {M : Type 1} → statement M
 drop-corners-spec =
     tie.close
     (tie.spec
-    drop-kid-requires
-    drop-kid-requires-2
-    drop-kid-requires-3
-    drop-kid-requires-4
-    drop-kid-requires-5
+    kid-requires
+    drop-untouched-requires
+    kid-requires-2
+    drop-untouched-requires-2
+    kid-requires-3
+    drop-untouched-requires-3
+    kid-requires-4
+    drop-untouched-requires-4
+    kid-requires-5
+    drop-untouched-requires-5
     same-length
     returns)

@@ -6,8 +6,8 @@ use Rattle.editing.specs.Anew.{wallRow}
 use Rattle.edit.proofs.spots.wall_kid.Statement.{statement}
 use Rattle.edit.proofs.spots.wall_kid.Tie as tie
 
-link-requires : tie.Need-link-requires
-link-requires c κs = search needs
+kid-requires : tie.Need-kid-requires
+kid-requires c κs = search needs
 
 wall-row-requires : tie.Need-wall-row-requires
 wall-row-requires c κs = search needs
@@ -16,7 +16,7 @@ same-length : tie.Need-same-length
 same-length c = search needs
 
 returns : tie.Need-returns
-returns c = (c .before .wall-row .ensures .0 ∙ ap (wallRow _ _ _) (c .before .before .before .link .ensures .1), c .before .wall-row .ensures .1)
+returns c = (c .before .wall-row .ensures .0 ∙ ap (wallRow _ _ _) (c .before .before .before .kid .ensures .1), c .before .wall-row .ensures .1)
 
 pub wall-kid-spec : {M : Type 1} → statement M
-wall-kid-spec = tie.close (tie.spec link-requires wall-row-requires same-length returns)
+wall-kid-spec = tie.close (tie.spec kid-requires wall-row-requires same-length returns)

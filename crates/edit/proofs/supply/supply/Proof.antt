@@ -13,12 +13,15 @@ same-length : tie.Need-same-length
 same-length c = search needs
 
 returns : tie.Need-returns
-returns c = (omega arith, supplied-there _ _ _ _ _ _ _ (c .before .kid .ensures .1) (c .if1 .taken), c .before .before .before .pre .9)
+returns c = (omega arith, supplied-there _ _ _ _ _ _ _ (c .before .kid .ensures .1) (c .if1 .taken), c .before .before .before .pre .8)
+
+kid-digits-requires : tie.Need-kid-digits-requires
+kid-digits-requires c κs = search needs
 
 link-in-requires : tie.Need-link-in-requires
 link-in-requires c κs =
-    let b = c .before .before .before .before in
-    (omega arith, omega arith, omega arith, omega arith, omega arith, omega arith, omega arith, b .pre .7 (b .args .p) (b .pre .2), b .pre .9)
+    let b = c .before .before .before .before .before in
+    (omega arith, omega arith, omega arith, omega arith, omega arith, omega arith, omega arith, b .pre .6 (b .args .p) (b .pre .2), b .pre .8)
 
 add-result : tie.Need-add-result
 add-result c = search needs
@@ -31,8 +34,10 @@ returns-2 c =
     let b₁ = c .before in
     let b₂ = b₁ .before .before in
     let b₃ = b₂ .before in
-    let pre = b₃ .before .before .pre in
-    (omega arith, supplied-new _ _ _ _ _ _ _ (b₃ .kid .ensures .1) (b₂ .if1 .left) (pre .10) (b₁ .link-in .ensures .0), b₁ .link-in .ensures .1)
+    let b₄ = b₃ .before in
+    let pre = b₄ .before .before .pre in
+    let kid = b₂ .kid-digits .ensures .2 in
+    (omega arith, supplied-new _ _ _ _ _ _ _ (b₄ .kid .ensures .1) (b₃ .if1 .left) (pre .9) (kid .col) (kid .row) (b₁ .link-in .ensures .0), b₁ .link-in .ensures .1)
 
 pub supply-spec : {M : Type 1} → statement M
 supply-spec =
@@ -41,6 +46,7 @@ supply-spec =
     kid-requires
     same-length
     returns
+    kid-digits-requires
     link-in-requires
     add-result
     same-length-2

@@ -15,7 +15,7 @@ supply-requires : tie.Need-supply-requires
 supply-requires c κs =
     let f₁ = c .before in
     let pre = f₁ .before .before .pre in
-    (omega arith, omega arith, omega arith, omega arith, omega arith, omega arith, omega arith, all-more 16777216 _ _ _ _ (pre .7) (omega arith), f₁ .next-free .ensures .0, pre .9, f₁ .next-free .ensures .1)
+    (omega arith, omega arith, omega arith, omega arith, omega arith, omega arith, all-more 16777216 _ _ _ _ (pre .7) (omega arith), f₁ .next-free .ensures .0, pre .9, f₁ .next-free .ensures .1)
 
 next-free-requires-2 : tie.Need-next-free-requires-2
 next-free-requires-2 c κs =
@@ -30,7 +30,7 @@ supply-requires-2 c κs =
     let s₁ = f₂ .before .before .before in
     let f₁ = s₁ .before .before in
     let pre = f₁ .before .before .pre in
-    (omega arith, omega arith, omega arith, omega arith, omega arith, omega arith, omega arith, all-more 33554432 _ _ _ _ (small-after 16777216 _ _ _ _ _ _ _ (pre .7) (s₁ .supply .ensures .1) (pre .2) (omega arith) (omega arith) (omega arith)) (omega arith), f₂ .next-free2 .ensures .0, s₁ .supply .ensures .2, f₂ .next-free2 .ensures .1)
+    (omega arith, omega arith, omega arith, omega arith, omega arith, omega arith, all-more 33554432 _ _ _ _ (small-after 16777216 _ _ _ _ _ _ _ (pre .7) (s₁ .supply .ensures .1) (pre .2) (omega arith) (omega arith) (omega arith)) (omega arith), f₂ .next-free2 .ensures .0, s₁ .supply .ensures .2, f₂ .next-free2 .ensures .1)
 
 next-free-requires-3 : tie.Need-next-free-requires-3
 next-free-requires-3 c κs =
@@ -49,7 +49,7 @@ supply-requires-3 c κs =
     let s₁ = f₂ .before .before .before in
     let f₁ = s₁ .before .before in
     let pre = f₁ .before .before .pre in
-    (omega arith, omega arith, omega arith, omega arith, omega arith, omega arith, omega arith, all-more 67108864 _ _ _ _ (small-after 33554432 _ _ _ _ _ _ _ (small-after 16777216 _ _ _ _ _ _ _ (pre .7) (s₁ .supply .ensures .1) (pre .2) (omega arith) (omega arith) (omega arith)) (s₂ .supply2 .ensures .1) (pre .2) (omega arith) (omega arith) (omega arith)) (omega arith), f₃ .next-free3 .ensures .0, s₂ .supply2 .ensures .2, f₃ .next-free3 .ensures .1)
+    (omega arith, omega arith, omega arith, omega arith, omega arith, omega arith, all-more 67108864 _ _ _ _ (small-after 33554432 _ _ _ _ _ _ _ (small-after 16777216 _ _ _ _ _ _ _ (pre .7) (s₁ .supply .ensures .1) (pre .2) (omega arith) (omega arith) (omega arith)) (s₂ .supply2 .ensures .1) (pre .2) (omega arith) (omega arith) (omega arith)) (omega arith), f₃ .next-free3 .ensures .0, s₂ .supply2 .ensures .2, f₃ .next-free3 .ensures .1)
 
 next-free-requires-4 : tie.Need-next-free-requires-4
 next-free-requires-4 c κs =
@@ -72,7 +72,7 @@ supply-requires-4 c κs =
     let s₁ = f₂ .before .before .before in
     let f₁ = s₁ .before .before in
     let pre = f₁ .before .before .pre in
-    (omega arith, omega arith, omega arith, omega arith, omega arith, omega arith, omega arith, all-more 134217728 _ _ _ _ (small-after 67108864 _ _ _ _ _ _ _ (small-after 33554432 _ _ _ _ _ _ _ (small-after 16777216 _ _ _ _ _ _ _ (pre .7) (s₁ .supply .ensures .1) (pre .2) (omega arith) (omega arith) (omega arith)) (s₂ .supply2 .ensures .1) (pre .2) (omega arith) (omega arith) (omega arith)) (s₃ .supply3 .ensures .1) (pre .3) (omega arith) (omega arith) (omega arith)) (omega arith), f₄ .next-free4 .ensures .0, s₃ .supply3 .ensures .2, f₄ .next-free4 .ensures .1)
+    (omega arith, omega arith, omega arith, omega arith, omega arith, omega arith, all-more 134217728 _ _ _ _ (small-after 67108864 _ _ _ _ _ _ _ (small-after 33554432 _ _ _ _ _ _ _ (small-after 16777216 _ _ _ _ _ _ _ (pre .7) (s₁ .supply .ensures .1) (pre .2) (omega arith) (omega arith) (omega arith)) (s₂ .supply2 .ensures .1) (pre .2) (omega arith) (omega arith) (omega arith)) (s₃ .supply3 .ensures .1) (pre .3) (omega arith) (omega arith) (omega arith)) (omega arith), f₄ .next-free4 .ensures .0, s₃ .supply3 .ensures .2, f₄ .next-free4 .ensures .1)
 
 next-free-requires-5 : tie.Need-next-free-requires-5
 next-free-requires-5 c κs =
@@ -99,7 +99,7 @@ supply-requires-5 c κs =
     let s₁ = f₂ .before .before .before in
     let f₁ = s₁ .before .before in
     let pre = f₁ .before .before .pre in
-    (omega arith, omega arith, omega arith, omega arith, omega arith, omega arith, omega arith, all-more 268435456 _ _ _ _ (small-after 134217728 _ _ _ _ _ _ _ (small-after 67108864 _ _ _ _ _ _ _ (small-after 33554432 _ _ _ _ _ _ _ (small-after 16777216 _ _ _ _ _ _ _ (pre .7) (s₁ .supply .ensures .1) (pre .2) (omega arith) (omega arith) (omega arith)) (s₂ .supply2 .ensures .1) (pre .2) (omega arith) (omega arith) (omega arith)) (s₃ .supply3 .ensures .1) (pre .3) (omega arith) (omega arith) (omega arith)) (s₄ .supply4 .ensures .1) (pre .3) (omega arith) (omega arith) (omega arith)) (omega arith), f₅ .next-free5 .ensures .0, s₄ .supply4 .ensures .2, f₅ .next-free5 .ensures .1)
+    (omega arith, omega arith, omega arith, omega arith, omega arith, omega arith, all-more 268435456 _ _ _ _ (small-after 134217728 _ _ _ _ _ _ _ (small-after 67108864 _ _ _ _ _ _ _ (small-after 33554432 _ _ _ _ _ _ _ (small-after 16777216 _ _ _ _ _ _ _ (pre .7) (s₁ .supply .ensures .1) (pre .2) (omega arith) (omega arith) (omega arith)) (s₂ .supply2 .ensures .1) (pre .2) (omega arith) (omega arith) (omega arith)) (s₃ .supply3 .ensures .1) (pre .3) (omega arith) (omega arith) (omega arith)) (s₄ .supply4 .ensures .1) (pre .3) (omega arith) (omega arith) (omega arith)) (omega arith), f₅ .next-free5 .ensures .0, s₄ .supply4 .ensures .2, f₅ .next-free5 .ensures .1)
 
 same-length : tie.Need-same-length
 same-length c =
