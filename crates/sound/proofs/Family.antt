@@ -93,15 +93,17 @@ module _ (g : Grid) (cap : ℕ) (t : List ℤ) (v : List Float) (n : ℕ) where
     unfolding kidOk
     kid-none z = rw (← kid-link, kid-names, eq-eqb k 0 z)
 
-    pub kid-some : {i j : ℕ} {f o : Bool} →
+    pub kid-some : {i j a b : ℕ} {f o : Bool} →
         (k ≡ 0 → ⊥) →
         f ≡ eqb (wordOf t k 12) 8192 →
         o ≡ eqb (wordOf t k 0) n →
         i ≡ wordOf t k 10 →
         j ≡ wordOf t k 11 →
-        (not f && o && eqb (i % 2) l && eqb (j % 2) m) ≡ kidOk g cap t v n l m
+        l ≡ a →
+        m ≡ b →
+        (not f && o && eqb (i % 2) a && eqb (j % 2) b) ≡ kidOk g cap t v n l m
     unfolding kidOk
-    kid-some z f o i j = rw (← kid-link, kid-names, ne-eqb k 0 z, ← f, ← o, ← i, ← j) (simp (and-true, and-assoc))
+    kid-some z f o i j x y = rw (← x, ← y, ← kid-link, kid-names, ne-eqb k 0 z, ← f, ← o, ← i, ← j) (simp (and-true, and-assoc))
 
   -- no kid word names a row
   pub kids-bare : {b : Bool} → ((w : ℕ) → w < 9 → linkOf t cap n w ≡ wordOf t n w) → b ≡ noKids t cap n → b ≡ true → true ≡ kidsOk g cap t v n

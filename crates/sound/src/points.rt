@@ -14,6 +14,10 @@ use crate::plain::index;
 use crate::tree::no_kids;
 use table::plain::flag;
 use table::plain::link;
+use table::words::NE_KID;
+use table::words::NW_KID;
+use table::words::SE_KID;
+use table::words::SW_KID;
 use table::words::says;
 
 // A ghost has flags 0 and a kid.
@@ -51,10 +55,10 @@ fn kid_cells_are(t: &[i32], cap: usize, n: usize, b: bool) -> bool
     requires { ⌜ Plain (now t) cap × (n ≤ cap) ⌝ }
     ensures { λ r. ⌜ r ≡ kidCells (now (t .entry)) cap n b ⌝ }
 {
-    (flag(t, cap, 0, link(t, cap, n, 1)) == b)
-        & (flag(t, cap, 0, link(t, cap, n, 2)) == b)
-        & (flag(t, cap, 0, link(t, cap, n, 3)) == b)
-        & (flag(t, cap, 0, link(t, cap, n, 4)) == b)
+    (flag(t, cap, 0, link(t, cap, n, NE_KID)) == b)
+        & (flag(t, cap, 0, link(t, cap, n, SE_KID)) == b)
+        & (flag(t, cap, 0, link(t, cap, n, SW_KID)) == b)
+        & (flag(t, cap, 0, link(t, cap, n, NW_KID)) == b)
 }
 
 // Whether the kids are four cells or none.
@@ -65,10 +69,10 @@ fn kids_agree(t: &[i32], cap: usize, n: usize) -> bool
     if no_kids(t, cap, n) {
         return true;
     }
-    let i = flag(t, cap, 0, link(t, cap, n, 1));
-    (i == flag(t, cap, 0, link(t, cap, n, 2)))
-        & (i == flag(t, cap, 0, link(t, cap, n, 3)))
-        & (i == flag(t, cap, 0, link(t, cap, n, 4)))
+    let i = flag(t, cap, 0, link(t, cap, n, NE_KID));
+    (i == flag(t, cap, 0, link(t, cap, n, SE_KID)))
+        & (i == flag(t, cap, 0, link(t, cap, n, SW_KID)))
+        & (i == flag(t, cap, 0, link(t, cap, n, NW_KID)))
 }
 
 // Whether a cell lies in the rectangle, or in a cell of the level below.

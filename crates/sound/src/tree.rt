@@ -5,7 +5,7 @@ ghost use Prim.Native.Nat.{_+_, _*_, _≤_, _<_};
 ghost use lib.Dec.{eqb};
 ghost use lib.ListN.{length, getD};
 ghost use Rattle.mesh.specs.Place.{rectangle, NE};
-ghost use Rattle.mesh.specs.Winds.{winds};
+ghost use Rattle.mesh.specs.Winds.{winds, kidCol, kidRow};
 ghost use Rattle.mesh.specs.Picture.{rowWords};
 ghost use Rattle.table.specs.Words.{linkOf, depthOf};
 ghost use Rattle.table.specs.Sides.{sideBy};
@@ -16,6 +16,10 @@ ghost use Rattle.sound.specs.Plain.{Plain, Levelled};
 use crate::plain::depth;
 use crate::plain::index;
 use table::plain::link;
+use table::words::NE_KID;
+use table::words::NW_KID;
+use table::words::SE_KID;
+use table::words::SW_KID;
 use table::words::named;
 use table::words::says;
 use table::worked::kid_word;
@@ -79,14 +83,14 @@ pub fn child_ok(t: &[i32], v: &[f64], cap: usize, columns: u32, rows: u32, d: u3
     // Digits that are written out make the word of the kid one of the compiler's.
     if i % 2 == 0 {
         if j % 2 == 0 {
-            return says(t, p, 3, n as u32);
+            return says(t, p, SW_KID, n as u32);
         }
-        return says(t, p, 4, n as u32);
+        return says(t, p, NW_KID, n as u32);
     }
     if j % 2 == 0 {
-        return says(t, p, 2, n as u32);
+        return says(t, p, SE_KID, n as u32);
     }
-    says(t, p, 1, n as u32)
+    says(t, p, NE_KID, n as u32)
 }
 
 pub fn place_ok(t: &[i32], v: &[f64], cap: usize, columns: u32, rows: u32, d: u32, n: usize) -> bool
@@ -99,7 +103,7 @@ pub fn place_ok(t: &[i32], v: &[f64], cap: usize, columns: u32, rows: u32, d: u3
     child_ok(t, v, cap, columns, rows, d, n)
 }
 
-// A kid word is 0, or names a row in use whose parent is the row n.
+// The word of the kid in the wind at place w of the table of winds is 0, or names a row in use whose parent is the row n.
 pub fn kid_ok(
     t: &[i32],
     v: &[f64],
@@ -108,21 +112,20 @@ pub fn kid_ok(
     rows: u32,
     d: u32,
     n: usize,
-    l: u32,
-    m: u32,
+    w: usize,
 ) -> bool
-    requires { ⌜ Lent (now t) (now v) cap columns rows d × (n ≤ cap) × (m < 2) ⌝ }
-    ensures { λ r. ⌜ r ≡ kidOk (rectangle columns rows) cap (now (t .entry)) (now (v .entry)) n l m ⌝ }
+    requires { ⌜ Lent (now t) (now v) cap columns rows d × (n ≤ cap) × (w < 4) ⌝ }
+    ensures { λ r. ⌜ r ≡ kidOk (rectangle columns rows) cap (now (t .entry)) (now (v .entry)) n (kidCol w) (kidRow w) ⌝ }
 {
-    let w = kid_word(l, m);
-    let k = link(t, cap, n, w);
+    let k = link(t, cap, n, w + 1);
     if k == 0 {
         return true;
     }
+    let e = mesh::kid_digits(w);
     !says(t, k, 12, 8192)
         & says(t, k, 0, n as u32)
-        & (index(t, cap, k, 10) % 2 == l)
-        & (index(t, cap, k, 11) % 2 == m)
+        & (index(t, cap, k, 10) % 2 == e.col)
+        & (index(t, cap, k, 11) % 2 == e.row)
 }
 
 // Whether no kid word names a row.
@@ -130,10 +133,10 @@ pub fn no_kids(t: &[i32], cap: usize, n: usize) -> bool
     requires { ⌜ Plain (now t) cap × (n ≤ cap) ⌝ }
     ensures { λ r. ⌜ r ≡ noKids (now (t .entry)) cap n ⌝ }
 {
-    (link(t, cap, n, 1) == 0)
-        & (link(t, cap, n, 2) == 0)
-        & (link(t, cap, n, 3) == 0)
-        & (link(t, cap, n, 4) == 0)
+    (link(t, cap, n, NE_KID) == 0)
+        & (link(t, cap, n, SE_KID) == 0)
+        & (link(t, cap, n, SW_KID) == 0)
+        & (link(t, cap, n, NW_KID) == 0)
 }
 
 pub fn kids_ok(t: &[i32], v: &[f64], cap: usize, columns: u32, rows: u32, d: u32, n: usize) -> bool
@@ -143,16 +146,16 @@ pub fn kids_ok(t: &[i32], v: &[f64], cap: usize, columns: u32, rows: u32, d: u32
     if no_kids(t, cap, n) {
         return true;
     }
-    if !kid_ok(t, v, cap, columns, rows, d, n, 1, 1) {
+    if !kid_ok(t, v, cap, columns, rows, d, n, mesh::NE) {
         return false;
     }
-    if !kid_ok(t, v, cap, columns, rows, d, n, 1, 0) {
+    if !kid_ok(t, v, cap, columns, rows, d, n, mesh::SE) {
         return false;
     }
-    if !kid_ok(t, v, cap, columns, rows, d, n, 0, 0) {
+    if !kid_ok(t, v, cap, columns, rows, d, n, mesh::SW) {
         return false;
     }
-    kid_ok(t, v, cap, columns, rows, d, n, 0, 1)
+    kid_ok(t, v, cap, columns, rows, d, n, mesh::NW)
 }
 
 // The row that a neighbour is a kid of: the parent p, or the parent's neighbour.

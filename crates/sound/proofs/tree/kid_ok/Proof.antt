@@ -1,5 +1,7 @@
 -- `sound::kid_ok` meets its contract, by whether there is a kid.
 -- Assumes nothing.
+use mathlib.Core.Path.{sym}
+use Rattle.table.proofs.Offsets.{kid-word-at}
 use Rattle.sound.proofs.Family.{kid-none, kid-some}
 use Rattle.sound.proofs.PlainRows.{kept-as-is}
 use borrow.Author.Needs.{needs}
@@ -7,8 +9,8 @@ use native.Mathlib.Omega.{arith}
 use Rattle.sound.proofs.tree.kid_ok.Statement.{statement}
 use Rattle.sound.proofs.tree.kid_ok.Tie as tie
 
-kid-word-requires : tie.Need-kid-word-requires
-kid-word-requires c κs = search needs
+add-link : tie.Need-add-link
+add-link c = search needs
 
 link-requires : tie.Need-link-requires
 link-requires c κs = search needs
@@ -16,9 +18,11 @@ link-requires c κs = search needs
 returns : tie.Need-returns
 returns c =
     let p1 = c .before in
-    let p2 = p1 .before in
-    let s = p2 .before .before in
-    kid-none _ _ _ _ _ _ _ (p2 .kid-word .ensures .1) (p1 .link .ensures .1) (kept-as-is (s .pre .0 .plain) (s .pre .1) _ (omega (arith, p2 .kid-word .ensures .0))) (c .if1 .taken)
+    let s = p1 .before .before in
+    kid-none _ _ _ _ _ _ _ (sym (kid-word-at _ (s .pre .2))) (p1 .link .ensures .1) (kept-as-is (s .pre .0 .plain) (s .pre .1) _ (omega arith)) (c .if1 .taken)
+
+kid-digits-requires : tie.Need-kid-digits-requires
+kid-digits-requires c κs = search needs
 
 says-requires : tie.Need-says-requires
 says-requires c κs = search needs
@@ -38,21 +42,24 @@ index-requires-2 c κs = search needs
 returns-2 : tie.Need-returns-2
 returns-2 c =
     let p1 = c .before in
-    let p2 = p1 .before in
+    let p2 = p1 .before .before in
     let p3 = p2 .before in
     let p4 = p3 .before in
     let p5 = p4 .before in
     let p6 = p5 .before in
-    let s = p6 .before .before in
-    kid-some _ _ _ _ _ _ _ (p6 .kid-word .ensures .1) (p5 .link .ensures .1) (kept-as-is (s .pre .0 .plain) (s .pre .1) _ (omega (arith, p6 .kid-word .ensures .0))) (p4 .if1 .left) (p3 .says .ensures) (p2 .says2 .ensures) (p1 .index .ensures) (c .index2 .ensures)
+    let p7 = p6 .before in
+    let s = p7 .before .before in
+    let kid = p5 .kid-digits .ensures .2 in
+    kid-some _ _ _ _ _ _ _ (sym (kid-word-at _ (s .pre .2))) (p7 .link .ensures .1) (kept-as-is (s .pre .0 .plain) (s .pre .1) _ (omega arith)) (p6 .if1 .left) (p4 .says .ensures) (p3 .says2 .ensures) (p2 .index .ensures) (p1 .index2 .ensures) (kid .col) (kid .row)
 
 pub kid-ok-spec : {M : Type 1} → statement M
 kid-ok-spec =
     tie.close
     (tie.spec
-    kid-word-requires
+    add-link
     link-requires
     returns
+    kid-digits-requires
     says-requires
     cast-says
     says-requires-2
