@@ -23,10 +23,10 @@ use Rattle.build.proofs.Turns.{not-so, just-so}
 module _ (g : Grid) (cap d : ℕ) where
   -- ---- one kid
 
-  module _ (up p l m k : ℕ) {i j : ℕ} (t : List ℤ) {there : Bool} (a : Able g cap d up p l m (growth t k)) (i-is : i ≡ wordOf t p 10) (j-is : j ≡ wordOf t p 11)
-      (there-is : there ≡ inFull g up (2 * i + l) (2 * j + m)) where
+  module _ (up p l m k : ℕ) {i j x y : ℕ} (t : List ℤ) {there : Bool} (a : Able g cap d up p l m (growth t k)) (l-is : l ≡ x) (m-is : m ≡ y) (i-is : i ≡ wordOf t p 10) (j-is : j ≡ wordOf t p 11)
+      (there-is : there ≡ inFull g up (2 * i + x) (2 * j + y)) where
     test-is : there ≡ inFull g up (2 * wordOf t p 10 + l) (2 * wordOf t p 11 + m)
-    test-is = rw (i-is, j-is) at there-is
+    test-is = rw (i-is, j-is, ← l-is, ← m-is) at there-is
 
     pub kid-room : not there ≡ false → k ≤ cap
     kid-room h = a .room (is-yes _ (sym test-is ∙ just-so there h))
@@ -35,9 +35,9 @@ module _ (g : Grid) (cap d : ℕ) where
     unfolding grow
     kid-not h = rw (← test-is, not-so there h)
 
-    pub kid-new : {u : List ℤ} → not there ≡ false → u ≡ linkIn t cap d p l m k → growth u (k + 1) ≡ grow g cap d up p l m (growth t k)
+    pub kid-new : {u : List ℤ} → not there ≡ false → u ≡ linkIn t cap d p x y k → growth u (k + 1) ≡ grow g cap d up p l m (growth t k)
     unfolding grow
-    kid-new h e = rw (← test-is, just-so there h, e)
+    kid-new h e = rw (← test-is, just-so there h, e, ← l-is, ← m-is)
 
   pub kid-small : {up p l m k : ℕ} {t : List ℤ} → Able g cap d up p l m (growth t k) → Small 1073741824 t d p
   kid-small a = record { col = omega (arith, a .col); row = omega (arith, a .row); level = level-from _ _ _ (omega (arith, a .depth)); depth = omega (arith, a .depth) }

@@ -3,12 +3,18 @@ ghost use mathlib.Core.Path.{_≡_};
 ghost use Prim.Native.Nat.{_+_, _-_, _*_, _<_, _≤_};
 ghost use lib.ListN.{length};
 ghost use Rattle.mesh.specs.Place.{rectangle, base};
+ghost use Rattle.mesh.specs.Winds.{kidCol, kidRow};
 ghost use Rattle.mesh.specs.Picture.{rowWords};
 ghost use Rattle.table.specs.Plain.{Plain};
 ghost use Rattle.editing.specs.Built.{inFull, grow, growKids, growLevel};
 ghost use Rattle.editing.proofs.Sprouts.{Able, KidsToGrow, LevelToGrow, LevelsToGrow};
 ghost use Rattle.build.specs.Steps.{growth, inTurn, Reached};
 use edit::steps::link_in;
+use mesh::NE;
+use mesh::NW;
+use mesh::SE;
+use mesh::SW;
+use mesh::kid_digits;
 use table::words::word;
 
 // Whether a place is a patch of the full rectangle, so many levels below level 0.
@@ -19,7 +25,7 @@ fn in_full(columns: u32, rows: u32, up: u32, i: u32, j: u32) -> bool
     (i <= columns >> up) & (j <= rows >> up)
 }
 
-// The kid of the row p with the digits l and m, where the rectangle has it; the next number.
+// The kid of the row p in the wind at place w of the table of winds, where the rectangle has it; the next number.
 fn grow_kid(
     t: &mut [i32],
     cap: usize,
@@ -28,13 +34,15 @@ fn grow_kid(
     d: u32,
     up: u32,
     p: usize,
-    l: u32,
-    m: u32,
+    w: usize,
     next: usize,
 ) -> usize
-    requires { ⌜ (cap * rowWords + rowWords ≤ length (now t)) × (cap ≤ 4095) × (d ≤ 32) × (l < 2) × (m < 2) × Plain (now t) cap × Able (rectangle columns rows) cap d up p l m (growth (now t) next) ⌝ }
-    ensures { λ r. ⌜ growth (now (t .exit)) r ≡ grow (rectangle columns rows) cap d up p l m (growth (now (t .entry)) next) ⌝ }
+    requires { ⌜ (cap * rowWords + rowWords ≤ length (now t)) × (cap ≤ 4095) × (d ≤ 32) × (w < 4) × Plain (now t) cap × Able (rectangle columns rows) cap d up p (kidCol w) (kidRow w) (growth (now t) next) ⌝ }
+    ensures { λ r. ⌜ growth (now (t .exit)) r ≡ grow (rectangle columns rows) cap d up p (kidCol w) (kidRow w) (growth (now (t .entry)) next) ⌝ }
 {
+    let e = kid_digits(w);
+    let l = e.col;
+    let m = e.row;
     let i = 2 * word(t, p, 10) + l;
     let j = 2 * word(t, p, 11) + m;
     let there = in_full(columns, rows, up, i, j);
@@ -59,10 +67,10 @@ fn grow_kids(
     requires { ⌜ (cap * rowWords + rowWords ≤ length (now t)) × (cap ≤ 4095) × (d ≤ 32) × (d ≡ base (rectangle columns rows)) × KidsToGrow (rectangle columns rows) cap up p inTurn (growth (now t) next) ⌝ }
     ensures { λ r. ⌜ growth (now (t .exit)) r ≡ growKids (rectangle columns rows) cap d up p (growth (now (t .entry)) next) ⌝ }
 {
-    let a = grow_kid(t, cap, columns, rows, d, up, p, 0, 0, next);
-    let b = grow_kid(t, cap, columns, rows, d, up, p, 0, 1, a);
-    let c = grow_kid(t, cap, columns, rows, d, up, p, 1, 0, b);
-    grow_kid(t, cap, columns, rows, d, up, p, 1, 1, c)
+    let a = grow_kid(t, cap, columns, rows, d, up, p, SW, next);
+    let b = grow_kid(t, cap, columns, rows, d, up, p, NW, a);
+    let c = grow_kid(t, cap, columns, rows, d, up, p, SE, b);
+    grow_kid(t, cap, columns, rows, d, up, p, NE, c)
 }
 
 // The kids of the rows from p up to the next number.

@@ -6,6 +6,9 @@ use borrow.Author.Needs.{needs}
 use Rattle.build.proofs.grow.grow_kid.Statement.{statement}
 use Rattle.build.proofs.grow.grow_kid.Tie as tie
 
+kid-digits-requires : tie.Need-kid-digits-requires
+kid-digits-requires c κs = search needs
+
 word-requires : tie.Need-word-requires
 word-requires c κs = search needs
 
@@ -32,22 +35,29 @@ same-length c = search needs
 
 returns : tie.Need-returns
 returns c =
-    let a = c .before .before .before .before .before .before .args in
-    kid-not _ _ _ (a .up) (a .p) (a .l) (a .m) (a .next) (a .t .now) (c .before .before .before .before .before .before .pre .6) (c .before .before .before .before .word .ensures) (c .before .before .word2 .ensures) (c .before .in-full .ensures) (c .if1 .taken)
+    let b = c .before in
+    let k = b .before .before .before .before .before in
+    let s = k .before in
+    let kid = k .kid-digits .ensures .2 in
+    let a = s .args in
+    kid-not _ _ _ (a .up) (a .p) _ _ (a .next) (a .t .now) (s .pre .5) (kid .col) (kid .row) (b .before .before .before .word .ensures) (b .before .word2 .ensures) (b .in-full .ensures) (c .if1 .taken)
 
 link-in-requires : tie.Need-link-in-requires
 link-in-requires c κs =
-    let a = c .before .before .before .before .before .before .before .args in
-    let able = c .before .before .before .before .before .before .before .pre .6 in (
+    let b = c .before .before in
+    let k = b .before .before .before .before .before in
+    let s = k .before in
+    let kid = k .kid-digits .ensures .2 in
+    let a = s .args in (
       omega arith,
       omega arith,
-      able .parent-in,
-      kid-room _ _ _ (a .up) (a .p) (a .l) (a .m) (a .next) (a .t .now) able (c .before .before .before .before .before .word .ensures) (c .before .before .before .word2 .ensures) (c .before .before .in-full .ensures) (c .before .if1 .left),
+      s .pre .5 .parent-in,
+      kid-room _ _ _ (a .up) (a .p) _ _ (a .next) (a .t .now) (s .pre .5) (kid .col) (kid .row) (b .before .before .before .word .ensures) (b .before .word2 .ensures) (b .in-full .ensures) (c .before .if1 .left),
       omega arith,
       omega arith,
       omega arith,
-      kid-small _ _ _ able,
-      c .before .before .before .before .before .before .before .pre .5,
+      kid-small _ _ _ (s .pre .5),
+      s .pre .4,
     )
 
 add-result : tie.Need-add-result
@@ -58,13 +68,18 @@ same-length-2 c = search needs
 
 returns-2 : tie.Need-returns-2
 returns-2 c =
-    let a = c .before .before .before .before .before .before .before .before .before .args in
-    kid-new _ _ _ (a .up) (a .p) (a .l) (a .m) (a .next) (a .t .now) (c .before .before .before .before .before .before .before .before .before .pre .6) (c .before .before .before .before .before .before .before .word .ensures) (c .before .before .before .before .before .word2 .ensures) (c .before .before .before .before .in-full .ensures) (c .before .before .before .if1 .left) (c .before .link-in .ensures .0)
+    let b = c .before .before .before .before in
+    let k = b .before .before .before .before .before in
+    let s = k .before in
+    let kid = k .kid-digits .ensures .2 in
+    let a = s .args in
+    kid-new _ _ _ (a .up) (a .p) _ _ (a .next) (a .t .now) (s .pre .5) (kid .col) (kid .row) (b .before .before .before .word .ensures) (b .before .word2 .ensures) (b .in-full .ensures) (c .before .before .before .if1 .left) (c .before .link-in .ensures .0)
 
 pub grow-kid-spec : {M : Type 1} → statement M
 grow-kid-spec =
     tie.close
     (tie.spec
+    kid-digits-requires
     word-requires
     mul-i
     add-i

@@ -12,7 +12,7 @@ grow-kid-requires : tie.Need-grow-kid-requires
 grow-kid-requires c κs =
     let e = c .before .pre .3 in
     let k0 = c .before .pre .4 in
-    (omega arith, omega arith, omega arith, omega arith, omega arith, kids-plain k0, able _ _ _ e _ _ SW (NW ∷ SE ∷ NE ∷ []) _ k0)
+    (omega arith, omega arith, omega arith, omega arith, kids-plain k0, able _ _ _ e _ _ SW (NW ∷ SE ∷ NE ∷ []) _ k0)
 
 grow-kid-requires-2 : tie.Need-grow-kid-requires-2
 grow-kid-requires-2 c κs =
@@ -20,7 +20,6 @@ grow-kid-requires-2 c κs =
     let k0 = c .before .before .before .before .pre .4 in
     let k1 = kids-on _ _ _ e _ _ SW (NW ∷ SE ∷ NE ∷ []) _ _ k0 (c .before .before .grow-kid .ensures) in (
       omega (arith, c .before .before .grow-kid .kept .0),
-      omega arith,
       omega arith,
       omega arith,
       omega arith,
@@ -38,7 +37,6 @@ grow-kid-requires-3 c κs =
       omega arith,
       omega arith,
       omega arith,
-      omega arith,
       kids-plain k2,
       able _ _ _ e _ _ SE (NE ∷ []) _ k2,
     )
@@ -51,7 +49,6 @@ grow-kid-requires-4 c κs =
     let k2 = kids-on _ _ _ e _ _ NW (SE ∷ NE ∷ []) _ _ k1 (c .before .before .before .before .before .grow-kid2 .ensures) in
     let k3 = kids-on _ _ _ e _ _ SE (NE ∷ []) _ _ k2 (c .before .before .grow-kid3 .ensures) in (
       omega (arith, c .before .before .before .before .before .before .before .before .grow-kid .kept .0, c .before .before .before .before .before .grow-kid2 .kept .0, c .before .before .grow-kid3 .kept .0),
-      omega arith,
       omega arith,
       omega arith,
       omega arith,
