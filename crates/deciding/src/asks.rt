@@ -8,6 +8,10 @@ ghost use Rattle.mesh.specs.Picture.{rowWords};
 ghost use Rattle.table.specs.Words.{linkOf, flagOf};
 ghost use Rattle.table.specs.Plain.{Plain};
 ghost use Rattle.deciding.specs.Decide.{parental, kidsDoomed, lacking, otherUnder};
+use table::words::NE_KID;
+use table::words::NW_KID;
+use table::words::SE_KID;
+use table::words::SW_KID;
 use table::words::flag;
 use table::words::link;
 
@@ -16,7 +20,7 @@ pub fn has_kids(t: &[i32], cap: usize, n: usize) -> bool
     requires { ⌜ (cap * rowWords + rowWords ≤ length (now t)) × (n ≤ cap) × (cap ≤ 4095) ⌝ }
     ensures { λ r. ⌜ r ≡ parental (now (t .entry)) cap n ⌝ }
 {
-    link(t, cap, n, 1) != 0
+    link(t, cap, n, NE_KID) != 0
 }
 
 // Whether the patch that the word w of the row n names is sentenced.
@@ -32,10 +36,10 @@ pub fn kids_doomed(t: &[i32], cap: usize, n: usize) -> bool
     requires { ⌜ (cap * rowWords + rowWords ≤ length (now t)) × (n ≤ cap) × (cap ≤ 4095) ⌝ }
     ensures { λ r. ⌜ r ≡ kidsDoomed (now (t .entry)) cap n ⌝ }
 {
-    let a = doomed(t, cap, n, 1);
-    let b = doomed(t, cap, n, 2);
-    let c = doomed(t, cap, n, 3);
-    let e = doomed(t, cap, n, 4);
+    let a = doomed(t, cap, n, NE_KID);
+    let b = doomed(t, cap, n, SE_KID);
+    let c = doomed(t, cap, n, SW_KID);
+    let e = doomed(t, cap, n, NW_KID);
     a & (b & (c & e))
 }
 
@@ -44,7 +48,11 @@ fn lacks(t: &[i32], cap: usize, n: usize, w: usize) -> usize
     requires { ⌜ (cap * rowWords + rowWords ≤ length (now t)) × (n ≤ cap) × (w < 9) × (cap ≤ 4095) × Plain (now t) cap ⌝ }
     ensures { λ r. ⌜ (r ≤ 1) × (r ≡ cond (eqb (linkOf (now (t .entry)) cap n w) 0) 1 0) ⌝ }
 {
-    if table::plain::link(t, cap, n, w) == 0 { 1 } else { 0 }
+    if table::plain::link(t, cap, n, w) == 0 {
+        1
+    } else {
+        0
+    }
 }
 
 // How many of the nine patches that a refinement of the cell n wants are missing.
@@ -55,10 +63,13 @@ pub fn lack_count(t: &[i32], cap: usize, n: usize) -> usize
     let north = table::plain::link(t, cap, n, 5);
     let east = table::plain::link(t, cap, n, 6);
     let far = table::plain::link(t, cap, east, 5);
-    let own = lacks(t, cap, n, 3) + lacks(t, cap, n, 2) + lacks(t, cap, n, 4) + lacks(t, cap, n, 1);
-    let above = lacks(t, cap, north, 3) + lacks(t, cap, north, 2);
-    let beside = lacks(t, cap, east, 4) + lacks(t, cap, east, 3);
-    own + above + beside + lacks(t, cap, far, 3)
+    let own = lacks(t, cap, n, SW_KID)
+        + lacks(t, cap, n, SE_KID)
+        + lacks(t, cap, n, NW_KID)
+        + lacks(t, cap, n, NE_KID);
+    let above = lacks(t, cap, north, SW_KID) + lacks(t, cap, north, SE_KID);
+    let beside = lacks(t, cap, east, NW_KID) + lacks(t, cap, east, SW_KID);
+    own + above + beside + lacks(t, cap, far, SW_KID)
 }
 
 // Whether a cell other than n lies l levels under the row m: the walk ends at the first one.
@@ -72,14 +83,14 @@ pub fn other_under(t: &[i32], cap: usize, n: usize, l: u32, m: usize) -> bool
     if l == 0 {
         return flag(t, 0, m) & (m != n);
     }
-    if other_under(t, cap, n, l - 1, link(t, cap, m, 3)) {
+    if other_under(t, cap, n, l - 1, link(t, cap, m, SW_KID)) {
         return true;
     }
-    if other_under(t, cap, n, l - 1, link(t, cap, m, 2)) {
+    if other_under(t, cap, n, l - 1, link(t, cap, m, SE_KID)) {
         return true;
     }
-    if other_under(t, cap, n, l - 1, link(t, cap, m, 4)) {
+    if other_under(t, cap, n, l - 1, link(t, cap, m, NW_KID)) {
         return true;
     }
-    other_under(t, cap, n, l - 1, link(t, cap, m, 1))
+    other_under(t, cap, n, l - 1, link(t, cap, m, NE_KID))
 }

@@ -5,6 +5,10 @@ ghost use lib.ListN.{length};
 ghost use Rattle.mesh.specs.Picture.{rowWords};
 ghost use Rattle.page.specs.Puts.{Put};
 ghost use Rattle.page.specs.Rows.{bareRow, ownLeaf, leavesFrom};
+use table::words::NE_KID;
+use table::words::NW_KID;
+use table::words::SE_KID;
+use table::words::SW_KID;
 use table::words::link;
 use table::words::says;
 
@@ -13,7 +17,8 @@ fn is_bare(t: &[i32], n: usize) -> bool
     requires { ⌜ n * rowWords + rowWords ≤ length (now t) ⌝ }
     ensures { λ r. ⌜ r ≡ bareRow (now (t .entry)) n ⌝ }
 {
-    says(t, n, 1, 0) & (says(t, n, 2, 0) & (says(t, n, 3, 0) & says(t, n, 4, 0)))
+    says(t, n, NE_KID, 0)
+        & (says(t, n, SE_KID, 0) & (says(t, n, SW_KID, 0) & says(t, n, NW_KID, 0)))
 }
 
 // Puts the row n, if it is a leaf.
@@ -44,10 +49,10 @@ pub fn find_leaves(t: &[i32], cap: usize, l: usize, n: usize, found: &mut [u16],
         return a;
     }
     let k = l - 1;
-    let sw = link(t, cap, n, 3);
-    let nw = link(t, cap, n, 4);
-    let se = link(t, cap, n, 2);
-    let ne = link(t, cap, n, 1);
+    let sw = link(t, cap, n, SW_KID);
+    let nw = link(t, cap, n, NW_KID);
+    let se = link(t, cap, n, SE_KID);
+    let ne = link(t, cap, n, NE_KID);
     let b = find_leaves(t, cap, k, sw, found, a);
     let c = find_leaves(t, cap, k, nw, found, b);
     let e = find_leaves(t, cap, k, se, found, c);

@@ -11,6 +11,7 @@ ghost use Rattle.table.specs.Words.{linkOf};
 ghost use Rattle.table.specs.Worked.{kidWord};
 ghost use Rattle.walk.specs.Rows.{leafRow, rowFind, rowLookup};
 ghost use Rattle.walk.specs.Plain.{Plain};
+use table::words::NE_KID;
 use table::words::flag;
 use table::words::link;
 use table::worked::kid_word;
@@ -20,7 +21,7 @@ pub fn leaf_row(t: &[i32], cap: usize, d: u32, n: usize) -> bool
     requires { ⌜ (cap * rowWords + rowWords ≤ length (now t)) × (cap ≤ 4095) × (n ≤ cap) ⌝ }
     ensures { λ r. ⌜ r ≡ leafRow (now (t .entry)) cap d n ⌝ }
 {
-    flag(t, 0, n) & (link(t, cap, n, 1) == 0)
+    flag(t, 0, n) & (link(t, cap, n, NE_KID) == 0)
 }
 
 // The kid of the row n by the digits of u and v at the place l.

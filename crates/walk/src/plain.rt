@@ -6,6 +6,7 @@ ghost use Rattle.table.specs.Words.{linkOf, flagOf, depthOf};
 ghost use Rattle.walk.specs.Rows.{leafRow};
 ghost use Rattle.walk.specs.Plain.{Plain};
 use table::plain::word;
+use table::words::NE_KID;
 use table::words::raw;
 
 // The row that the kid word w of the row n names, or 0.
@@ -32,7 +33,7 @@ pub fn leaf(t: &[i32], cap: usize, d: u32, n: usize) -> bool
     if !flag(t, cap, d, 0, n) {
         return false;
     }
-    link(t, cap, d, n, 1) == 0
+    link(t, cap, d, n, NE_KID) == 0
 }
 
 // Whether the level of the row n is 0 or above.

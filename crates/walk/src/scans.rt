@@ -15,6 +15,10 @@ use crate::plain::flag;
 use crate::plain::grounded;
 use crate::plain::leaf;
 use crate::plain::link;
+use table::words::NE_KID;
+use table::words::NW_KID;
+use table::words::SE_KID;
+use table::words::SW_KID;
 use table::words::raw;
 use table::words::says;
 
@@ -80,7 +84,8 @@ fn is_end(t: &[i32], cap: usize, left: u32, n: usize) -> bool
     if left == 0 {
         return true;
     }
-    says(t, n, 1, 0) & (says(t, n, 2, 0) & (says(t, n, 3, 0) & says(t, n, 4, 0)))
+    says(t, n, NE_KID, 0)
+        & (says(t, n, SE_KID, 0) & (says(t, n, SW_KID, 0) & says(t, n, NW_KID, 0)))
 }
 
 // Writes x at the place at, if it is asked for and fits.
