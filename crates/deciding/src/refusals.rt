@@ -46,7 +46,11 @@ pub fn refine_refusal(t: &[i32], cap: usize, d: u32, n: usize, spare: usize) -> 
     if flag(t, 12, n) {
         return 10;
     }
-    if lack_count(t, cap, n) <= spare { 0 } else { 11 }
+    if lack_count(t, cap, n) <= spare {
+        0
+    } else {
+        11
+    }
 }
 
 pub fn sentence_refusal(t: &[i32], cap: usize, d: u32, n: usize) -> u32

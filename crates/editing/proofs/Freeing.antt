@@ -236,7 +236,7 @@ same-kids t u cap n h =
       h (linkOf t cap n 5) 3 (omega arith),
       h (linkOf t cap n 6) 3 (omega arith),
       h (linkOf t cap n 6) 4 (omega arith),
-      h (linkOf t cap (linkOf t cap n 6) 5) 3 (omega arith)
+      h (linkOf t cap (linkOf t cap n 6) 5) 3 (omega arith),
     )
 
 -- ---- the whole removal

@@ -221,7 +221,15 @@ pub fn tape_core(
         };
     }
     let d = mesh::ground_depth(header.columns, header.rows);
-    let r = tape::turns::run_tape(table, values, capacity as usize, d, c.first, header.mark, tape);
+    let r = tape::turns::run_tape(
+        table,
+        values,
+        capacity as usize,
+        d,
+        c.first,
+        header.mark,
+        tape,
+    );
     TapeOut {
         header: Header {
             columns: header.columns,

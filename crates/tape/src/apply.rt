@@ -20,7 +20,14 @@ use stock::keep::keep_nine;
 use stock::keep::lower;
 use stock::restock::restock;
 
-pub fn refine(t: &mut [i32], v: &mut [f64], stock: &mut [u16; 16], cap: usize, d: u32, n: usize) -> u32
+pub fn refine(
+    t: &mut [i32],
+    v: &mut [f64],
+    stock: &mut [u16; 16],
+    cap: usize,
+    d: u32,
+    n: usize,
+) -> u32
     requires { ⌜ Sized (now t) (now v) cap d × Tame (now t) cap d × Stocked cap (now t) [] (now stock) ⌝ }
     ensures { λ r. ⌜ Applied (refine n) cap d (now (t .entry)) (now (v .entry)) (now (t .exit)) (now (v .exit)) r × Stocked cap (now (t .exit)) [] (now (stock .exit)) ⌝ }
 {
@@ -45,7 +52,14 @@ pub fn sentence(t: &mut [i32], v: &[f64], cap: usize, d: u32, n: usize) -> u32
     0
 }
 
-pub fn remove(t: &mut [i32], v: &mut [f64], stock: &mut [u16; 16], cap: usize, d: u32, n: usize) -> u32
+pub fn remove(
+    t: &mut [i32],
+    v: &mut [f64],
+    stock: &mut [u16; 16],
+    cap: usize,
+    d: u32,
+    n: usize,
+) -> u32
     requires { ⌜ Sized (now t) (now v) cap d × Tame (now t) cap d × Stocked cap (now t) [] (now stock) ⌝ }
     ensures { λ r. ⌜ Applied (remove n) cap d (now (t .entry)) (now (v .entry)) (now (t .exit)) (now (v .exit)) r × Stocked cap (now (t .exit)) [] (now (stock .exit)) ⌝ }
 {
@@ -59,7 +73,14 @@ pub fn remove(t: &mut [i32], v: &mut [f64], stock: &mut [u16; 16], cap: usize, d
     0
 }
 
-pub fn kill(t: &mut [i32], v: &mut [f64], stock: &mut [u16; 16], cap: usize, d: u32, n: usize) -> u32
+pub fn kill(
+    t: &mut [i32],
+    v: &mut [f64],
+    stock: &mut [u16; 16],
+    cap: usize,
+    d: u32,
+    n: usize,
+) -> u32
     requires { ⌜ Sized (now t) (now v) cap d × Tame (now t) cap d × Stocked cap (now t) [] (now stock) ⌝ }
     ensures { λ r. ⌜ Applied (kill n) cap d (now (t .entry)) (now (v .entry)) (now (t .exit)) (now (v .exit)) r × Stocked cap (now (t .exit)) [] (now (stock .exit)) ⌝ }
 {

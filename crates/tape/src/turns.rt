@@ -32,16 +32,10 @@ fn turn_at(
     let k = tape[at];
     let len = body_length(k);
     if len == 0 {
-        return Turn {
-            why: 5,
-            next: at,
-        };
+        return Turn { why: 5, next: at };
     }
     if tape.len() - at <= len {
-        return Turn {
-            why: 4,
-            next: at,
-        };
+        return Turn { why: 4, next: at };
     }
     let n = high_first(tape, at + 1, 2) as usize;
     let w = high_first(tape, at + 3, len - 2);
