@@ -27,7 +27,7 @@ With --lends CRATE′ it is the other way round: the struct comes by value and i
         ensures { λ r. ⌜ REL header p1 .. pn (r .header) m1 .. mk (r .answer) ⌝ }
     { let answer = CORE(&mut header, P1.., Pn); COREANS { header, answer } }
 
-usage: genwalk.py [--shared] CRATE ENTRY CORE STRUCT ANSWER COREANS SPECMOD REL [--asks ASKS] -- P1 P2 ..    > crates/CRATE/proofs/ENTRY/Proof.antt
+usage: genwalk.py [--shared | --lends CRATE′] CRATE ENTRY CORE STRUCT ANSWER COREANS SPECMOD REL [--asks ASKS] -- P1 P2 ..    > crates/CRATE/proofs/ENTRY/Proof.antt
 SPECMOD is the module of specs/ that has REL (and ASKS).
 """
 import sys
