@@ -18,7 +18,7 @@ use Rattle.mesh.specs.State.{plusZero}
 use Rattle.mesh.specs.Valid.{finite}
 use Rattle.table.specs.Words.{wordOf, linkOf, flagOf, depthOf}
 use Rattle.table.specs.Worked.{kidWord, flagsFrom}
-use Rattle.checking.specs.Rowwise.{isPlusZero, kidless, hasKid, ghostOk, touchedOk, kidCellTests, kidCellsAre, cellTests, cellOk, sentenceTests, sentenceOk, pointTests, pointOk, blankOk, carriedTests, heldTests, heldOk, valueOk}
+use Rattle.checking.specs.Rowwise.{isPlusZero, kidlessTests, hasKid, ghostOk, touchedOk, kidCellTests, kidCellsAre, cellTests, cellOk, sentenceTests, sentenceOk, pointTests, pointOk, blankOk, carriedTests, heldTests, heldOk, valueOk}
 use Rattle.geometry.proofs.Bools.{is-yes, and-left, and-right, or-cases, implied, beq-is}
 use Rattle.geometry.proofs.Lists.{every-at, at-every}
 use Rattle.pictures.proofs.Equal.{float-is}
@@ -97,7 +97,7 @@ module _ (g : Grid) (cap : ℕ) (t : List ℤ) (v : List Float) where
       a = eqb (wordOf t n 12) 0
 
       bs : List Bool
-      bs = kidless g cap t v n
+      bs = kidlessTests g cap t v n
 
       is : (w : ℕ) → k w ≡ 0 → T (eqb (k w) 0)
       is w e = is-yes (eqb (k w) 0) (eq-eqb (k w) 0 e)

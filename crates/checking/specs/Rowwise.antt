@@ -103,11 +103,11 @@ module _ (g : Grid) (cap : ℕ) (t : List ℤ) (v : List Float) where
   -- ---- ghosts, points and cells
 
   -- "A ghost has flags 0"; one without a kid does not exist
-  abbrev pub kidless : ℕ → List Bool
-  kidless n = eqb (link n 1) 0 ∷ eqb (link n 2) 0 ∷ eqb (link n 3) 0 ∷ eqb (link n 4) 0 ∷ []
+  abbrev pub kidlessTests : ℕ → List Bool
+  kidlessTests n = eqb (link n 1) 0 ∷ eqb (link n 2) 0 ∷ eqb (link n 3) 0 ∷ eqb (link n 4) 0 ∷ []
 
   abbrev pub hasKid : ℕ → Bool
-  hasKid n = not (every (kidless n))
+  hasKid n = not (every (kidlessTests n))
 
   unfoldable pub ghostOk : ℕ → Bool
   ghostOk n = eqb (word n 12) 0 && hasKid n

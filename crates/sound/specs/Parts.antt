@@ -10,7 +10,7 @@ use Rattle.mesh.specs.Tools.{every}
 use Rattle.mesh.specs.Place.{rectangle, N, E, S, W}
 use Rattle.table.specs.Words.{wordOf, linkOf, flagOf, depthOf}
 use Rattle.table.specs.Sides.{sideBy}
-use Rattle.checking.specs.Rowwise.{below, kidless, kidCellsAre, carriedTests}
+use Rattle.checking.specs.Rowwise.{below, kidlessTests, kidCellsAre, carriedTests}
 
 module _ (t : List ℤ) (cap : ℕ) where
   -- each of the four kids is a cell, or none is
@@ -19,7 +19,7 @@ module _ (t : List ℤ) (cap : ℕ) where
 
   -- no kid word names a row
   abbrev pub noKids : ℕ → Bool
-  noKids n = every (kidless (rectangle 0 0) cap t [] n)
+  noKids n = every (kidlessTests (rectangle 0 0) cap t [] n)
 
   -- a cell of level 0 lies in the rectangle, and any other in a cell of the level below
   abbrev pub insideOf : ℕ → ℕ → ℕ → ℕ → Bool
