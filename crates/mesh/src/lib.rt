@@ -1,6 +1,6 @@
 // The two tables of 01 that are code: the eight winds, and the depth of level 0 by leading zeros.
 ghost use mathlib.Core.Path.{_≡_};
-ghost use Prim.Native.Nat.{_<_, _≤_};
+ghost use Prim.Native.Nat.{_<_};
 ghost use Rattle.mesh.specs.Place.{base, rectangle};
 ghost use Rattle.mesh.specs.Winds.{compassAt, digitsOf, KidWind};
 
