@@ -12,8 +12,8 @@ use Rattle.table.specs.Words.{wordOf}
 use Rattle.editing.specs.Steps.{linkIn}
 use Rattle.table.specs.Plain.{Plain}
 use Rattle.table.proofs.Links.{level-from}
-use Rattle.edit.specs.Small.{Small}
-use Rattle.edit.proofs.PlainRows.{linked-plain}
+use Rattle.steps.specs.Small.{Small}
+use Rattle.steps.proofs.PlainRows.{linked-plain}
 use Rattle.editing.proofs.Growing.{dark}
 use Rattle.editing.specs.Built.{Growth, inFull, grow, growKids, growLevel, growLevels, groundFrom}
 use Rattle.editing.proofs.Sprouts.{Able, KidsToGrow, LevelToGrow, LevelsToGrow, kid-able, kids-rest, level-kids, level-rest, levels-level, levels-rest, levels-bounds}

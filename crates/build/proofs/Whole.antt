@@ -18,7 +18,7 @@ use Rattle.editing.proofs.Building.{build-table, build-next, ground-linked}
 use Rattle.editing.proofs.Sprouts.{LevelsToGrow, levels-start}
 use Rattle.editing.proofs.Blank.{built-amounts}
 use Rattle.table.specs.Plain.{Plain}
-use Rattle.edit.proofs.PlainRows.{linked-plain}
+use Rattle.steps.proofs.PlainRows.{linked-plain}
 use Rattle.build.specs.Steps.{growth, Reached, Made}
 
 module _ (g : Grid) (cap d : ℕ) (ground : d ≡ base g) (in-range : Rectangle g) (low : 5 ≤ cap) (high : cap ≤ 4095) (fits : length (numbered g) ≤ cap) where

@@ -7,8 +7,8 @@ ghost use Rattle.mesh.specs.Picture.{rowWords};
 ghost use Rattle.editing.specs.Anew.{wallRow, markRow};
 ghost use Rattle.editing.specs.Built.{eachRow, groundRow};
 ghost use Rattle.table.specs.Plain.{Plain};
-use edit::anew::mark_row;
-use edit::anew::wall_row;
+use steps::anew::mark_row;
+use steps::anew::wall_row;
 use table::words::word;
 use table::writes::put;
 

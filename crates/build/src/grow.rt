@@ -9,12 +9,12 @@ ghost use Rattle.table.specs.Plain.{Plain};
 ghost use Rattle.editing.specs.Built.{inFull, grow, growKids, growLevel};
 ghost use Rattle.editing.proofs.Sprouts.{Able, KidsToGrow, LevelToGrow, LevelsToGrow};
 ghost use Rattle.build.specs.Steps.{growth, inTurn, Reached};
-use edit::steps::link_in;
 use mesh::NE;
 use mesh::NW;
 use mesh::SE;
 use mesh::SW;
 use mesh::kid_digits;
+use steps::links::link_in;
 use table::words::word;
 
 // Whether a place is a patch of the full rectangle, so many levels below level 0.

@@ -21,7 +21,7 @@ use Rattle.table.specs.Words.{wordOf, depthOf}
 use Rattle.table.proofs.Links.{level-from}
 use Rattle.pictures.proofs.Rows.{table-length}
 use Rattle.pictures.proofs.Pictured.{word-col, word-row, depth-within, free-words, nil-words}
-use Rattle.edit.specs.Small.{Small, AllSmall}
+use Rattle.steps.specs.Small.{Small, AllSmall}
 
 pub picture-long : {s : State} → Valid s → capacity s * rowWords + rowWords ≤ length (table s)
 picture-long {s} v = omega (arith, table-length s, v .sizes)

@@ -19,7 +19,7 @@ use Rattle.editing.specs.Steps.{putWord, linkSide, placeIn, linkIn}
 use Rattle.stock.specs.Free.{freeFrom}
 use Rattle.editing.specs.Tables.{Lending, spot, kidAt, kidSpots, supplied, suppliedAll}
 use Rattle.editing.proofs.Written.{word-other, word-either, Keeps, keeps-put, keeps-unless, keeps-then, wind-word}
-use Rattle.edit.specs.Small.{Small, AllSmall}
+use Rattle.steps.specs.Small.{Small, AllSmall}
 use Rattle.edit.specs.Lent.{lending}
 
 -- ---- links

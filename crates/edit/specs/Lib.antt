@@ -1,5 +1,2 @@
--- The bounds that the functions ask for, and short names for what they answer.
-pub mod Small
+-- Short names for what the functions answer.
 pub mod Lent
-pub mod Edges
-pub mod Links

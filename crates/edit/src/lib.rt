@@ -1,9 +1,6 @@
-// What an accepted refinement, removal or kill does to a lent table and its values.
-pub mod anew;
-pub mod kill;
+// What an accepted refinement or removal does to a lent table and its values.
 pub mod near;
 pub mod refine;
 pub mod remove;
 pub mod spots;
-pub mod steps;
 pub mod supply;

@@ -6,7 +6,7 @@ ghost use lib.ListN.{length};
 ghost use Rattle.mesh.specs.Picture.{rowWords};
 ghost use Rattle.stock.specs.Stock.{Stocked};
 ghost use Rattle.editing.specs.Tables.{kidStatus, refineTable, refineValues};
-ghost use Rattle.edit.specs.Small.{AllSmall};
+ghost use Rattle.steps.specs.Small.{AllSmall};
 ghost use Rattle.edit.specs.Lent.{lending};
 ghost use Rattle.table.specs.Plain.{Plain};
 use crate::spots::put_cells;

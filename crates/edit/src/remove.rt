@@ -3,31 +3,20 @@ ghost use mathlib.Core.Path.{_≡_};
 ghost use Prim.Native.Nat.{_+_, _*_, _<_, _≤_};
 ghost use lib.ListN.{length};
 ghost use Rattle.mesh.specs.Picture.{rowWords};
-ghost use Rattle.editing.specs.Tables.{kidSpots, touchedRow, dropUntouched, dropAt, removeTable, removeValues};
+ghost use Rattle.editing.specs.Tables.{kidSpots, dropUntouched, dropAt, removeTable, removeValues};
 ghost use Rattle.edit.specs.Lent.{cornerSpots};
 ghost use Rattle.table.specs.Plain.{Plain};
 use crate::spots::kid;
 use crate::spots::put_cells;
 use crate::spots::put_values;
 use crate::spots::refresh_near;
-use crate::steps::take_out;
 use mesh::NE;
 use mesh::NW;
 use mesh::SE;
 use mesh::SW;
-use table::plain::flag;
+use steps::links::take_out;
+use steps::links::touched_row;
 use table::plain::link;
-
-// Whether a cell touches the patch of the row n.
-pub fn touched_row(t: &[i32], cap: usize, d: u32, n: usize) -> bool
-    requires { ⌜ (cap * rowWords + rowWords ≤ length (now t)) × (cap ≤ 4095) × (n ≤ cap) × Plain (now t) cap ⌝ }
-    ensures { λ r. ⌜ r ≡ touchedRow (now (t .entry)) cap d n ⌝ }
-{
-    let west = link(t, cap, n, 8);
-    let south = link(t, cap, n, 7);
-    let both = link(t, cap, west, 7);
-    flag(t, cap, 0, n) | (flag(t, cap, 0, west) | (flag(t, cap, 0, south) | flag(t, cap, 0, both)))
-}
 
 // A patch from level 0 up that no cell touches goes.
 fn drop_untouched(t: &mut [i32], cap: usize, d: u32, n: usize)

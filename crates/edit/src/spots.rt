@@ -8,13 +8,13 @@ ghost use Rattle.editing.specs.Anew.{wallRow, markRow};
 ghost use Rattle.editing.specs.Tables.{kidAt, kidSpots, eachAt, refreshNear, putCells, putValues};
 ghost use Rattle.edit.specs.Lent.{kidSpot, cornerSpots, sideSpots};
 ghost use Rattle.table.specs.Plain.{Plain};
-use crate::anew::mark_row;
-use crate::anew::wall_row;
-use crate::steps::put_unless_nil;
 use mesh::NE;
 use mesh::NW;
 use mesh::SE;
 use mesh::SW;
+use steps::anew::mark_row;
+use steps::anew::wall_row;
+use steps::links::put_unless_nil;
 use table::plain;
 use table::writes::put_value;
 

@@ -8,15 +8,15 @@ ghost use Rattle.table.specs.Plain.{Plain};
 ghost use Rattle.stock.specs.Free.{freeFrom};
 ghost use Rattle.stock.specs.Stock.{Stocked};
 ghost use Rattle.editing.specs.Tables.{kidSpots, supplied, suppliedAll};
-ghost use Rattle.edit.specs.Small.{AllSmall};
+ghost use Rattle.steps.specs.Small.{AllSmall};
 ghost use Rattle.edit.specs.Lent.{lending, kidSpot, cornerSpots};
 use crate::spots::kid;
-use crate::steps::link_in;
 use mesh::NE;
 use mesh::NW;
 use mesh::SE;
 use mesh::SW;
 use mesh::kid_digits;
+use steps::links::link_in;
 use stock::find::next_free;
 
 // Links in the kid of the row p in the wind at place w of the table of winds under the number k, the next free one from low on, unless it is there;

@@ -15,7 +15,7 @@ use Rattle.geometry.proofs.Base.{base-range}
 use Rattle.pictures.proofs.Rows.{table-length, amounts-length}
 use Rattle.deciding.proofs.Marked.{flags-small}
 use Rattle.edit.proofs.Meeting.{picture-small}
-use Rattle.edit.proofs.PlainRows.{picture-links}
+use Rattle.steps.proofs.PlainRows.{picture-links}
 use Rattle.tape.specs.Drawn.{Drawn, Sized, Tame}
 use Rattle.tape.proofs.Drawing.{drawn-depth, from-picture}
 

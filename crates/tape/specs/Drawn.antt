@@ -11,7 +11,7 @@ use Rattle.mesh.specs.State.{State, capacity}
 use Rattle.mesh.specs.Valid.{Valid}
 use Rattle.mesh.specs.Picture.{rowWords, table, amounts}
 use Rattle.table.specs.Words.{wordOf}
-use Rattle.edit.specs.Small.{AllSmall}
+use Rattle.steps.specs.Small.{AllSmall}
 use Rattle.table.specs.Plain.{Plain}
 
 -- the header, the words and the values are those of the state

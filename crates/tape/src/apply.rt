@@ -88,7 +88,7 @@ pub fn kill(
     if why != 0 {
         return why;
     }
-    let least = edit::kill::kill(t, v, cap, d, n, cap + 1);
+    let least = kill::kill(t, v, cap, d, n, cap + 1);
     lower(stock, least as u16);
     0
 }

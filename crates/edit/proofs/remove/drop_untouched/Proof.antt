@@ -1,7 +1,7 @@
 -- `edit::remove::drop_untouched` meets its contract.
 -- Assumes nothing.
 use borrow.Author.Needs.{needs}
-use Rattle.edit.proofs.Dropping.{untouched-nil, untouched-kept, untouched-gone}
+use Rattle.steps.proofs.Dropping.{untouched-nil, untouched-kept, untouched-gone}
 use Rattle.edit.proofs.remove.drop_untouched.Statement.{statement}
 use Rattle.edit.proofs.remove.drop_untouched.Tie as tie
 

@@ -2,7 +2,7 @@
 -- Assumes nothing.
 use borrow.Author.Needs.{needs}
 use Rattle.edit.proofs.Nearby.{cell-put}
-use Rattle.edit.proofs.PlainRows.{plain-cell}
+use Rattle.steps.proofs.PlainRows.{plain-cell}
 use Rattle.edit.proofs.spots.put_cell.Statement.{statement}
 use Rattle.edit.proofs.spots.put_cell.Tie as tie
 

@@ -1,4 +1,4 @@
--- `tape::apply::kill` meets its contract: the refusal is the rules', and what `edit::kill::kill` writes is the picture of the state without the cell.
+-- `tape::apply::kill` meets its contract: the refusal is the rules', and what `kill::kill` writes is the picture of the state without the cell.
 -- Assumes nothing.
 use native.Mathlib.Omega.{arith}
 use borrow.Author.Needs.{needs}
