@@ -94,15 +94,15 @@ pub fn kid_digits(i: usize) -> Digits
     ensures { λ r. ⌜ (r .col < 2) × (r .row < 2) × KidWind (r .col) (r .row) i ⌝ }
 {
     if i == NE {
-        return halves(WINDS[NE]);
+        return halves(wind(NE));
     }
     if i == SE {
-        return halves(WINDS[SE]);
+        return halves(wind(SE));
     }
     if i == SW {
-        return halves(WINDS[SW]);
+        return halves(wind(SW));
     }
-    halves(WINDS[NW])
+    halves(wind(NW))
 }
 
 // The place of the kid wind whose kid's column and row end in the digits l and m.
