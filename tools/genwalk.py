@@ -194,6 +194,30 @@ Core 𝓤 H A mem run = tripleOf 𝓤 H A core.signature (core.spec 𝓤 H A mem
 """)
 lens=lambda: ' → '.join(f"length z{p['i']} ≡ length ({p['x']} .now)" for p in ML)
 
+def declare(I,answer,den,value,machine,Y):
+    """What both walks name: the lines of the answer, and the entry's arguments, the first of type den with its value and its machine value; Y is what it is met at."""
+    w(I+"abbrev R : RattleType"); w(I+"R = T.the-row\n")
+    w(I+f"abbrev mach : {struct} → Val"); w(I+"mach = LL.val T.the-type T′.the-laws\n")
+    for line in answer: w(I+line)
+    for p in S:
+        w(I+f"abbrev {p['v']} : Val"); w(I+(f"{p['v']} = vptr ({p['x']} .ptr .0) ({p['x']} .ptr .1)\n" if p['k']=='ref' else f"{p['v']} = sliceVal ({p['x']} .ptr) (length ({p['x']} .now))\n"))
+    w(I+"abbrev Arg : Type 0"); w(I+f"Arg = {ty([den]+[p['den'] for p in P])}\n")
+    w(I+"abbrev a : Arg"); w(I+"a = "+tup([value]+[p['x'] for p in P])+"\n")
+    w(I+f"abbrev vals : {ty(['List Val']*(len(P)+1))}"); w(I+"vals = "+tup([machine]+[p['val']+' ∷ []' for p in P])+"\n")
+    w(I+"abbrev Post : Val → SProp 𝓤"); w(I+f"Post = walkOf 𝓤 H A entry.ended stayed (entry.clauses 𝓤 H A at-mem run) .post {Y}\n")
+    for p in S:
+        w(I+f"abbrev Own{p['i']} : Fml"); w(I+f"Own{p['i']} = {own(p,p['life']-1)} .own {p['x']} ({p['v']} ∷ [])\n")
+
+def leave(K,c,n):
+    """The end of both walks: the answer is returned, and the n locals go."""
+    t=f"returns ! (look ! {c.at('L0')} refl) $ "
+    for l in reversed(range(n)): t+=f"forget ! {c.at('L%d'%l)} refl $ "
+    w(K+t)
+    t=''
+    for l in range(n):
+        t+=c.move(f"L{l}",f"F{l}")+"free1 ! $ "; c.pop(); c.pop()
+    w(K+t+"free0 ! $")
+
 def lent_walk():
     """The struct comes by value, is lent to the core for a lifetime of the call, and is read when that is over."""
     LENT,ANS,REF,COPY=OUT,OUT+1,OUT+2,OUT+3+sum(2 if p['k']=='mut' else 1 for p in M)
@@ -213,18 +237,8 @@ def lent_walk():
     nums=''.join(f" ({p['fit']} : {'mag '+p['x'] if signed(p['t']) else p['x']} < 2 ^ {W[p['t']][1]})" for p in N)
     w(f"module _ {{M : Type 1}} (𝓤 : URA M) (H : Heap 𝓤) (A : Atoms 𝓤) (W : Given 𝓤 H A) (at-mem : Memory → SProp 𝓤) (run : Routine → Fun 𝓤) ({' '.join(ks[1:])} : Lft) ({' '.join(qs[1:])} : Share) (h : {struct}) "
       +' '.join(f"({p['x']} : {p['den']})" for p in P)+" (was : Is T.the-row h (LL.val T.the-type T′.the-laws h ∷ []))"+nums+" where")
-    w(I+"abbrev R : RattleType"); w(I+"R = T.the-row\n")
-    w(I+f"abbrev mach : {struct} → Val"); w(I+"mach = LL.val T.the-type T′.the-laws\n")
-    w(I+f"abbrev handed : {coreans} → Val"); w(I+"handed = LL.val Co.the-type Co′.the-laws\n")
-    for p in S:
-        w(I+f"abbrev {p['v']} : Val"); w(I+(f"{p['v']} = vptr ({p['x']} .ptr .0) ({p['x']} .ptr .1)\n" if p['k']=='ref' else f"{p['v']} = sliceVal ({p['x']} .ptr) (length ({p['x']} .now))\n"))
-    w(I+"abbrev Arg : Type 0"); w(I+f"Arg = {ty([struct]+[p['den'] for p in P])}\n")
-    w(I+"abbrev a : Arg"); w(I+"a = "+tup(['h']+[p['x'] for p in P])+"\n")
-    w(I+f"abbrev vals : {ty(['List Val']*(len(P)+1))}"); w(I+"vals = "+tup(['mach h ∷ []']+[p['val']+' ∷ []' for p in P])+"\n")
     Y=f"(({κs}, {qs_}, tt, a, vals), tt)"
-    w(I+"abbrev Post : Val → SProp 𝓤"); w(I+f"Post = walkOf 𝓤 H A entry.ended stayed (entry.clauses 𝓤 H A at-mem run) .post {Y}\n")
-    for p in S:
-        w(I+f"abbrev Own{p['i']} : Fml"); w(I+f"Own{p['i']} = {own(p,p['at'])} .own {p['x']} ({p['v']} ∷ [])\n")
+    declare(I,[f"abbrev handed : {coreans} → Val","handed = LL.val Co.the-type Co′.the-laws\n"],struct,'h','mach h ∷ []',Y)
     w(I+"-- the struct at the block m, lent for the lifetime α under the name γ")
     w(I+f"abbrev lent : GName → ℕ → RefT {struct}"); w(I+"lent γ m = record { ptr = (m, 0); name = γ; now = h }\n")
     w(I+"abbrev Own0 : ℕ → GName → ℕ → Fml"); w(I+"Own0 α γ m = MutRef (named 0) (α ∷ []) R .own (lent γ m) (vptr m 0 ∷ [])\n")
@@ -322,13 +336,7 @@ def lent_walk():
     w(K+f"rewrite ! {L(LENT)} (λ (y : Val). ‵ (fat fullShare T′.mir {m} 0 y)) (ap only (LL.tells T.the-type T′.the-laws (zs .0) _ now)) refl $")
     w(K+f"assigns ! (of-opd ! ({load(LENT)})) (from ! (stop !)) (init ! {L(COPY)} refl ({law('T','(zs .0)','_','of-header (zs .0) v now')})) $")
     w(K+f"assigns ! (agg ! (and-then ! ({load(COPY)}) (and-then ! ({load(ANS)}) (no-more !)))) (from ! (stop !)) (init ! {L(0)} refl ({law('Co','(out (zs .0) r)','_','of-out (zs .0) r v u now is')})) $")
-    t=f"returns ! (look ! {L(0)} refl) $ "
-    for l in reversed(range(locals_)): t+=f"forget ! {L(l)} refl $ "
-    w(K+t)
-    t=''
-    for l in range(locals_):
-        t+=c.move(f"L{l}",f"F{l}")+"free1 ! $ "; c.pop(); c.pop()
-    w(K+t+"free0 ! $")
+    leave(K,c,locals_)
     kp=['TOKS']+[f"z{p['i']}" if p['k'] in gone else f"d{p['i']}" for p in S]
     w(K+f"keep ! ({lst(str(c.at(n)) for n in kp)}) $ by ! (exits (zs .0) r {' '.join(zlasts)} (of-out (zs .0) r v u now is) e {' '.join('l%d'%p['i'] for p in ML)})"+')'*opened+"\n")
 
@@ -339,18 +347,9 @@ def entry_walk():
     nums=' '.join(f"({p['fit']} : {'mag '+p['x'] if signed(p['t']) else p['x']} < 2 ^ {W[p['t']][1]})" for p in N)
     w(f"module _ {{M : Type 1}} (𝓤 : URA M) (H : Heap 𝓤) (A : Atoms 𝓤) (W : Given 𝓤 H A) (at-mem : Memory → SProp 𝓤) (run : Routine → Fun 𝓤) {binders}{' '+nums if nums else ''} where")
     I='  '
-    w(I+"abbrev R : RattleType"); w(I+"R = T.the-row\n")
-    w(I+f"abbrev mach : {struct} → Val"); w(I+"mach = LL.val T.the-type T′.the-laws\n")
-    if not shared: w(I+f"abbrev answered : {coreans} → Val"); w(I+"answered r = "+(f"vint {W[answer][0]} (r .answer)" if NUMANS else "LL.val An.the-type An′.the-laws (r .answer)")+"\n")
-    for p in S:
-        w(I+f"abbrev {p['v']} : Val"); w(I+(f"{p['v']} = vptr ({p['x']} .ptr .0) ({p['x']} .ptr .1)\n" if p['k']=='ref' else f"{p['v']} = sliceVal ({p['x']} .ptr) (length ({p['x']} .now))\n"))
-    w(I+"abbrev Arg : Type 0"); w(I+f"Arg = {ty([f'RefT {struct}']+[p['den'] for p in P])}\n")
-    w(I+"abbrev a : Arg"); w(I+"a = "+tup(["record { ptr = (b, o); name = γ; now = h }"]+[p['x'] for p in P])+"\n")
-    w(I+f"abbrev vals : {ty(['List Val']*(len(P)+1))}"); w(I+"vals = "+tup(["vptr b o ∷ []"]+[p['val']+" ∷ []" for p in P])+"\n")
     Y=f"(({tup(ks)}, {tup(qs)}, tt, a, vals), tt)"
-    w(I+"abbrev Post : Val → SProp 𝓤"); w(I+f"Post = walkOf 𝓤 H A entry.ended stayed (entry.clauses 𝓤 H A at-mem run) .post {Y}\n")
-    for p in S:
-        w(I+f"abbrev Own{p['i']} : Fml"); w(I+f"Own{p['i']} = {own(p,p['life']-1)} .own {p['x']} ({p['v']} ∷ [])\n")
+    told=f"vint {W[answer][0]} (r .answer)" if NUMANS else "LL.val An.the-type An′.the-laws (r .answer)"
+    declare(I,[] if shared else [f"abbrev answered : {coreans} → Val",f"answered r = {told}\n"],f"RefT {struct}","record { ptr = (b, o); name = γ; now = h }","vptr b o ∷ []",Y)
     w(I+f"abbrev Passed : Type 0"); w(I+f"Passed = {ty([struct]+[p['den'] for p in P])}\n")
     w(I+f"abbrev passed : Passed"); w(I+"passed = "+tup(['h']+[p['x'] for p in P])+"\n")
     cks=tup(ks[1:]); cqs=tup(qs[1:])
@@ -487,13 +486,7 @@ def entry_walk():
         w(K+"owned ! R (Is R) (LL.makes T.the-type T′.the-plain 𝓤 H A) (r .header) _ (of-header r u is) $ "+c.move('cell','new','obor','obs','auth')+"closes ! tt R (r .header) (mach (r .header) ∷ []) b o $")
         for _ in range(5): c.pop()
         c.push('obs','bor','tok')
-    t=f"returns ! (look ! {c.at('L0')} refl) $ "
-    for l in reversed(range(Ls)): t+=f"forget ! {c.at('L%d'%l)} refl $ "
-    w(K+t)
-    t=''
-    for l in range(Ls):
-        t+=c.move(f"L{l}",f"F{l}")+"free1 ! $ "; c.pop(); c.pop()
-    w(K+t+"free0 ! $")
+    leave(K,c,Ls)
     kp=['obs','bor','tok','TOKS']+[f"z{p['i']}" if p['k'] in gone else f"d{p['i']}" for p in S]+(['res'] if shared else [])
     w(K+f"keep ! ({lst(str(c.at(n)) for n in kp)}) $ by ! (exits r u {' '.join(zlasts)}{'' if shared else ' is'} e {' '.join('l%d'%p['i'] for p in ML)})"+')'*opened+"\n")
 

@@ -1,7 +1,7 @@
 #!/usr/bin/env python3
 """Writes the proofs of the entries that are lent the header by reference, and of the functions that lend it: a walk of each one's code, by genwalk.py.
 
-    tools/walks.py && rt fmt
+    tools/walks.py
 
 The prover does not walk a reference to a struct by itself. After a change of an entry's parameters, change its line here and run this.
 A parameter is mut:T or shr:T (a slice), ref:T (a &mut to one number) or a number's type; genwalk.py says more.
@@ -70,11 +70,14 @@ def pruned(text):
 
 
 def main():
+    if len(sys.argv) > 1:
+        sys.exit(__doc__)
     for crate, entry, arguments in ENTRIES:
         made = subprocess.run([sys.executable, HERE / "genwalk.py", *arguments], capture_output=True, text=True, check=True)
         path = CRATES / crate / "proofs" / entry / "Proof.antt"
         path.parent.mkdir(parents=True, exist_ok=True)
         path.write_text(pruned(head(made.stdout, "--shared" in arguments)), encoding="utf-8")
+    subprocess.run(["rt", "fmt"], cwd=CRATES.parent, stdout=subprocess.DEVNULL, check=True)
 
 
 if __name__ == "__main__":
