@@ -32,6 +32,7 @@ fn drop_untouched(t: &mut [i32], cap: usize, d: u32, n: usize)
     take_out(t, cap, n);
 }
 
+// Kid by kid: the compiler does not unfold one function for both calls at each of nine places.
 fn drop_kids(t: &mut [i32], cap: usize, d: u32, n: usize)
     requires { ⌜ (cap * rowWords + rowWords ≤ length (now t)) × (cap ≤ 4095) × (n ≤ cap) × Plain (now t) cap ⌝ }
     ensures { λ _. ⌜ (now (t .exit) ≡ dropAt (kidSpots (now (t .entry)) cap n) (now (t .entry)) cap d) × Plain (now (t .exit)) cap ⌝ }

@@ -1,11 +1,10 @@
--- The rule of the table of winds: the opposite of the opposite is the wind itself, and the two offsets cancel (each is one too large). A kid wind
--- is known by the digits of its kid.
+-- The rule of the table of winds: the opposite of the opposite is the wind itself, and the two offsets cancel (each is one too large). The
+-- digits of a kid are the offsets of its wind halved.
 -- Assumes nothing.
-use Prim.Native.Nat.{ℕ, zero, suc, _+_, _-_, _/_, _<_}
+use Prim.Native.Nat.{ℕ, zero, suc, _+_, _/_, _<_}
 use native.Mathlib.Omega.{arith}
-use mathlib.Core.Path.{_≡_, refl, sym, ap, _∙_}
-use mathlib.Core.Bool.{cond}
-use lib.Dec.{eqb, lit<}
+use mathlib.Core.Path.{_≡_, refl, ap, _∙_}
+use lib.Dec.{lit<}
 use lib.ListN.{getD}
 use Rattle.mesh.specs.Place.{Wind, NE, SE, SW, NW, N, E, S, W, compass}
 use Rattle.mesh.specs.Winds.{winds, position, compassAt, digitsOf, kidCol, kidRow, KidWind}
@@ -48,13 +47,3 @@ kid-halves j {i} {c} {r} e h a b =
   where
     small : (kidCol j < 2) × (kidRow j < 2)
     small = each-kid (λ i. (kidCol i < 2) × (kidRow i < 2)) (lit< tt, lit< tt) (lit< tt, lit< tt) (lit< tt, lit< tt) (lit< tt, lit< tt) j h
-
--- one wind for two digits
-pub kid-wind-one : {l m i j : ℕ} → KidWind l m i → KidWind l m j → i ≡ j
-kid-wind-one {l} {m} h k = by-digits h ∙ sym (by-digits k)
-  where
-    place : ℕ → ℕ → ℕ
-    place l m = cond (eqb l 1) (1 - m) (2 + m)
-
-    by-digits : {i : ℕ} → KidWind l m i → i ≡ place l m
-    by-digits {i} h = each-kid (λ i. i ≡ place (kidCol i) (kidRow i)) refl refl refl refl i (h .is-kid) ∙ ap (place (kidCol i)) (h .row) ∙ ap (λ x. place x m) (h .col)

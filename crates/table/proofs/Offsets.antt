@@ -46,6 +46,10 @@ kid-word-at = each-kid (λ i. kidWord (kidCol i) (kidRow i) ≡ i + 1) refl refl
 pub kid-word-wind : {l m i : ℕ} → KidWind l m i → kidWord l m ≡ i + 1
 kid-word-wind {l} {m} {i} h = ap (λ x. kidWord x m) (sym (h .col)) ∙ ap (kidWord (kidCol i)) (sym (h .row)) ∙ kid-word-at i (h .is-kid)
 
+-- so there is one kid wind for two digits
+pub kid-wind-one : {l m i j : ℕ} → KidWind l m i → KidWind l m j → i ≡ j
+kid-wind-one h k = omega (arith, kid-word-wind h, kid-word-wind k)
+
 module _ (t : List ℤ) (cap p l m : ℕ) where
   -- the row of a neighbour, by offsets and by the word of the parent's neighbour
   abbrev pub across : ℕ → ℕ → ℕ → ℕ

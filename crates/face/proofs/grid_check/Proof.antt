@@ -105,7 +105,7 @@ module _ {M : Type 1} (𝓤 : URA M) (H : Heap 𝓤) (A : Atoms 𝓤) (W : Given
 
   exits : (r : ℕ) (u : Val) → Checks h (x1 .now) (x2 .now) x3 r
       → ent 𝓤 (⋆ 𝓤 H A (‵ (fres γ (R .coded .code h)) ∷ ‵ (fshr-bor κ0 (λ y. partAt R y h b o)) ∷ ‵ (flft κ0 q0) ∷ (‵ (flft κ1 q1) ⊛ ‵ (flft κ2 q2) ⊛ ‵ ftrue) ∷ ‵ Own1 ∷ ‵ Own2 ∷ ‵ (u32 .own r (u ∷ [])) ∷ [])) (Post u)
-  exits r u  e  =
+  exits r u e =
       qed W (‵ (fres γ (R .coded .code h)) ∷ ‵ (fshr-bor κ0 (λ y. partAt R y h b o)) ∷ ‵ (flft κ0 q0) ∷ (‵ (flft κ1 q1) ⊛ ‵ (flft κ2 q2) ⊛ ‵ ftrue) ∷ ‵ Own1 ∷ ‵ Own2 ∷ ‵ (u32 .own r (u ∷ [])) ∷ []) ∵
       suffices ! _ (ends-at 𝓤 H A entry.ended stayed (entry.clauses 𝓤 H A at-mem run) W (((κ0, (κ1, (κ2, tt))), (q0, (q1, (q2, tt))), tt, a, vals), tt) u r (tt, (tt, (tt, (tt, tt)))) (tt, (tt, (tt, (tt, tt))))) $ says ! e $
       move ! (2 ∷ 3 ∷ []) $ join ! $ frame ! $ feqI ! (List Val) (vptr b o ∷ []) (vptr b o ∷ []) refl $ fjoin3 ! $ nothing ! $ owned ! u32 (Is u32) (uint-makes 𝓤 H A W w32) x3 _ (refl, fit3) $ fjoin ! $ move ! (3 ∷ 0 ∷ []) $ fjoin ! $ move ! (2 ∷ 0 ∷ []) $ fjoin ! $ move ! (1 ∷ 0 ∷ []) $ fjoin ! $ frame ! $ done !
@@ -114,24 +114,24 @@ module _ {M : Type 1} (𝓤 : URA M) (H : Heap 𝓤) (A : Atoms 𝓤) (W : Given
     walk : Room i32 (length (x1 .now)) → Room f64 (length (x2 .now)) → ent 𝓤 (onEntry 𝓤 H A entry.signature (κ0, (κ1, (κ2, tt))) (q0, (q1, (q2, tt))) a vals) (WpFn 𝓤 H C Λ code.function (vptr b o ∷ v1 ∷ v2 ∷ vint w32 x3 ∷ []) Post)
     walk room1 room2 =
         qed W ((‵ (flft κ0 q0) ⊛ ‵ (flft κ1 q1) ⊛ ‵ (flft κ2 q2) ⊛ ‵ ftrue) ∷ ‵ (owns (ShrRef (named 0) κ0 R ∷ ShrSlice (named 1) κ1 i32 ∷ ShrSlice (named 2) κ2 f64 ∷ u32 ∷ []) a vals) ∷ []) ∵
-        move ! (1 ∷ []) $ fsplit ! $ fsplit3 ! $ drop ! $ move ! (2 ∷ []) $ fsplit ! $ use1 W (‵ Own1 ⊛ ‵ Own1) (shr-slice-copy 𝓤 H A W (named 0) κ1 i32 .twice x1 (v1 ∷ [])) $ split ! $ move ! (2 ∷ []) $ fsplit ! $ use1 W (‵ Own2 ⊛ ‵ Own2) (shr-slice-copy 𝓤 H A W (named 1) κ2 f64 .twice x2 (v2 ∷ [])) $ split ! $ move ! (2 ∷ []) $ fsplit ! $ move ! (8 ∷ []) $ split ! $ move ! (8 ∷ 9 ∷ 0 ∷ []) $ 
+        move ! (1 ∷ []) $ fsplit ! $ fsplit3 ! $ drop ! $ move ! (2 ∷ []) $ fsplit ! $ use1 W (‵ Own1 ⊛ ‵ Own1) (shr-slice-copy 𝓤 H A W (named 0) κ1 i32 .twice x1 (v1 ∷ [])) $ split ! $ move ! (2 ∷ []) $ fsplit ! $ use1 W (‵ Own2 ⊛ ‵ Own2) (shr-slice-copy 𝓤 H A W (named 1) κ2 f64 .twice x2 (v2 ∷ [])) $ split ! $ move ! (2 ∷ []) $ fsplit ! $ move ! (8 ∷ []) $ split ! $ move ! (8 ∷ 9 ∷ 0 ∷ []) $
         enter ! C Λ code.function (vptr b o ∷ v1 ∷ v2 ∷ vint w32 x3 ∷ []) _ $
         alloc1 ! (λ m0. alloc1 ! (λ m1. alloc1 ! (λ m2. alloc1 ! (λ m3. alloc1 ! (λ m4. alloc1 ! (λ m5. alloc0 ! $ params1 ! $
         pass1 ! (init ! 8 refl (tt, tt)) $ pass1 ! (init ! 6 refl (tt, (tt, (record { fits = room1 .0 }, tt)))) $ pass1 ! (init ! 4 refl (tt, (tt, (record { fits = room2 .0 }, tt)))) $ pass1 ! (init ! 2 refl (tt, record { fits = fit3 })) $ pass0 ! $
         move ! (13 ∷ 14 ∷ []) $ looks ! tt R (Is R) (shows 𝓤 H A R) (LL.vals T.the-type T′.the-laws) (LL.tells T.the-type T′.the-laws) (LL.copy T.the-type T′.the-copy 𝓤 H A W) h b o (λ q′ vs. spelt ! R (Is R) (shows 𝓤 H A R) (LL.vals T.the-type T′.the-laws) (LL.tells T.the-type T′.the-laws) q′ h vs b o $
-        move ! (1 ∷ []) $ peeks ! R (Is R) (shows 𝓤 H A R) h (mach h ∷ []) (λ was. move ! (1 ∷ 0 ∷ []) $ 
+        move ! (1 ∷ []) $ peeks ! R (Is R) (shows 𝓤 H A R) h (mach h ∷ []) (λ was. move ! (1 ∷ 0 ∷ []) $
         assigns ! (of-opd ! (load ! (from ! (hop ! (look ! 12 refl) (stop !))) (look-raw ! 0 refl))) (from ! (stop !)) (init ! 4 refl (LL.lawful T.the-type T′.the-laws 𝓤 H A W .typed h _ was .0)) $
         shuts ! tt R q′ h (mach h ∷ []) b o $
         move ! (21 ∷ 19 ∷ []) $ join ! $ move ! (16 ∷ 0 ∷ []) $ join ! $ move ! (0 ∷ []) $ use1 W (raw (Core 𝓤 H A at-mem run .pre to-core)) (goes was) $
         calls-at ! fm (Core 𝓤 H A at-mem run) known to-core (and-then ! (load ! (from ! (stop !)) (look ! 3 refl)) (and-then ! (load ! (from ! (stop !)) (look ! 9 refl)) (and-then ! (load ! (from ! (stop !)) (look ! 7 refl)) (and-then ! (load ! (from ! (stop !)) (look ! 5 refl)) (no-more !))))) (λ u.
         use1 W (later (some (λ (r : ℕ). ((‵ (flft κ1 q1) ⊛ ‵ (flft κ2 q2) ⊛ ‵ ftrue) ⊛ ‵ (u32 .own r (u ∷ []))) ⊛ raw (ensured 𝓤 H A core.ended (core.clauses 𝓤 H A at-mem run) (κ1, (κ2, tt)) passed tt r)))) (id⊢ 𝓤 _) $ await ! tt $ pick ! (λ r.
         split ! $ move ! (1 ∷ []) $ use1 W (some (λ (zs : (Unit {0} × (Unit {0} × (Unit {0} × (Unit {0} × Unit {0}))))). ‵ (lasts core.ended (κ1, (κ2, tt)) passed zs) ⊛ raw (fact 𝓤 (Checks h (x1 .now) (x2 .now) x3 r)))) (id⊢ 𝓤 _) $ pick ! (λ zs.
-        split ! $ move ! (1 ∷ []) $ heard ! (Checks h (x1 .now) (x2 .now) x3 r) (λ e. fsplit ! $ drop ! $ move ! (0 ∷ []) $ fsplit ! $ move ! (1 ∷ []) $ fsplit ! $ move ! (1 ∷ []) $ fsplit ! $ 
+        split ! $ move ! (1 ∷ []) $ heard ! (Checks h (x1 .now) (x2 .now) x3 r) (λ e. fsplit ! $ drop ! $ move ! (0 ∷ []) $ fsplit ! $ move ! (1 ∷ []) $ fsplit ! $ move ! (1 ∷ []) $ fsplit ! $
         move ! (4 ∷ []) $ split ! $ move ! (1 ∷ []) $ peeks ! u32 (Is u32) (shows 𝓤 H A u32) r (u ∷ []) (λ is.
         land ! (from ! (stop !)) (init ! 18 refl (uint-lawful 𝓤 H A W w32 .typed r _ is .0)) $
-        returns ! (look ! 18 refl) $ forget ! 8 refl $ forget ! 10 refl $ forget ! 12 refl $ forget ! 14 refl $ forget ! 16 refl $ forget ! 18 refl $ 
+        returns ! (look ! 18 refl) $ forget ! 8 refl $ forget ! 10 refl $ forget ! 12 refl $ forget ! 14 refl $ forget ! 16 refl $ forget ! 18 refl $
         move ! (18 ∷ 19 ∷ []) $ free1 ! $ move ! (16 ∷ 17 ∷ []) $ free1 ! $ move ! (14 ∷ 15 ∷ []) $ free1 ! $ move ! (12 ∷ 13 ∷ []) $ free1 ! $ move ! (10 ∷ 11 ∷ []) $ free1 ! $ move ! (8 ∷ 9 ∷ []) $ free1 ! $ free0 ! $
-        keep ! (8 ∷ 7 ∷ 6 ∷ 1 ∷ 12 ∷ 11 ∷ 0 ∷ []) $ by ! (exits r u  e ))))))))))))))
+        keep ! (8 ∷ 7 ∷ 6 ∷ 1 ∷ 12 ∷ 11 ∷ 0 ∷ []) $ by ! (exits r u e))))))))))))))
 
 module _ {M : Type 1} (𝓤 : URA M) (H : Heap 𝓤) (A : Atoms 𝓤) (W : Given 𝓤 H A) (at-mem : Memory → SProp 𝓤) (run : Routine → Fun 𝓤) where
   walks : (C : Calls 𝓤 H) (Λ : Loops 𝓤 H) → FmC 𝓤 H (W .laws) C → Triple 𝓤 (C #core) (Core 𝓤 H A at-mem run) → Walks 𝓤 H A entry.ended stayed (WpFn 𝓤 H C Λ code.function) (entry.clauses 𝓤 H A at-mem run)

@@ -127,12 +127,12 @@ module _ {M : Type 1} (𝓤 : URA M) (H : Heap 𝓤) (A : Atoms 𝓤) (W : Given
     walk : Room i32 (length (x1 .now)) → Room f64 (length (x2 .now)) → Room u8 (length (x4 .now)) → ent 𝓤 (onEntry 𝓤 H A entry.signature (κ0, (κ1, (κ2, (κ3, (κ4, tt))))) (q0, (q1, (q2, (q3, (q4, tt))))) a vals) (WpFn 𝓤 H C Λ code.function (vptr b o ∷ v1 ∷ v2 ∷ vint w32 x3 ∷ v4 ∷ v5 ∷ []) Post)
     walk room1 room2 room4 =
         qed W ((‵ (flft κ0 q0) ⊛ ‵ (flft κ1 q1) ⊛ ‵ (flft κ2 q2) ⊛ ‵ (flft κ3 q3) ⊛ ‵ (flft κ4 q4) ⊛ ‵ ftrue) ∷ ‵ (owns (ShrRef (named 0) κ0 R ∷ ShrSlice (named 1) κ1 i32 ∷ ShrSlice (named 2) κ2 f64 ∷ u32 ∷ MutSlice (named 3) κ3 u8 ∷ MutRef (named 4) κ4 usize ∷ []) a vals) ∷ []) ∵
-        move ! (1 ∷ []) $ fsplit ! $ fsplit3 ! $ drop ! $ move ! (2 ∷ []) $ fsplit ! $ use1 W (‵ Own1 ⊛ ‵ Own1) (shr-slice-copy 𝓤 H A W (named 0) κ1 i32 .twice x1 (v1 ∷ [])) $ split ! $ move ! (2 ∷ []) $ fsplit ! $ use1 W (‵ Own2 ⊛ ‵ Own2) (shr-slice-copy 𝓤 H A W (named 1) κ2 f64 .twice x2 (v2 ∷ [])) $ split ! $ move ! (2 ∷ []) $ fsplit ! $ move ! (1 ∷ []) $ fsplit ! $ move ! (1 ∷ []) $ fsplit ! $ move ! (10 ∷ []) $ split ! $ move ! (10 ∷ 11 ∷ 0 ∷ []) $ 
+        move ! (1 ∷ []) $ fsplit ! $ fsplit3 ! $ drop ! $ move ! (2 ∷ []) $ fsplit ! $ use1 W (‵ Own1 ⊛ ‵ Own1) (shr-slice-copy 𝓤 H A W (named 0) κ1 i32 .twice x1 (v1 ∷ [])) $ split ! $ move ! (2 ∷ []) $ fsplit ! $ use1 W (‵ Own2 ⊛ ‵ Own2) (shr-slice-copy 𝓤 H A W (named 1) κ2 f64 .twice x2 (v2 ∷ [])) $ split ! $ move ! (2 ∷ []) $ fsplit ! $ move ! (1 ∷ []) $ fsplit ! $ move ! (1 ∷ []) $ fsplit ! $ move ! (10 ∷ []) $ split ! $ move ! (10 ∷ 11 ∷ 0 ∷ []) $
         enter ! C Λ code.function (vptr b o ∷ v1 ∷ v2 ∷ vint w32 x3 ∷ v4 ∷ v5 ∷ []) _ $
         alloc1 ! (λ m0. alloc1 ! (λ m1. alloc1 ! (λ m2. alloc1 ! (λ m3. alloc1 ! (λ m4. alloc1 ! (λ m5. alloc1 ! (λ m6. alloc1 ! (λ m7. alloc1 ! (λ m8. alloc1 ! (λ m9. alloc1 ! (λ m10. alloc0 ! $ params1 ! $
         pass1 ! (init ! 18 refl (tt, tt)) $ pass1 ! (init ! 16 refl (tt, (tt, (record { fits = room1 .0 }, tt)))) $ pass1 ! (init ! 14 refl (tt, (tt, (record { fits = room2 .0 }, tt)))) $ pass1 ! (init ! 12 refl (tt, record { fits = fit3 })) $ pass1 ! (init ! 10 refl (tt, (tt, (record { fits = room4 .0 }, tt)))) $ pass1 ! (init ! 8 refl (tt, tt)) $ pass0 ! $
         move ! (23 ∷ 24 ∷ []) $ looks ! tt R (Is R) (shows 𝓤 H A R) (LL.vals T.the-type T′.the-laws) (LL.tells T.the-type T′.the-laws) (LL.copy T.the-type T′.the-copy 𝓤 H A W) h b o (λ q′ vs. spelt ! R (Is R) (shows 𝓤 H A R) (LL.vals T.the-type T′.the-laws) (LL.tells T.the-type T′.the-laws) q′ h vs b o $
-        move ! (1 ∷ []) $ peeks ! R (Is R) (shows 𝓤 H A R) h (mach h ∷ []) (λ was. move ! (1 ∷ 0 ∷ []) $ 
+        move ! (1 ∷ []) $ peeks ! R (Is R) (shows 𝓤 H A R) h (mach h ∷ []) (λ was. move ! (1 ∷ 0 ∷ []) $
         assigns ! (of-opd ! (load ! (from ! (hop ! (look ! 22 refl) (stop !))) (look-raw ! 0 refl))) (from ! (stop !)) (init ! 10 refl (LL.lawful T.the-type T′.the-laws 𝓤 H A W .typed h _ was .0)) $
         shuts ! tt R q′ h (mach h ∷ []) b o $
         assigns ! (addr ! (from ! (fld ! refl (hop ! (look-in ! 12 (sub ! 0 refl (whole !))) (stop !))))) (from ! (stop !)) (init ! 6 refl (tt, tt)) $
@@ -142,10 +142,10 @@ module _ {M : Type 1} (𝓤 : URA M) (H : Heap 𝓤) (A : Atoms 𝓤) (W : Given
         calls-at ! fm (Core 𝓤 H A at-mem run) known to-core (and-then ! (load ! (from ! (stop !)) (look ! 9 refl)) (and-then ! (load ! (from ! (stop !)) (look ! 19 refl)) (and-then ! (load ! (from ! (stop !)) (look ! 17 refl)) (and-then ! (load ! (from ! (stop !)) (look ! 15 refl)) (and-then ! (load ! (from ! (stop !)) (look ! 5 refl)) (and-then ! (load ! (from ! (stop !)) (look ! 3 refl)) (no-more !))))))) (λ u.
         use1 W (later (some (λ (r : ℕ). ((‵ (flft κ1 q1) ⊛ ‵ (flft κ2 q2) ⊛ ‵ (flft κ3 q3) ⊛ ‵ (flft κ4 q4) ⊛ ‵ ftrue) ⊛ ‵ (u32 .own r (u ∷ []))) ⊛ raw (ensured 𝓤 H A core.ended (core.clauses 𝓤 H A at-mem run) (κ1, (κ2, (κ3, (κ4, tt)))) passed tt r)))) (id⊢ 𝓤 _) $ await ! tt $ pick ! (λ r.
         split ! $ move ! (1 ∷ []) $ use1 W (some (λ (zs : (Unit {0} × (Unit {0} × (Unit {0} × (Unit {0} × (List ℕ × (ℕ × Unit {0}))))))). ‵ (lasts core.ended (κ1, (κ2, (κ3, (κ4, tt)))) passed zs) ⊛ raw (fact 𝓤 (Pages h (x1 .now) (x2 .now) x3 (x4 .now) (zs .1 .1 .1 .1 .0) (zs .1 .1 .1 .1 .1 .0) r)))) (id⊢ 𝓤 _) $ pick ! (λ zs.
-        split ! $ move ! (1 ∷ []) $ heard ! (Pages h (x1 .now) (x2 .now) x3 (x4 .now) (zs .1 .1 .1 .1 .0) (zs .1 .1 .1 .1 .1 .0) r) (λ e. fsplit ! $ drop ! $ move ! (0 ∷ []) $ fsplit ! $ move ! (1 ∷ []) $ fsplit ! $ move ! (1 ∷ []) $ fsplit ! $ move ! (1 ∷ []) $ fsplit ! $ fsplit ! $ move ! (1 ∷ []) $ feqL ! (λ l4. move ! (1 ∷ []) $ fsplit ! $ 
+        split ! $ move ! (1 ∷ []) $ heard ! (Pages h (x1 .now) (x2 .now) x3 (x4 .now) (zs .1 .1 .1 .1 .0) (zs .1 .1 .1 .1 .1 .0) r) (λ e. fsplit ! $ drop ! $ move ! (0 ∷ []) $ fsplit ! $ move ! (1 ∷ []) $ fsplit ! $ move ! (1 ∷ []) $ fsplit ! $ move ! (1 ∷ []) $ fsplit ! $ fsplit ! $ move ! (1 ∷ []) $ feqL ! (λ l4. move ! (1 ∷ []) $ fsplit ! $
         move ! (6 ∷ []) $ split ! $ move ! (1 ∷ []) $ peeks ! u32 (Is u32) (shows 𝓤 H A u32) r (u ∷ []) (λ is.
         land ! (from ! (stop !)) (init ! 30 refl (uint-lawful 𝓤 H A W w32 .typed r _ is .0)) $
-        returns ! (look ! 30 refl) $ forget ! 10 refl $ forget ! 12 refl $ forget ! 14 refl $ forget ! 16 refl $ forget ! 18 refl $ forget ! 20 refl $ forget ! 22 refl $ forget ! 24 refl $ forget ! 26 refl $ forget ! 28 refl $ forget ! 30 refl $ 
+        returns ! (look ! 30 refl) $ forget ! 10 refl $ forget ! 12 refl $ forget ! 14 refl $ forget ! 16 refl $ forget ! 18 refl $ forget ! 20 refl $ forget ! 22 refl $ forget ! 24 refl $ forget ! 26 refl $ forget ! 28 refl $ forget ! 30 refl $
         move ! (30 ∷ 31 ∷ []) $ free1 ! $ move ! (28 ∷ 29 ∷ []) $ free1 ! $ move ! (26 ∷ 27 ∷ []) $ free1 ! $ move ! (24 ∷ 25 ∷ []) $ free1 ! $ move ! (22 ∷ 23 ∷ []) $ free1 ! $ move ! (20 ∷ 21 ∷ []) $ free1 ! $ move ! (18 ∷ 19 ∷ []) $ free1 ! $ move ! (16 ∷ 17 ∷ []) $ free1 ! $ move ! (14 ∷ 15 ∷ []) $ free1 ! $ move ! (12 ∷ 13 ∷ []) $ free1 ! $ move ! (10 ∷ 11 ∷ []) $ free1 ! $ free0 ! $
         keep ! (10 ∷ 9 ∷ 8 ∷ 1 ∷ 14 ∷ 13 ∷ 4 ∷ 2 ∷ 0 ∷ []) $ by ! (exits r u (zs .1 .1 .1 .1 .0) (zs .1 .1 .1 .1 .1 .0) e l4))))))))))))))))))))
 

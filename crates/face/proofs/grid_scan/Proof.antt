@@ -136,12 +136,12 @@ module _ {M : Type 1} (𝓤 : URA M) (H : Heap 𝓤) (A : Atoms 𝓤) (W : Given
     walk : Room i32 (length (x1 .now)) → Room f64 (length (x2 .now)) → Room u8 (length (x5 .now)) → Room u16 (length (x9 .now)) → ent 𝓤 (onEntry 𝓤 H A entry.signature (κ0, (κ1, (κ2, (κ3, (κ4, (κ5, tt)))))) (q0, (q1, (q2, (q3, (q4, (q5, tt)))))) a vals) (WpFn 𝓤 H C Λ code.function (vptr b o ∷ v1 ∷ v2 ∷ vint w32 x3 ∷ vint w32 x4 ∷ v5 ∷ vint w32 x6 ∷ vint w32 (ofZ w32 x7) ∷ vint w32 (ofZ w32 x8) ∷ v9 ∷ v10 ∷ []) Post)
     walk room1 room2 room5 room9 =
         qed W ((‵ (flft κ0 q0) ⊛ ‵ (flft κ1 q1) ⊛ ‵ (flft κ2 q2) ⊛ ‵ (flft κ3 q3) ⊛ ‵ (flft κ4 q4) ⊛ ‵ (flft κ5 q5) ⊛ ‵ ftrue) ∷ ‵ (owns (ShrRef (named 0) κ0 R ∷ ShrSlice (named 1) κ1 i32 ∷ ShrSlice (named 2) κ2 f64 ∷ u32 ∷ u32 ∷ ShrSlice (named 3) κ3 u8 ∷ u32 ∷ i32 ∷ i32 ∷ MutSlice (named 4) κ4 u16 ∷ MutRef (named 5) κ5 u32 ∷ []) a vals) ∷ []) ∵
-        move ! (1 ∷ []) $ fsplit ! $ fsplit3 ! $ drop ! $ move ! (2 ∷ []) $ fsplit ! $ use1 W (‵ Own1 ⊛ ‵ Own1) (shr-slice-copy 𝓤 H A W (named 0) κ1 i32 .twice x1 (v1 ∷ [])) $ split ! $ move ! (2 ∷ []) $ fsplit ! $ use1 W (‵ Own2 ⊛ ‵ Own2) (shr-slice-copy 𝓤 H A W (named 1) κ2 f64 .twice x2 (v2 ∷ [])) $ split ! $ move ! (2 ∷ []) $ fsplit ! $ move ! (1 ∷ []) $ fsplit ! $ move ! (1 ∷ []) $ fsplit ! $ use1 W (‵ Own5 ⊛ ‵ Own5) (shr-slice-copy 𝓤 H A W (named 2) κ3 u8 .twice x5 (v5 ∷ [])) $ split ! $ move ! (2 ∷ []) $ fsplit ! $ move ! (1 ∷ []) $ fsplit ! $ move ! (1 ∷ []) $ fsplit ! $ move ! (1 ∷ []) $ fsplit ! $ move ! (1 ∷ []) $ fsplit ! $ move ! (16 ∷ []) $ split ! $ move ! (16 ∷ 17 ∷ 0 ∷ []) $ 
+        move ! (1 ∷ []) $ fsplit ! $ fsplit3 ! $ drop ! $ move ! (2 ∷ []) $ fsplit ! $ use1 W (‵ Own1 ⊛ ‵ Own1) (shr-slice-copy 𝓤 H A W (named 0) κ1 i32 .twice x1 (v1 ∷ [])) $ split ! $ move ! (2 ∷ []) $ fsplit ! $ use1 W (‵ Own2 ⊛ ‵ Own2) (shr-slice-copy 𝓤 H A W (named 1) κ2 f64 .twice x2 (v2 ∷ [])) $ split ! $ move ! (2 ∷ []) $ fsplit ! $ move ! (1 ∷ []) $ fsplit ! $ move ! (1 ∷ []) $ fsplit ! $ use1 W (‵ Own5 ⊛ ‵ Own5) (shr-slice-copy 𝓤 H A W (named 2) κ3 u8 .twice x5 (v5 ∷ [])) $ split ! $ move ! (2 ∷ []) $ fsplit ! $ move ! (1 ∷ []) $ fsplit ! $ move ! (1 ∷ []) $ fsplit ! $ move ! (1 ∷ []) $ fsplit ! $ move ! (1 ∷ []) $ fsplit ! $ move ! (16 ∷ []) $ split ! $ move ! (16 ∷ 17 ∷ 0 ∷ []) $
         enter ! C Λ code.function (vptr b o ∷ v1 ∷ v2 ∷ vint w32 x3 ∷ vint w32 x4 ∷ v5 ∷ vint w32 x6 ∷ vint w32 (ofZ w32 x7) ∷ vint w32 (ofZ w32 x8) ∷ v9 ∷ v10 ∷ []) _ $
         alloc1 ! (λ m0. alloc1 ! (λ m1. alloc1 ! (λ m2. alloc1 ! (λ m3. alloc1 ! (λ m4. alloc1 ! (λ m5. alloc1 ! (λ m6. alloc1 ! (λ m7. alloc1 ! (λ m8. alloc1 ! (λ m9. alloc1 ! (λ m10. alloc1 ! (λ m11. alloc1 ! (λ m12. alloc1 ! (λ m13. alloc1 ! (λ m14. alloc1 ! (λ m15. alloc0 ! $ params1 ! $
         pass1 ! (init ! 28 refl (tt, tt)) $ pass1 ! (init ! 26 refl (tt, (tt, (record { fits = room1 .0 }, tt)))) $ pass1 ! (init ! 24 refl (tt, (tt, (record { fits = room2 .0 }, tt)))) $ pass1 ! (init ! 22 refl (tt, record { fits = fit3 })) $ pass1 ! (init ! 20 refl (tt, record { fits = fit4 })) $ pass1 ! (init ! 18 refl (tt, (tt, (record { fits = room5 .0 }, tt)))) $ pass1 ! (init ! 16 refl (tt, record { fits = fit6 })) $ pass1 ! (init ! 14 refl (tt, ofZ-fits w32 x7 (record { sfits = fit7 }))) $ pass1 ! (init ! 12 refl (tt, ofZ-fits w32 x8 (record { sfits = fit8 }))) $ pass1 ! (init ! 10 refl (tt, (tt, (record { fits = room9 .0 }, tt)))) $ pass1 ! (init ! 8 refl (tt, tt)) $ pass0 ! $
         move ! (33 ∷ 34 ∷ []) $ looks ! tt R (Is R) (shows 𝓤 H A R) (LL.vals T.the-type T′.the-laws) (LL.tells T.the-type T′.the-laws) (LL.copy T.the-type T′.the-copy 𝓤 H A W) h b o (λ q′ vs. spelt ! R (Is R) (shows 𝓤 H A R) (LL.vals T.the-type T′.the-laws) (LL.tells T.the-type T′.the-laws) q′ h vs b o $
-        move ! (1 ∷ []) $ peeks ! R (Is R) (shows 𝓤 H A R) h (mach h ∷ []) (λ was. move ! (1 ∷ 0 ∷ []) $ 
+        move ! (1 ∷ []) $ peeks ! R (Is R) (shows 𝓤 H A R) h (mach h ∷ []) (λ was. move ! (1 ∷ 0 ∷ []) $
         assigns ! (of-opd ! (load ! (from ! (hop ! (look ! 32 refl) (stop !))) (look-raw ! 0 refl))) (from ! (stop !)) (init ! 10 refl (LL.lawful T.the-type T′.the-laws 𝓤 H A W .typed h _ was .0)) $
         shuts ! tt R q′ h (mach h ∷ []) b o $
         assigns ! (addr ! (from ! (fld ! refl (hop ! (look-in ! 12 (sub ! 0 refl (whole !))) (stop !))))) (from ! (stop !)) (init ! 6 refl (tt, tt)) $
@@ -151,10 +151,10 @@ module _ {M : Type 1} (𝓤 : URA M) (H : Heap 𝓤) (A : Atoms 𝓤) (W : Given
         calls-at ! fm (Core 𝓤 H A at-mem run) known to-core (and-then ! (load ! (from ! (stop !)) (look ! 9 refl)) (and-then ! (load ! (from ! (stop !)) (look ! 29 refl)) (and-then ! (load ! (from ! (stop !)) (look ! 27 refl)) (and-then ! (load ! (from ! (stop !)) (look ! 25 refl)) (and-then ! (load ! (from ! (stop !)) (look ! 23 refl)) (and-then ! (load ! (from ! (stop !)) (look ! 21 refl)) (and-then ! (load ! (from ! (stop !)) (look ! 19 refl)) (and-then ! (load ! (from ! (stop !)) (look ! 17 refl)) (and-then ! (load ! (from ! (stop !)) (look ! 15 refl)) (and-then ! (load ! (from ! (stop !)) (look ! 5 refl)) (and-then ! (load ! (from ! (stop !)) (look ! 3 refl)) (no-more !)))))))))))) (λ u.
         use1 W (later (some (λ (r : ℕ). ((‵ (flft κ1 q1) ⊛ ‵ (flft κ2 q2) ⊛ ‵ (flft κ3 q3) ⊛ ‵ (flft κ4 q4) ⊛ ‵ (flft κ5 q5) ⊛ ‵ ftrue) ⊛ ‵ (u32 .own r (u ∷ []))) ⊛ raw (ensured 𝓤 H A core.ended (core.clauses 𝓤 H A at-mem run) (κ1, (κ2, (κ3, (κ4, (κ5, tt))))) passed tt r)))) (id⊢ 𝓤 _) $ await ! tt $ pick ! (λ r.
         split ! $ move ! (1 ∷ []) $ use1 W (some (λ (zs : (Unit {0} × (Unit {0} × (Unit {0} × (Unit {0} × (Unit {0} × (Unit {0} × (Unit {0} × (Unit {0} × (Unit {0} × (List ℕ × (ℕ × Unit {0})))))))))))). ‵ (lasts core.ended (κ1, (κ2, (κ3, (κ4, (κ5, tt))))) passed zs) ⊛ raw (fact 𝓤 (Scans h (x1 .now) (x2 .now) x3 x4 (x5 .now) x6 x7 x8 (x9 .now) (zs .1 .1 .1 .1 .1 .1 .1 .1 .1 .0) (zs .1 .1 .1 .1 .1 .1 .1 .1 .1 .1 .0) r)))) (id⊢ 𝓤 _) $ pick ! (λ zs.
-        split ! $ move ! (1 ∷ []) $ heard ! (Scans h (x1 .now) (x2 .now) x3 x4 (x5 .now) x6 x7 x8 (x9 .now) (zs .1 .1 .1 .1 .1 .1 .1 .1 .1 .0) (zs .1 .1 .1 .1 .1 .1 .1 .1 .1 .1 .0) r) (λ e. fsplit ! $ drop ! $ move ! (0 ∷ []) $ fsplit ! $ move ! (1 ∷ []) $ fsplit ! $ move ! (1 ∷ []) $ fsplit ! $ move ! (1 ∷ []) $ fsplit ! $ move ! (1 ∷ []) $ fsplit ! $ move ! (1 ∷ []) $ fsplit ! $ move ! (1 ∷ []) $ fsplit ! $ move ! (1 ∷ []) $ fsplit ! $ move ! (1 ∷ []) $ fsplit ! $ fsplit ! $ move ! (1 ∷ []) $ feqL ! (λ l9. move ! (1 ∷ []) $ fsplit ! $ 
+        split ! $ move ! (1 ∷ []) $ heard ! (Scans h (x1 .now) (x2 .now) x3 x4 (x5 .now) x6 x7 x8 (x9 .now) (zs .1 .1 .1 .1 .1 .1 .1 .1 .1 .0) (zs .1 .1 .1 .1 .1 .1 .1 .1 .1 .1 .0) r) (λ e. fsplit ! $ drop ! $ move ! (0 ∷ []) $ fsplit ! $ move ! (1 ∷ []) $ fsplit ! $ move ! (1 ∷ []) $ fsplit ! $ move ! (1 ∷ []) $ fsplit ! $ move ! (1 ∷ []) $ fsplit ! $ move ! (1 ∷ []) $ fsplit ! $ move ! (1 ∷ []) $ fsplit ! $ move ! (1 ∷ []) $ fsplit ! $ move ! (1 ∷ []) $ fsplit ! $ fsplit ! $ move ! (1 ∷ []) $ feqL ! (λ l9. move ! (1 ∷ []) $ fsplit ! $
         move ! (11 ∷ []) $ split ! $ move ! (1 ∷ []) $ peeks ! u32 (Is u32) (shows 𝓤 H A u32) r (u ∷ []) (λ is.
         land ! (from ! (stop !)) (init ! 45 refl (uint-lawful 𝓤 H A W w32 .typed r _ is .0)) $
-        returns ! (look ! 45 refl) $ forget ! 15 refl $ forget ! 17 refl $ forget ! 19 refl $ forget ! 21 refl $ forget ! 23 refl $ forget ! 25 refl $ forget ! 27 refl $ forget ! 29 refl $ forget ! 31 refl $ forget ! 33 refl $ forget ! 35 refl $ forget ! 37 refl $ forget ! 39 refl $ forget ! 41 refl $ forget ! 43 refl $ forget ! 45 refl $ 
+        returns ! (look ! 45 refl) $ forget ! 15 refl $ forget ! 17 refl $ forget ! 19 refl $ forget ! 21 refl $ forget ! 23 refl $ forget ! 25 refl $ forget ! 27 refl $ forget ! 29 refl $ forget ! 31 refl $ forget ! 33 refl $ forget ! 35 refl $ forget ! 37 refl $ forget ! 39 refl $ forget ! 41 refl $ forget ! 43 refl $ forget ! 45 refl $
         move ! (45 ∷ 46 ∷ []) $ free1 ! $ move ! (43 ∷ 44 ∷ []) $ free1 ! $ move ! (41 ∷ 42 ∷ []) $ free1 ! $ move ! (39 ∷ 40 ∷ []) $ free1 ! $ move ! (37 ∷ 38 ∷ []) $ free1 ! $ move ! (35 ∷ 36 ∷ []) $ free1 ! $ move ! (33 ∷ 34 ∷ []) $ free1 ! $ move ! (31 ∷ 32 ∷ []) $ free1 ! $ move ! (29 ∷ 30 ∷ []) $ free1 ! $ move ! (27 ∷ 28 ∷ []) $ free1 ! $ move ! (25 ∷ 26 ∷ []) $ free1 ! $ move ! (23 ∷ 24 ∷ []) $ free1 ! $ move ! (21 ∷ 22 ∷ []) $ free1 ! $ move ! (19 ∷ 20 ∷ []) $ free1 ! $ move ! (17 ∷ 18 ∷ []) $ free1 ! $ move ! (15 ∷ 16 ∷ []) $ free1 ! $ free0 ! $
         keep ! (15 ∷ 14 ∷ 13 ∷ 1 ∷ 24 ∷ 23 ∷ 20 ∷ 4 ∷ 2 ∷ 0 ∷ []) $ by ! (exits r u (zs .1 .1 .1 .1 .1 .1 .1 .1 .1 .0) (zs .1 .1 .1 .1 .1 .1 .1 .1 .1 .1 .0) e l9)))))))))))))))))))))))))
 

@@ -131,12 +131,12 @@ module _ {M : Type 1} (𝓤 : URA M) (H : Heap 𝓤) (A : Atoms 𝓤) (W : Given
     walk : Room i32 (length (x1 .now)) → Room f64 (length (x2 .now)) → ent 𝓤 (onEntry 𝓤 H A entry.signature (κ0, (κ1, (κ2, tt))) (q0, (q1, (q2, tt))) a vals) (WpFn 𝓤 H C Λ code.function (vptr b o ∷ v1 ∷ v2 ∷ vint w32 x3 ∷ vint w32 x4 ∷ vint w32 x5 ∷ []) Post)
     walk room1 room2 =
         qed W ((‵ (flft κ0 q0) ⊛ ‵ (flft κ1 q1) ⊛ ‵ (flft κ2 q2) ⊛ ‵ ftrue) ∷ ‵ (owns (MutRef (named 0) κ0 R ∷ MutSlice (named 1) κ1 i32 ∷ MutSlice (named 2) κ2 f64 ∷ u32 ∷ u32 ∷ u32 ∷ []) a vals) ∷ []) ∵
-        move ! (1 ∷ []) $ fsplit ! $ fsplit3 ! $ drop ! $ move ! (2 ∷ []) $ fsplit ! $ move ! (1 ∷ []) $ fsplit ! $ move ! (1 ∷ []) $ fsplit ! $ move ! (1 ∷ []) $ fsplit ! $ move ! (1 ∷ []) $ fsplit ! $ move ! (8 ∷ []) $ split ! $ move ! (8 ∷ 9 ∷ 0 ∷ []) $ 
+        move ! (1 ∷ []) $ fsplit ! $ fsplit3 ! $ drop ! $ move ! (2 ∷ []) $ fsplit ! $ move ! (1 ∷ []) $ fsplit ! $ move ! (1 ∷ []) $ fsplit ! $ move ! (1 ∷ []) $ fsplit ! $ move ! (1 ∷ []) $ fsplit ! $ move ! (8 ∷ []) $ split ! $ move ! (8 ∷ 9 ∷ 0 ∷ []) $
         enter ! C Λ code.function (vptr b o ∷ v1 ∷ v2 ∷ vint w32 x3 ∷ vint w32 x4 ∷ vint w32 x5 ∷ []) _ $
         alloc1 ! (λ m0. alloc1 ! (λ m1. alloc1 ! (λ m2. alloc1 ! (λ m3. alloc1 ! (λ m4. alloc1 ! (λ m5. alloc1 ! (λ m6. alloc1 ! (λ m7. alloc1 ! (λ m8. alloc1 ! (λ m9. alloc1 ! (λ m10. alloc1 ! (λ m11. alloc1 ! (λ m12. alloc0 ! $ params1 ! $
         pass1 ! (init ! 22 refl (tt, tt)) $ pass1 ! (init ! 20 refl (tt, (tt, (record { fits = room1 .0 }, tt)))) $ pass1 ! (init ! 18 refl (tt, (tt, (record { fits = room2 .0 }, tt)))) $ pass1 ! (init ! 16 refl (tt, record { fits = fit3 })) $ pass1 ! (init ! 14 refl (tt, record { fits = fit4 })) $ pass1 ! (init ! 12 refl (tt, record { fits = fit5 })) $ pass0 ! $
         move ! (26 ∷ 27 ∷ 28 ∷ []) $ opens ! tt R {h = h} b o (λ vs. spelt ! R (Is R) (shows 𝓤 H A R) (LL.vals T.the-type T′.the-laws) (LL.tells T.the-type T′.the-laws) fullShare h vs b o $
-        move ! (1 ∷ []) $ peeks ! R (Is R) (shows 𝓤 H A R) h (mach h ∷ []) (λ was. move ! (1 ∷ 0 ∷ []) $ 
+        move ! (1 ∷ []) $ peeks ! R (Is R) (shows 𝓤 H A R) h (mach h ∷ []) (λ was. move ! (1 ∷ 0 ∷ []) $
         assigns ! (of-opd ! (load ! (from ! (hop ! (look ! 27 refl) (stop !))) (look-raw ! 0 refl))) (from ! (stop !)) (init ! 13 refl (LL.lawful T.the-type T′.the-laws 𝓤 H A W .typed h _ was .0)) $
         assigns ! (addr ! (from ! (fld ! refl (hop ! (look-in ! 25 (sub ! 0 refl (whole !))) (stop !))))) (from ! (stop !)) (init ! 11 refl (tt, tt)) $
         assigns ! (agg ! (and-then ! (load ! (from ! (stop !)) (look ! 11 refl)) (and-then ! (load ! (from ! (fld ! refl (stop !))) (look-in ! 25 (sub ! 1 refl (whole !)))) (no-more !)))) (from ! (stop !)) (init ! 9 refl (tt, (tt, (record { fits = room1 .0 }, tt)))) $
@@ -146,13 +146,13 @@ module _ {M : Type 1} (𝓤 : URA M) (H : Heap 𝓤) (A : Atoms 𝓤) (W : Given
         calls-at ! fm (Core 𝓤 H A at-mem run) known to-core (and-then ! (load ! (from ! (stop !)) (look ! 14 refl)) (and-then ! (load ! (from ! (stop !)) (look ! 10 refl)) (and-then ! (load ! (from ! (stop !)) (look ! 6 refl)) (and-then ! (load ! (from ! (stop !)) (look ! 22 refl)) (and-then ! (load ! (from ! (stop !)) (look ! 20 refl)) (and-then ! (load ! (from ! (stop !)) (look ! 18 refl)) (no-more !))))))) (λ u.
         use1 W (later (some (λ (r : BuildOut). ((‵ (flft κ1 q1) ⊛ ‵ (flft κ2 q2) ⊛ ‵ ftrue) ⊛ ‵ (Co.the-row .own r (u ∷ []))) ⊛ raw (ensured 𝓤 H A core.ended (core.clauses 𝓤 H A at-mem run) (κ1, (κ2, tt)) passed tt r)))) (id⊢ 𝓤 _) $ await ! tt $ pick ! (λ r.
         split ! $ move ! (1 ∷ []) $ use1 W (some (λ (zs : (Unit {0} × (List ℤ × (List Float × (Unit {0} × (Unit {0} × (Unit {0} × Unit {0}))))))). ‵ (lasts core.ended (κ1, (κ2, tt)) passed zs) ⊛ raw (fact 𝓤 (Builds h (x1 .now) (x2 .now) x3 x4 x5 (r .header) (zs .1 .0) (zs .1 .1 .0) (r .answer))))) (id⊢ 𝓤 _) $ pick ! (λ zs.
-        split ! $ move ! (1 ∷ []) $ heard ! (Builds h (x1 .now) (x2 .now) x3 x4 x5 (r .header) (zs .1 .0) (zs .1 .1 .0) (r .answer)) (λ e. fsplit ! $ drop ! $ move ! (0 ∷ []) $ fsplit ! $ fsplit ! $ move ! (1 ∷ []) $ feqL ! (λ l1. move ! (1 ∷ []) $ fsplit ! $ fsplit ! $ move ! (1 ∷ []) $ feqL ! (λ l2. move ! (1 ∷ []) $ fsplit ! $ move ! (1 ∷ []) $ fsplit ! $ move ! (1 ∷ []) $ fsplit ! $ 
+        split ! $ move ! (1 ∷ []) $ heard ! (Builds h (x1 .now) (x2 .now) x3 x4 x5 (r .header) (zs .1 .0) (zs .1 .1 .0) (r .answer)) (λ e. fsplit ! $ drop ! $ move ! (0 ∷ []) $ fsplit ! $ fsplit ! $ move ! (1 ∷ []) $ feqL ! (λ l1. move ! (1 ∷ []) $ fsplit ! $ fsplit ! $ move ! (1 ∷ []) $ feqL ! (λ l2. move ! (1 ∷ []) $ fsplit ! $ move ! (1 ∷ []) $ fsplit ! $ move ! (1 ∷ []) $ fsplit ! $
         move ! (6 ∷ []) $ split ! $ move ! (1 ∷ []) $ peeks ! Co.the-row (Is Co.the-row) (shows 𝓤 H A Co.the-row) r (u ∷ []) (λ is.
         land ! (from ! (stop !)) (init ! 23 refl (LL.lawful Co.the-type Co′.the-laws 𝓤 H A W .typed r _ is .0)) $ rewrite ! 23 (λ (v : Val). ‵ (fat fullShare Co′.mir m7 0 v)) (ap only (LL.tells Co.the-type Co′.the-laws r _ is)) refl $
         assigns ! (of-opd ! (load ! (from ! (fld ! refl (stop !))) (look-in ! 23 (sub ! 0 refl (whole !))))) (from ! (hop ! (look ! 35 refl) (stop !))) (store-raw ! 8 refl (LL.lawful T.the-type T′.the-laws 𝓤 H A W .typed (r .header) _ (of-header r u is) .0)) $
         assigns ! (of-opd ! (load ! (from ! (fld ! refl (stop !))) (look-in ! 23 (sub ! 1 refl (whole !))))) (from ! (stop !)) (init ! 37 refl (LL.lawful An.the-type An′.the-laws 𝓤 H A W .typed (r .answer) _ (of-answer r u is) .0)) $
         owned ! R (Is R) (LL.makes T.the-type T′.the-plain 𝓤 H A) (r .header) _ (of-header r u is) $ move ! (9 ∷ 0 ∷ 11 ∷ 12 ∷ 13 ∷ []) $ closes ! tt R (r .header) (mach (r .header) ∷ []) b o $
-        returns ! (look ! 36 refl) $ forget ! 12 refl $ forget ! 14 refl $ forget ! 16 refl $ forget ! 18 refl $ forget ! 20 refl $ forget ! 22 refl $ forget ! 24 refl $ forget ! 26 refl $ forget ! 28 refl $ forget ! 30 refl $ forget ! 32 refl $ forget ! 34 refl $ forget ! 36 refl $ 
+        returns ! (look ! 36 refl) $ forget ! 12 refl $ forget ! 14 refl $ forget ! 16 refl $ forget ! 18 refl $ forget ! 20 refl $ forget ! 22 refl $ forget ! 24 refl $ forget ! 26 refl $ forget ! 28 refl $ forget ! 30 refl $ forget ! 32 refl $ forget ! 34 refl $ forget ! 36 refl $
         move ! (36 ∷ 37 ∷ []) $ free1 ! $ move ! (34 ∷ 35 ∷ []) $ free1 ! $ move ! (32 ∷ 33 ∷ []) $ free1 ! $ move ! (30 ∷ 31 ∷ []) $ free1 ! $ move ! (28 ∷ 29 ∷ []) $ free1 ! $ move ! (26 ∷ 27 ∷ []) $ free1 ! $ move ! (24 ∷ 25 ∷ []) $ free1 ! $ move ! (22 ∷ 23 ∷ []) $ free1 ! $ move ! (20 ∷ 21 ∷ []) $ free1 ! $ move ! (18 ∷ 19 ∷ []) $ free1 ! $ move ! (16 ∷ 17 ∷ []) $ free1 ! $ move ! (14 ∷ 15 ∷ []) $ free1 ! $ move ! (12 ∷ 13 ∷ []) $ free1 ! $ free0 ! $
         keep ! (0 ∷ 1 ∷ 2 ∷ 4 ∷ 10 ∷ 9 ∷ []) $ by ! (exits r u (zs .1 .0) (zs .1 .1 .0) is e l1 l2)))))))))))))))))))))))
 

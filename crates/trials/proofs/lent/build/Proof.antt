@@ -147,7 +147,7 @@ module _ {M : Type 1} (𝓤 : URA M) (H : Heap 𝓤) (A : Atoms 𝓤) (W : Given
     walk : Room i32 (length (x1 .now)) → Room f64 (length (x2 .now)) → ent 𝓤 (onEntry 𝓤 H A entry.signature (κ1, (κ2, tt)) (q1, (q2, tt)) a vals) (WpFn 𝓤 H C Λ code.function (mach h ∷ v1 ∷ v2 ∷ vint w32 x3 ∷ vint w32 x4 ∷ vint w32 x5 ∷ []) Post)
     walk room1 room2 =
         qed W ((‵ (flft κ1 q1) ⊛ ‵ (flft κ2 q2) ⊛ ‵ ftrue) ∷ ‵ (owns (R ∷ MutSlice (named 0) κ1 i32 ∷ MutSlice (named 1) κ2 f64 ∷ u32 ∷ u32 ∷ u32 ∷ []) a vals) ∷ []) ∵
-        move ! (1 ∷ []) $ fsplit ! $ move ! (1 ∷ []) $ fsplit ! $ move ! (1 ∷ []) $ fsplit ! $ move ! (1 ∷ []) $ fsplit ! $ move ! (1 ∷ []) $ fsplit ! $ move ! (1 ∷ []) $ fsplit ! $ 
+        move ! (1 ∷ []) $ fsplit ! $ move ! (1 ∷ []) $ fsplit ! $ move ! (1 ∷ []) $ fsplit ! $ move ! (1 ∷ []) $ fsplit ! $ move ! (1 ∷ []) $ fsplit ! $ move ! (1 ∷ []) $ fsplit ! $
         enter ! C Λ code.function (mach h ∷ v1 ∷ v2 ∷ vint w32 x3 ∷ vint w32 x4 ∷ vint w32 x5 ∷ []) _ $
         alloc1 ! (λ m0. alloc1 ! (λ m1. alloc1 ! (λ m2. alloc1 ! (λ m3. alloc1 ! (λ m4. alloc1 ! (λ m5. alloc1 ! (λ m6. alloc1 ! (λ m7. alloc1 ! (λ m8. alloc1 ! (λ m9. alloc1 ! (λ m10. alloc1 ! (λ m11. alloc1 ! (λ m12. alloc1 ! (λ m13. alloc1 ! (λ m14. alloc0 ! $ params1 ! $
         pass1 ! (init ! 26 refl (LL.lawful T.the-type T′.the-laws 𝓤 H A W .typed h _ (was) .0)) $ pass1 ! (init ! 24 refl (tt, (tt, (record { fits = room1 .0 }, tt)))) $ pass1 ! (init ! 22 refl (tt, (tt, (record { fits = room2 .0 }, tt)))) $ pass1 ! (init ! 20 refl (tt, record { fits = fit3 })) $ pass1 ! (init ! 18 refl (tt, record { fits = fit4 })) $ pass1 ! (init ! 16 refl (tt, record { fits = fit5 })) $ pass0 ! $
@@ -162,7 +162,7 @@ module _ {M : Type 1} (𝓤 : URA M) (H : Heap 𝓤) (A : Atoms 𝓤) (W : Given
         calls-at ! fm (Core 𝓤 H A at-mem run) known (to-core α γ m7) (and-then ! (load ! (from ! (stop !)) (look ! 12 refl)) (and-then ! (load ! (from ! (stop !)) (look ! 8 refl)) (and-then ! (load ! (from ! (stop !)) (look ! 4 refl)) (and-then ! (load ! (from ! (stop !)) (look ! 21 refl)) (and-then ! (load ! (from ! (stop !)) (look ! 19 refl)) (and-then ! (load ! (from ! (stop !)) (look ! 17 refl)) (no-more !))))))) (λ u.
         use1 W (later (some (λ (r : Built). ((‵ (flft (α ∷ []) fullShare) ⊛ (‵ (flft κ1 q1) ⊛ ‵ (flft κ2 q2) ⊛ ‵ ftrue)) ⊛ ‵ (An.the-row .own r (u ∷ []))) ⊛ raw (ensured 𝓤 H A core.ended (core.clauses 𝓤 H A at-mem run) (α ∷ [], (κ1, (κ2, tt))) (passed γ m7) tt r)))) (id⊢ 𝓤 _) $ await ! tt $ pick ! (λ r.
         split ! $ move ! (1 ∷ []) $ use1 W (some (λ (zs : (Header × (List ℤ × (List Float × (Unit {0} × (Unit {0} × (Unit {0} × Unit {0}))))))). ‵ (lasts core.ended (α ∷ [], (κ1, (κ2, tt))) (passed γ m7) zs) ⊛ raw (fact 𝓤 (Builds h (x1 .now) (x2 .now) x3 x4 x5 (zs .0) (zs .1 .0) (zs .1 .1 .0) r)))) (id⊢ 𝓤 _) $ pick ! (λ zs.
-        split ! $ move ! (1 ∷ []) $ heard ! (Builds h (x1 .now) (x2 .now) x3 x4 x5 (zs .0) (zs .1 .0) (zs .1 .1 .0) r) (λ e. fsplit ! $ move ! (1 ∷ []) $ fsplit ! $ fsplit ! $ move ! (1 ∷ []) $ feqL ! (λ l1. move ! (1 ∷ []) $ fsplit ! $ fsplit ! $ move ! (1 ∷ []) $ feqL ! (λ l2. move ! (1 ∷ []) $ fsplit ! $ move ! (1 ∷ []) $ fsplit ! $ move ! (1 ∷ []) $ fsplit ! $ 
+        split ! $ move ! (1 ∷ []) $ heard ! (Builds h (x1 .now) (x2 .now) x3 x4 x5 (zs .0) (zs .1 .0) (zs .1 .1 .0) r) (λ e. fsplit ! $ move ! (1 ∷ []) $ fsplit ! $ fsplit ! $ move ! (1 ∷ []) $ feqL ! (λ l1. move ! (1 ∷ []) $ fsplit ! $ fsplit ! $ move ! (1 ∷ []) $ feqL ! (λ l2. move ! (1 ∷ []) $ fsplit ! $ move ! (1 ∷ []) $ fsplit ! $ move ! (1 ∷ []) $ fsplit ! $
         move ! (7 ∷ []) $ split ! $ move ! (1 ∷ []) $ peeks ! An.the-row (Is An.the-row) (shows 𝓤 H A An.the-row) r (u ∷ []) (λ is.
         land ! (from ! (stop !)) (init ! 22 refl (LL.lawful An.the-type An′.the-laws 𝓤 H A W .typed r _ (is) .0)) $ rewrite ! 22 (λ (y : Val). ‵ (fat fullShare An′.mir m8 0 y)) (ap only (LL.tells An.the-type An′.the-laws r _ is)) refl $
         move ! (1 ∷ []) $ split ! $ lft-end ! tt $ move ! (0 ∷ 10 ∷ 9 ∷ []) $ use3 W (later (‵ (partAt R fullShare (zs .0) m7 0))) (ref-back 𝓤 H A W R (α ∷ []) γ (zs .0) m7 0) $ await ! tt $
@@ -171,7 +171,7 @@ module _ {M : Type 1} (𝓤 : URA M) (H : Heap 𝓤) (A : Atoms 𝓤) (W : Given
         rewrite ! 1 (λ (y : Val). ‵ (fat fullShare T′.mir m7 0 y)) (ap only (LL.tells T.the-type T′.the-laws (zs .0) _ now)) refl $
         assigns ! (of-opd ! (load ! (from ! (stop !)) (look ! 1 refl))) (from ! (stop !)) (init ! 10 refl (LL.lawful T.the-type T′.the-laws 𝓤 H A W .typed (zs .0) _ (of-header (zs .0) v now) .0)) $
         assigns ! (agg ! (and-then ! (load ! (from ! (stop !)) (look ! 10 refl)) (and-then ! (load ! (from ! (stop !)) (look ! 22 refl)) (no-more !)))) (from ! (stop !)) (init ! 37 refl (LL.lawful Co.the-type Co′.the-laws 𝓤 H A W .typed (out (zs .0) r) _ (of-out (zs .0) r v u now is) .0)) $
-        returns ! (look ! 37 refl) $ forget ! 10 refl $ forget ! 12 refl $ forget ! 14 refl $ forget ! 16 refl $ forget ! 18 refl $ forget ! 20 refl $ forget ! 22 refl $ forget ! 1 refl $ forget ! 25 refl $ forget ! 27 refl $ forget ! 29 refl $ forget ! 31 refl $ forget ! 33 refl $ forget ! 35 refl $ forget ! 37 refl $ 
+        returns ! (look ! 37 refl) $ forget ! 10 refl $ forget ! 12 refl $ forget ! 14 refl $ forget ! 16 refl $ forget ! 18 refl $ forget ! 20 refl $ forget ! 22 refl $ forget ! 1 refl $ forget ! 25 refl $ forget ! 27 refl $ forget ! 29 refl $ forget ! 31 refl $ forget ! 33 refl $ forget ! 35 refl $ forget ! 37 refl $
         move ! (37 ∷ 38 ∷ []) $ free1 ! $ move ! (35 ∷ 36 ∷ []) $ free1 ! $ move ! (33 ∷ 34 ∷ []) $ free1 ! $ move ! (31 ∷ 32 ∷ []) $ free1 ! $ move ! (29 ∷ 30 ∷ []) $ free1 ! $ move ! (27 ∷ 28 ∷ []) $ free1 ! $ move ! (25 ∷ 26 ∷ []) $ free1 ! $ move ! (1 ∷ 24 ∷ []) $ free1 ! $ move ! (21 ∷ 22 ∷ []) $ free1 ! $ move ! (19 ∷ 20 ∷ []) $ free1 ! $ move ! (17 ∷ 18 ∷ []) $ free1 ! $ move ! (15 ∷ 16 ∷ []) $ free1 ! $ move ! (13 ∷ 14 ∷ []) $ free1 ! $ move ! (11 ∷ 12 ∷ []) $ free1 ! $ move ! (9 ∷ 10 ∷ []) $ free1 ! $ free0 ! $
         keep ! (1 ∷ 8 ∷ 7 ∷ []) $ by ! (exits (zs .0) r (zs .1 .0) (zs .1 .1 .0) (of-out (zs .0) r v u now is) e l1 l2)))))))))))))))))))))))))))
 

@@ -153,7 +153,7 @@ module _ {M : Type 1} (𝓤 : URA M) (H : Heap 𝓤) (A : Atoms 𝓤) (W : Given
     walk : Room i32 (length (x1 .now)) → Room f64 (length (x2 .now)) → Room u8 (length (x4 .now)) → ent 𝓤 (onEntry 𝓤 H A entry.signature (κ1, (κ2, (κ3, tt))) (q1, (q2, (q3, tt))) a vals) (WpFn 𝓤 H C Λ code.function (mach h ∷ v1 ∷ v2 ∷ vint w32 x3 ∷ v4 ∷ []) Post)
     walk room1 room2 room4 =
         qed W ((‵ (flft κ1 q1) ⊛ ‵ (flft κ2 q2) ⊛ ‵ (flft κ3 q3) ⊛ ‵ ftrue) ∷ ‵ (owns (R ∷ MutSlice (named 0) κ1 i32 ∷ MutSlice (named 1) κ2 f64 ∷ u32 ∷ ShrSlice (named 2) κ3 u8 ∷ []) a vals) ∷ []) ∵
-        move ! (1 ∷ []) $ fsplit ! $ move ! (1 ∷ []) $ fsplit ! $ move ! (1 ∷ []) $ fsplit ! $ move ! (1 ∷ []) $ fsplit ! $ move ! (1 ∷ []) $ fsplit ! $ use1 W (‵ Own4 ⊛ ‵ Own4) (shr-slice-copy 𝓤 H A W (named 2) κ3 u8 .twice x4 (v4 ∷ [])) $ split ! $ 
+        move ! (1 ∷ []) $ fsplit ! $ move ! (1 ∷ []) $ fsplit ! $ move ! (1 ∷ []) $ fsplit ! $ move ! (1 ∷ []) $ fsplit ! $ move ! (1 ∷ []) $ fsplit ! $ use1 W (‵ Own4 ⊛ ‵ Own4) (shr-slice-copy 𝓤 H A W (named 2) κ3 u8 .twice x4 (v4 ∷ [])) $ split ! $
         enter ! C Λ code.function (mach h ∷ v1 ∷ v2 ∷ vint w32 x3 ∷ v4 ∷ []) _ $
         alloc1 ! (λ m0. alloc1 ! (λ m1. alloc1 ! (λ m2. alloc1 ! (λ m3. alloc1 ! (λ m4. alloc1 ! (λ m5. alloc1 ! (λ m6. alloc1 ! (λ m7. alloc1 ! (λ m8. alloc1 ! (λ m9. alloc1 ! (λ m10. alloc1 ! (λ m11. alloc1 ! (λ m12. alloc1 ! (λ m13. alloc0 ! $ params1 ! $
         pass1 ! (init ! 24 refl (LL.lawful T.the-type T′.the-laws 𝓤 H A W .typed h _ (was) .0)) $ pass1 ! (init ! 22 refl (tt, (tt, (record { fits = room1 .0 }, tt)))) $ pass1 ! (init ! 20 refl (tt, (tt, (record { fits = room2 .0 }, tt)))) $ pass1 ! (init ! 18 refl (tt, record { fits = fit3 })) $ pass1 ! (init ! 16 refl (tt, (tt, (record { fits = room4 .0 }, tt)))) $ pass0 ! $
@@ -168,7 +168,7 @@ module _ {M : Type 1} (𝓤 : URA M) (H : Heap 𝓤) (A : Atoms 𝓤) (W : Given
         calls-at ! fm (Core 𝓤 H A at-mem run) known (to-core α γ m6) (and-then ! (load ! (from ! (stop !)) (look ! 12 refl)) (and-then ! (load ! (from ! (stop !)) (look ! 8 refl)) (and-then ! (load ! (from ! (stop !)) (look ! 4 refl)) (and-then ! (load ! (from ! (stop !)) (look ! 19 refl)) (and-then ! (load ! (from ! (stop !)) (look ! 17 refl)) (no-more !)))))) (λ u.
         use1 W (later (some (λ (r : Taped). ((‵ (flft (α ∷ []) fullShare) ⊛ (‵ (flft κ1 q1) ⊛ ‵ (flft κ2 q2) ⊛ ‵ (flft κ3 q3) ⊛ ‵ ftrue)) ⊛ ‵ (An.the-row .own r (u ∷ []))) ⊛ raw (ensured 𝓤 H A core.ended (core.clauses 𝓤 H A at-mem run) (α ∷ [], (κ1, (κ2, (κ3, tt)))) (passed γ m6) tt r)))) (id⊢ 𝓤 _) $ await ! tt $ pick ! (λ r.
         split ! $ move ! (1 ∷ []) $ use1 W (some (λ (zs : (Header × (List ℤ × (List Float × (Unit {0} × (Unit {0} × Unit {0})))))). ‵ (lasts core.ended (α ∷ [], (κ1, (κ2, (κ3, tt)))) (passed γ m6) zs) ⊛ raw (fact 𝓤 (Tapes h (x1 .now) (x2 .now) x3 (x4 .now) (zs .0) (zs .1 .0) (zs .1 .1 .0) r)))) (id⊢ 𝓤 _) $ pick ! (λ zs.
-        split ! $ move ! (1 ∷ []) $ heard ! (Tapes h (x1 .now) (x2 .now) x3 (x4 .now) (zs .0) (zs .1 .0) (zs .1 .1 .0) r) (λ e. fsplit ! $ move ! (1 ∷ []) $ fsplit ! $ fsplit ! $ move ! (1 ∷ []) $ feqL ! (λ l1. move ! (1 ∷ []) $ fsplit ! $ fsplit ! $ move ! (1 ∷ []) $ feqL ! (λ l2. move ! (1 ∷ []) $ fsplit ! $ move ! (1 ∷ []) $ fsplit ! $ 
+        split ! $ move ! (1 ∷ []) $ heard ! (Tapes h (x1 .now) (x2 .now) x3 (x4 .now) (zs .0) (zs .1 .0) (zs .1 .1 .0) r) (λ e. fsplit ! $ move ! (1 ∷ []) $ fsplit ! $ fsplit ! $ move ! (1 ∷ []) $ feqL ! (λ l1. move ! (1 ∷ []) $ fsplit ! $ fsplit ! $ move ! (1 ∷ []) $ feqL ! (λ l2. move ! (1 ∷ []) $ fsplit ! $ move ! (1 ∷ []) $ fsplit ! $
         move ! (6 ∷ []) $ split ! $ move ! (1 ∷ []) $ peeks ! An.the-row (Is An.the-row) (shows 𝓤 H A An.the-row) r (u ∷ []) (λ is.
         land ! (from ! (stop !)) (init ! 21 refl (LL.lawful An.the-type An′.the-laws 𝓤 H A W .typed r _ (is) .0)) $ rewrite ! 21 (λ (y : Val). ‵ (fat fullShare An′.mir m7 0 y)) (ap only (LL.tells An.the-type An′.the-laws r _ is)) refl $
         move ! (1 ∷ []) $ split ! $ lft-end ! tt $ move ! (0 ∷ 9 ∷ 8 ∷ []) $ use3 W (later (‵ (partAt R fullShare (zs .0) m6 0))) (ref-back 𝓤 H A W R (α ∷ []) γ (zs .0) m6 0) $ await ! tt $
@@ -177,7 +177,7 @@ module _ {M : Type 1} (𝓤 : URA M) (H : Heap 𝓤) (A : Atoms 𝓤) (W : Given
         rewrite ! 1 (λ (y : Val). ‵ (fat fullShare T′.mir m6 0 y)) (ap only (LL.tells T.the-type T′.the-laws (zs .0) _ now)) refl $
         assigns ! (of-opd ! (load ! (from ! (stop !)) (look ! 1 refl))) (from ! (stop !)) (init ! 9 refl (LL.lawful T.the-type T′.the-laws 𝓤 H A W .typed (zs .0) _ (of-header (zs .0) v now) .0)) $
         assigns ! (agg ! (and-then ! (load ! (from ! (stop !)) (look ! 9 refl)) (and-then ! (load ! (from ! (stop !)) (look ! 21 refl)) (no-more !)))) (from ! (stop !)) (init ! 34 refl (LL.lawful Co.the-type Co′.the-laws 𝓤 H A W .typed (out (zs .0) r) _ (of-out (zs .0) r v u now is) .0)) $
-        returns ! (look ! 34 refl) $ forget ! 9 refl $ forget ! 11 refl $ forget ! 13 refl $ forget ! 15 refl $ forget ! 17 refl $ forget ! 19 refl $ forget ! 21 refl $ forget ! 1 refl $ forget ! 24 refl $ forget ! 26 refl $ forget ! 28 refl $ forget ! 30 refl $ forget ! 32 refl $ forget ! 34 refl $ 
+        returns ! (look ! 34 refl) $ forget ! 9 refl $ forget ! 11 refl $ forget ! 13 refl $ forget ! 15 refl $ forget ! 17 refl $ forget ! 19 refl $ forget ! 21 refl $ forget ! 1 refl $ forget ! 24 refl $ forget ! 26 refl $ forget ! 28 refl $ forget ! 30 refl $ forget ! 32 refl $ forget ! 34 refl $
         move ! (34 ∷ 35 ∷ []) $ free1 ! $ move ! (32 ∷ 33 ∷ []) $ free1 ! $ move ! (30 ∷ 31 ∷ []) $ free1 ! $ move ! (28 ∷ 29 ∷ []) $ free1 ! $ move ! (26 ∷ 27 ∷ []) $ free1 ! $ move ! (24 ∷ 25 ∷ []) $ free1 ! $ move ! (1 ∷ 23 ∷ []) $ free1 ! $ move ! (20 ∷ 21 ∷ []) $ free1 ! $ move ! (18 ∷ 19 ∷ []) $ free1 ! $ move ! (16 ∷ 17 ∷ []) $ free1 ! $ move ! (14 ∷ 15 ∷ []) $ free1 ! $ move ! (12 ∷ 13 ∷ []) $ free1 ! $ move ! (10 ∷ 11 ∷ []) $ free1 ! $ move ! (8 ∷ 9 ∷ []) $ free1 ! $ free0 ! $
         keep ! (1 ∷ 7 ∷ 6 ∷ 8 ∷ []) $ by ! (exits (zs .0) r (zs .1 .0) (zs .1 .1 .0) (of-out (zs .0) r v u now is) e l1 l2))))))))))))))))))))))))))
 
