@@ -22,7 +22,7 @@ use Rattle.mesh.specs.State.{State, Entry, nil, free, used, Cell, plusZero, amo
 use Rattle.mesh.specs.Valid.{Valid}
 use Rattle.mesh.specs.Picture.{rowWords, fields, rowOf, table, amounts}
 use Rattle.mesh.specs.Refusal.{refusal}
-use Rattle.mesh.specs.Request.{sentence, setValue, checks, effect, fill, filled, newCell, sentencedCell, measuredCell, no8, no12-sentence, no16}
+use Rattle.mesh.specs.Request.{sentence, setValue, looseChecks, effect, fill, filled, newCell, sentencedCell, measuredCell, no8, no12-sentence, no16}
 use Rattle.table.specs.Words.{wordOf, flagOf}
 use Rattle.geometry.proofs.Bools.{yes-is, is-yes, no-is}
 use Rattle.geometry.proofs.Lists.{map-set}
@@ -178,9 +178,9 @@ module _ (s : State) (v : Valid s) (n : ℕ) where
   its-new : (d : Named s n) (f : Cell → Cell) → newCell s n f ≡ some (f (d .its))
   its-new d f = ap (λ (e : Entry). Option·map f (cellOf e)) (d .is-entry)
 
-  module _ (ok : refusal (checks s (sentence n)) ≡ 0) where
+  module _ (ok : refusal (looseChecks s (sentence n)) ≡ 0) where
     sentence-named : Named s n
-    unfolding checks
+    unfolding looseChecks
     sentence-named = named s v n (no8 s n ∷ no12-sentence s n ∷ []) ok .0
 
     pub sentence-table : sentenceTable (table s) n ≡ table (effect s (sentence n))
@@ -201,9 +201,9 @@ module _ (s : State) (v : Valid s) (n : ℕ) where
 
   -- ---- "set value, status 1"
 
-  module _ (x : Float) (ok : refusal (checks s (setValue n x)) ≡ 0) where
+  module _ (x : Float) (ok : refusal (looseChecks s (setValue n x)) ≡ 0) where
     set-named : Named s n
-    unfolding checks
+    unfolding looseChecks
     set-named = named s v n (no8 s n ∷ no16 x ∷ []) ok .0
 
     pub set-table : measureTable (table s) n ≡ table (effect s (setValue n x))

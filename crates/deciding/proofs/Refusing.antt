@@ -13,7 +13,7 @@ use Rattle.mesh.specs.State.{State, Entry, placeOf, entry, placeAt, gridOf, cap
 use Rattle.mesh.specs.Valid.{Valid}
 use Rattle.mesh.specs.Picture.{table}
 use Rattle.mesh.specs.Refusal.{Check, _if_, refusal}
-use Rattle.mesh.specs.Request.{refine, sentence, remove, kill, setValue, checks, withKids, onGround, groundCells, no6, no7}
+use Rattle.mesh.specs.Request.{refine, sentence, remove, kill, setValue, looseChecks, checks, withKids, onGround, groundCells, no6, no7}
 use Rattle.table.specs.Words.{depthOf}
 use Rattle.numbering.proofs.Naming.{Named, named}
 use Rattle.pictures.proofs.Linked.{depth-of}
@@ -67,7 +67,7 @@ module _ (s : State) (v : Valid s) (n : ℕ) where
   -- ---- the five kinds
 
   pub refine-refusal : refineRefusal (table s) (capacity s) (base (gridOf s)) n ≡ refusal (checks s (refine n))
-  unfolding refineRefusal checks
+  unfolding refineRefusal looseChecks checks
   refine-refusal =
       alike-refusal (refineRows (table s) (capacity s) (base g) n) (checks s (refine n)) (opened (λ d.
       next (kids-there d) (λ _.
@@ -76,21 +76,21 @@ module _ (s : State) (v : Valid s) (n : ℕ) where
       next (enough-row s v (lacking (table s) (capacity s) n) ∙ rw (lacking-row s v n (placeAt es n) (stands-there d) (d .is-there))) (λ _. rest))))))
 
   pub sentence-refusal : sentenceRefusal (table s) (capacity s) (base (gridOf s)) n ≡ refusal (checks s (sentence n))
-  unfolding sentenceRefusal checks
+  unfolding sentenceRefusal looseChecks checks
   sentence-refusal =
       alike-refusal (sentenceRows (table s) (capacity s) (base g) n) (checks s (sentence n)) (opened (λ d.
       next (kids-there d) (λ _.
       next (depth-there d (base g)) (λ _. rest))))
 
   pub remove-refusal : removeRefusal (table s) (capacity s) n ≡ refusal (checks s (remove n))
-  unfolding removeRefusal checks
+  unfolding removeRefusal looseChecks checks
   remove-refusal =
       alike-refusal (removeRows (table s) (capacity s) n) (checks s (remove n)) (opened (λ d.
       next (ap not (kids-there d)) (λ _.
       next (ap not (doomed-row s v n (placeAt es n) (stands-there d))) (λ _. rest))))
 
   pub kill-refusal : killRefusal (table s) (capacity s) (base (gridOf s)) n ≡ refusal (checks s (kill n))
-  unfolding killRefusal checks
+  unfolding killRefusal looseChecks checks
   kill-refusal =
       alike-refusal (killRows (table s) (capacity s) (base g) n) (checks s (kill n)) (opened (λ d.
       next (ap not (depth-there d (base g))) (λ a.
@@ -98,5 +98,5 @@ module _ (s : State) (v : Valid s) (n : ℕ) where
       next (ap not (other-row s v n d (eqb-true _ _ (not-false (onGround s n) a))) ∙ Bool·not-not (eqb (groundCells s) 1)) (λ _. rest)))))
 
   pub set-refusal : (x : Float) → setRefusal (table s) (capacity s) n x ≡ refusal (checks s (setValue n x))
-  unfolding setRefusal checks
+  unfolding setRefusal looseChecks checks
   set-refusal x = alike-refusal (setRows (table s) (capacity s) n x) (checks s (setValue n x)) (opened (λ d. next (kids-there d) (λ _. rest)))

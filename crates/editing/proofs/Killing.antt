@@ -20,7 +20,7 @@ use Rattle.mesh.specs.State.{State, Entry, plusZero, placeOf, stands, entry, ce
 use Rattle.mesh.specs.Valid.{Valid}
 use Rattle.mesh.specs.Picture.{table, amounts}
 use Rattle.mesh.specs.Refusal.{refusal}
-use Rattle.mesh.specs.Request.{kill, checks, effect, fill, prune}
+use Rattle.mesh.specs.Request.{kill, looseChecks, effect, fill, prune}
 use Rattle.table.specs.Words.{code, wordOf, linkOf}
 use Rattle.geometry.proofs.Bools.{no-is}
 use Rattle.geometry.proofs.Places.{In, in-one}
@@ -58,7 +58,7 @@ use Rattle.editing.proofs.Withering.{Budding, Withered, dropCorners, co
 use Rattle.editing.proofs.Redoing.{Aim, aimed, Fit, nearer-right, Redone}
 use Rattle.editing.proofs.Bordering.{borderOf, Aside, levels-redone}
 
-module _ (s : State) (v : Valid s) (n : ℕ) (h : refusal (checks s (kill n)) ≡ 0) where
+module _ (s : State) (v : Valid s) (n : ℕ) (h : refusal (looseChecks s (kill n)) ≡ 0) where
   abbrev g : Grid
   g = gridOf s
 

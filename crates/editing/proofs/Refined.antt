@@ -16,7 +16,7 @@ use Rattle.mesh.specs.State.{State, Entry, Cell, Value, blank, measured, carrie
 use Rattle.mesh.specs.Valid.{Valid}
 use Rattle.mesh.specs.Picture.{table}
 use Rattle.mesh.specs.Refusal.{refusal}
-use Rattle.mesh.specs.Request.{refine, wanted, missing, checks, give, fill, inherited, kidCell, effect}
+use Rattle.mesh.specs.Request.{refine, wanted, missing, looseChecks, give, fill, inherited, kidCell, effect}
 use Rattle.geometry.proofs.Bools.{no-is}
 use Rattle.geometry.proofs.Places.{In}
 use Rattle.geometry.proofs.Kids.{up, up-is, in-parent}
@@ -193,7 +193,7 @@ module _ (s : State) (v : Valid s) (n : ℕ) (p : Place) (x : Cell) (r : Refinab
 
 -- ---- an accepted refinement
 
-module _ (s : State) (v : Valid s) (n : ℕ) (ok : refusal (checks s (refine n)) ≡ 0) where
+module _ (s : State) (v : Valid s) (n : ℕ) (ok : refusal (looseChecks s (refine n)) ≡ 0) where
   -- with a number below which none is free, and at the end with another one
   pub refine-table : (low : ℕ) → 1 ≤ low → ((k : ℕ) → k < low → isFree (entry (s .entries) k) ≡ false)
       → let t = refineTable (capacity s) (base (gridOf s)) n (record { words = table s; low = low }) in

@@ -16,7 +16,7 @@ use Rattle.mesh.specs.State.{State, Entry, nil, free, used, Cell, Value, blank,
 use Rattle.mesh.specs.Valid.{Valid}
 use Rattle.mesh.specs.Picture.{table, amounts}
 use Rattle.mesh.specs.Refusal.{refusal}
-use Rattle.mesh.specs.Request.{refine, wanted, checks, give, filled, fill, inherited, kidCell, effect}
+use Rattle.mesh.specs.Request.{refine, wanted, looseChecks, give, filled, fill, inherited, kidCell, effect}
 use Rattle.geometry.proofs.Bools.{is-yes, no-is}
 use Rattle.geometry.proofs.Places.{In}
 use Rattle.geometry.proofs.Kids.{in-parent, parent-depth}
@@ -125,5 +125,5 @@ module _ (s : State) (v : Valid s) (n : ℕ) (p : Place) (x : Cell) (r : Refinab
 
 -- ---- an accepted refinement
 
-pub refine-values : (s : State) → Valid s → (n : ℕ) → refusal (checks s (refine n)) ≡ 0 → refineValues (table (effect s (refine n))) (capacity s) n (amounts s) ≡ amounts (effect s (refine n))
+pub refine-values : (s : State) → Valid s → (n : ℕ) → refusal (looseChecks s (refine n)) ≡ 0 → refineValues (table (effect s (refine n))) (capacity s) n (amounts s) ≡ amounts (effect s (refine n))
 refine-values s v n ok = let (p, x, r) = refinable s v n ok in rw (effect-is s v n p x r) (refined-values s v n p x r)

@@ -18,7 +18,7 @@ use Rattle.mesh.specs.State.{State, Entry, plusZero, placeOf, stands, entry, ce
 use Rattle.mesh.specs.Valid.{Valid}
 use Rattle.mesh.specs.Picture.{table, amounts}
 use Rattle.mesh.specs.Refusal.{refusal}
-use Rattle.mesh.specs.Request.{remove, checks, effect, wanted, fill, prune}
+use Rattle.mesh.specs.Request.{remove, looseChecks, effect, wanted, fill, prune}
 use Rattle.geometry.proofs.Bools.{no-is}
 use Rattle.geometry.proofs.Places.{In}
 use Rattle.geometry.proofs.Kids.{in-parent, parent-depth, leaf-cell}
@@ -50,7 +50,7 @@ use Rattle.editing.proofs.Dropping.{Dropped, dropped-all}
 use Rattle.editing.proofs.Between.{Between, in-between}
 use Rattle.editing.proofs.Pruned.{prune-values}
 
-module _ (s : State) (v : Valid s) (n : ℕ) (h : refusal (checks s (remove n)) ≡ 0) where
+module _ (s : State) (v : Valid s) (n : ℕ) (h : refusal (looseChecks s (remove n)) ≡ 0) where
   abbrev g : Grid
   g = gridOf s
 

@@ -15,7 +15,7 @@ use Rattle.mesh.specs.Tools.{any, all}
 use Rattle.mesh.specs.Place.{Grid}
 use Rattle.mesh.specs.State.{State}
 use Rattle.mesh.specs.Refusal.{Check, _if_, refusal}
-use Rattle.mesh.specs.Request.{Request, refine, sentence, remove, kill, setValue, checks, Result, refused, accepted, request}
+use Rattle.mesh.specs.Request.{Request, refine, sentence, remove, kill, setValue, looseChecks, checks, Result, refused, accepted, request}
 use Rattle.mesh.specs.Tape.{Kind, kind, Step, stop, next, answered, stepBy, runFrom, run}
 use Rattle.mesh.specs.Scan.{scanChecks}
 use Rattle.mesh.specs.Lookup.{lookupChecks}
@@ -63,7 +63,7 @@ listed : (s : State) (r : Request) → T (all (among ofTapes) (0 ∷ numbers (ch
 listed s r h = among-more (0 ∷ numbers (checks s r)) ofTapes h (refusal (checks s r)) (refusal-among (checks s r))
 
 checks-among : (s : State) (r : Request) → T (among ofTapes (refusal (checks s r)))
-unfolding checks
+unfolding looseChecks checks
 checks-among s (refine n) = listed s (refine n) tt
 checks-among s (sentence n) = listed s (sentence n) tt
 checks-among s (remove n) = listed s (remove n) tt

@@ -10,7 +10,7 @@ use lib.Dec.{T, leb, leb→le}
 use borrow.Author.Tests.{ne-eqb}
 use Rattle.mesh.specs.State.{State}
 use Rattle.mesh.specs.Refusal.{Check, _if_, refusal}
-use Rattle.mesh.specs.Request.{Request, refine, sentence, remove, kill, setValue, checks, effect, marked, refused, accepted, request}
+use Rattle.mesh.specs.Request.{Request, refine, sentence, remove, kill, setValue, looseChecks, checks, effect, marked, refused, accepted, request}
 use Rattle.geometry.proofs.Bools.{and-left, and-right}
 use Rattle.numbering.proofs.Checks.{from, refused-from}
 use Rattle.laws.specs.Exactly.{Clear, Given}
@@ -63,7 +63,7 @@ given-number m z cs n t g = go (g .before) (rw (g .in-order) at t)
 module _ (s : State) where
   -- a request's refusals are 6 and above
   checks-from : (r : Request) → T (from 6 (checks s r))
-  unfolding checks
+  unfolding looseChecks checks
   checks-from (refine n) = tt
   checks-from (sentence n) = tt
   checks-from (remove n) = tt

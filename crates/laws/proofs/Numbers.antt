@@ -15,7 +15,7 @@ use Rattle.mesh.specs.State.{State, nil, free, used, Cell, placeOf, isFree, ent
 use Rattle.mesh.specs.Valid.{Valid}
 use Rattle.mesh.specs.Build.{full, numbered, blankCell, built}
 use Rattle.mesh.specs.Refusal.{refusal}
-use Rattle.mesh.specs.Request.{refine, wanted, checks, give, newCell, kidCell, effect, marked}
+use Rattle.mesh.specs.Request.{refine, wanted, looseChecks, give, newCell, kidCell, effect, marked}
 use Rattle.geometry.proofs.Bools.{yes-is, is-yes}
 use Rattle.geometry.proofs.Places.{In}
 use Rattle.geometry.proofs.Distinct.{append-distinct}
@@ -48,7 +48,7 @@ built-numbers g cap = written (numbered g)
 
 -- ---- a refinement
 
-module _ (s : State) (v : Valid s) (n : ℕ) (ok : refusal (checks s (refine n)) ≡ 0) where
+module _ (s : State) (v : Valid s) (n : ℕ) (ok : refusal (looseChecks s (refine n)) ≡ 0) where
   abbrev t : State
   t = effect s (refine n)
 

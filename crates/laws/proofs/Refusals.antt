@@ -1,22 +1,16 @@
--- A refused call changes nothing and answers 0 for every number, each call's definition says so by its form; and a refinement is refused with
--- 11 exactly if fewer numbers are free than are missing.
+-- A refused call changes nothing and answers 0 for every number: each call's definition says so by its form.
 -- Assumes nothing.
 use Prim.Native.Nat.{ℕ, zero, suc, _≤_}
 use native.Mathlib.Omega.{arith}
 use mathlib.Core.Path.{_≡_, refl, sym, ap, _∙_}
 use mathlib.Core.Logic.{_≢_}
-use mathlib.Core.Bool.{cond}
-use mathlib.Core.List.{List, [], _∷_}
-use lib.Dec.{ltb}
-use lib.ListN.{length}
+use mathlib.Core.List.{List}
 use lib.IntN.{ℤ}
 use Rattle.mesh.specs.Place.{Grid}
-use Rattle.mesh.specs.State.{State, blank, placeAt, freeCount}
+use Rattle.mesh.specs.State.{blank}
 use Rattle.mesh.specs.Refusal.{refusal}
-use Rattle.mesh.specs.Request.{refine, missing, no6, no7, no8, no9, no10, no11, checks}
 use Rattle.mesh.specs.Tape.{run}
 use Rattle.mesh.specs.Call.{Lent, picture, stateOf, lentChecks, unless, Built, buildCall, Taped, tapeCall, Wrote, scanCall, pageCall, Found, lookupCall}
-use Rattle.numbering.proofs.Checks.{past}
 use Rattle.laws.proofs.Prefixes.{run-refused}
 
 -- ---- what a call answers
@@ -83,10 +77,3 @@ page-refused cap l out = unless-named _ _ (λ (r : Wrote). r .why) (λ n. refl) 
 pub lookup-refused-call : (cap : ℕ) (l : Lent) (u v : ℕ) → lookupCall cap l u v .why ≢ 0 → lookupCall cap l u v ≡ record { why = lookupCall cap l u v .why; leaf = 0; value = blank }
 unfolding lookupCall
 lookup-refused-call cap l u v = unless-named _ _ (λ (r : Found). r .why) (λ n. refl) refl _
-
--- ---- "fewer free numbers than needed"
-
-pub refuse-eleven : (s : State) (n : ℕ) → refusal (no6 s n ∷ no7 s n ∷ no8 s n ∷ no9 s n ∷ no10 s n ∷ []) ≡ 0
-    → refusal (checks s (refine n)) ≡ cond (ltb (freeCount (s .entries)) (length (missing s (placeAt (s .entries) n)))) 11 0
-unfolding refusal checks
-refuse-eleven s n = past (no6 s n ∷ no7 s n ∷ no8 s n ∷ no9 s n ∷ no10 s n ∷ []) (no11 s n ∷ []) tt

@@ -11,8 +11,9 @@ use Rattle.mesh.specs.Tools.{any}
 use Rattle.mesh.specs.State.{State, Header, Cell, Value, blank, measured, carried, gridOf}
 use Rattle.mesh.specs.Valid.{Valid, ValueRule}
 use Rattle.mesh.specs.Refusal.{refusal}
-use Rattle.mesh.specs.Request.{Request, refine, sentence, remove, kill, setValue, checks, effect, marked, accepted, request}
+use Rattle.mesh.specs.Request.{Request, refine, sentence, remove, kill, setValue, looseChecks, effect, marked, accepted, request}
 use Rattle.numbering.proofs.Numbers.{contents}
+use Rattle.numbering.proofs.Checks.{loosely}
 use Rattle.numbering.proofs.Keeping.{Kept}
 use Rattle.numbering.proofs.Marking.{sentence-kept, setValue-kept}
 use Rattle.numbering.proofs.Taking.{remove-kept, kill-kept}
@@ -70,7 +71,7 @@ kept-effected s r ps x none-new rule k = record {
   numbers = kept-numbers (deedOf (s .entries) r) none-new k;
 }
 
-effected : (s : State) → Valid s → (r : Request) → refusal (checks s r) ≡ 0 → Effected s r
+effected : (s : State) → Valid s → (r : Request) → refusal (looseChecks s r) ≡ 0 → Effected s r
 unfolding setRule
 effected s v (refine n) ok = record {
   valid = refine-valid s v n ok;
@@ -98,4 +99,4 @@ marked-done s r k = record {
 pub request-done : (s : State) → Valid s → (r : Request) (t : State) → request s r ≡ accepted t → Done s r t
 request-done s v r t h =
     let (ok, e) = accepted-is s r t h in
-    subst (Done s r) (sym e) (marked-done s r (effected s v r ok))
+    subst (Done s r) (sym e) (marked-done s r (effected s v r (loosely s r ok)))

@@ -11,7 +11,7 @@ use Rattle.mesh.specs.Decode.{decode}
 use Rattle.mesh.specs.Test.{meshTests, cornersThere, valueTest, tests, valid, sound}
 use Rattle.mesh.specs.Refusal.{refusal}
 use Rattle.mesh.specs.Build.{full, nextLevel, levels, numbered, built}
-use Rattle.mesh.specs.Request.{wanted, missing, groundCells, checks, supply, give, fill, prune, effect, marked, request}
+use Rattle.mesh.specs.Request.{wanted, missing, groundCells, looseChecks, checks, supply, give, fill, prune, effect, marked, request}
 use Rattle.mesh.specs.Tape.{runFrom, run}
 use Rattle.mesh.specs.Scan.{listed, walk, scan, scanChecks}
 use Rattle.mesh.specs.Lookup.{holds, leafHolding, lookup, lookupChecks}
@@ -22,7 +22,7 @@ use Rattle.mesh.specs.Grids.{Hold, grids}
 
 -- every rule that the grids are worked out by
 unfoldable rules : Unit {0}
-unfolding same base level toNorth toEast toSouth toWest step kid kids parent around home touched under patch hasKids leaf wallH wallV ends sides derived flags cells number freeCount inUse nextFree fields rowOf table amounts decode meshTests cornersThere valueTest tests valid sound refusal full nextLevel levels numbered built wanted missing groundCells checks supply give fill prune effect marked request runFrom run listed walk scan scanChecks holds leafHolding lookup lookupChecks decimalIn decimal hexIn line leaves leafLine body page lentChecks unless checkCall buildChecks buildCall tapeCall scanCall lookupCall refusedLine headChecks tapePage program Count.leadingZeros Ieee.toBits Ieee.size Ieee.span Ieee.climb
+unfolding same base level toNorth toEast toSouth toWest step kid kids parent around home touched under patch hasKids leaf wallH wallV ends sides derived flags cells number freeCount inUse nextFree fields rowOf table amounts decode meshTests cornersThere valueTest tests valid sound refusal full nextLevel levels numbered built wanted missing groundCells looseChecks checks supply give fill prune effect marked request runFrom run listed walk scan scanChecks holds leafHolding lookup lookupChecks decimalIn decimal hexIn line leaves leafLine body page lentChecks unless checkCall buildChecks buildCall tapeCall scanCall lookupCall refusedLine headChecks tapePage program Count.leadingZeros Ieee.toBits Ieee.size Ieee.span Ieee.climb
 rules = tt
 
 pub references : Hold grids

@@ -85,13 +85,17 @@ module _ (s : State) (n : ℕ) where
 abbrev pub no16 : Float → Check
 no16 x = 16 if not (finite x)
 
--- the column 'Checks in order' of 01's table
+-- the column 'Checks in order' of 01's table: what a request's effect rests on
+unfoldable pub looseChecks : State → Request → List Check
+looseChecks s (refine n) = no6 s n ∷ no7 s n ∷ no8 s n ∷ no9 s n ∷ no10 s n ∷ no11 s n ∷ []
+looseChecks s (sentence n) = no6 s n ∷ no7 s n ∷ no8 s n ∷ no12-sentence s n ∷ []
+looseChecks s (remove n) = no6 s n ∷ no7 s n ∷ no13 s n ∷ no14 s n ∷ []
+looseChecks s (kill n) = no6 s n ∷ no7 s n ∷ no12-kill s n ∷ no8 s n ∷ no15 s n ∷ []
+looseChecks s (setValue n x) = no6 s n ∷ no7 s n ∷ no8 s n ∷ no16 x ∷ []
+
+-- what a request is refused by
 unfoldable pub checks : State → Request → List Check
-checks s (refine n) = no6 s n ∷ no7 s n ∷ no8 s n ∷ no9 s n ∷ no10 s n ∷ no11 s n ∷ []
-checks s (sentence n) = no6 s n ∷ no7 s n ∷ no8 s n ∷ no12-sentence s n ∷ []
-checks s (remove n) = no6 s n ∷ no7 s n ∷ no13 s n ∷ no14 s n ∷ []
-checks s (kill n) = no6 s n ∷ no7 s n ∷ no12-kill s n ∷ no8 s n ∷ no15 s n ∷ []
-checks s (setValue n x) = no6 s n ∷ no7 s n ∷ no8 s n ∷ no16 x ∷ []
+checks s r = looseChecks s r
 
 -- ---- what the requests make
 

@@ -7,7 +7,9 @@ use mathlib.Core.Logic.{_≢_}
 use mathlib.Core.Bool.{Bool, true, false, _&&_}
 use mathlib.Core.List.{List, [], _∷_, _++_}
 use lib.Dec.{T, leb, leb→le}
+use Rattle.mesh.specs.State.{State}
 use Rattle.mesh.specs.Refusal.{Check, _if_, refusal}
+use Rattle.mesh.specs.Request.{Request, looseChecks, checks}
 use Rattle.geometry.proofs.Bools.{and-left, and-right}
 
 -- the first check passes, and so do the others
@@ -39,3 +41,8 @@ unfolding refusal
 kept [] ds h = absurd (h refl)
 kept ((k if true) ∷ cs) ds h = refl
 kept ((k if false) ∷ cs) ds h = kept cs ds h
+
+-- a request that is not refused passes the checks that its effect rests on
+pub loosely : (s : State) (r : Request) → refusal (checks s r) ≡ 0 → refusal (looseChecks s r) ≡ 0
+unfolding checks
+loosely s r ok = ok

@@ -16,7 +16,7 @@ use Rattle.mesh.specs.Mesh.{Mesh}
 use Rattle.mesh.specs.State.{State, Entry, Cell, cellOf, cells, number, placeAt, gridOf, withEntries}
 use Rattle.mesh.specs.Valid.{Valid, finite}
 use Rattle.mesh.specs.Refusal.{refusal}
-use Rattle.mesh.specs.Request.{sentence, setValue, checks, effect, fill, sentencedCell, measuredCell, newCell, withKids, onGround, no8, no12-sentence, no16}
+use Rattle.mesh.specs.Request.{sentence, setValue, looseChecks, effect, fill, sentencedCell, measuredCell, newCell, withKids, onGround, no8, no12-sentence, no16}
 use Rattle.geometry.proofs.Bools.{is-yes}
 use Rattle.geometry.proofs.Places.{In, in-one}
 use Rattle.geometry.proofs.Kids.{leaf-kidless}
@@ -63,8 +63,8 @@ module _ (s : State) (v : Valid s) (n : ℕ) where
 
   -- ---- "sentence"
 
-  pub sentence-kept : refusal (checks s (sentence n)) ≡ 0 → Kept s (placeAt (s .entries) n ∷ []) (Option·map sentencedCell (contents (s .entries) (placeAt (s .entries) n))) (effect s (sentence n))
-  unfolding checks effect
+  pub sentence-kept : refusal (looseChecks s (sentence n)) ≡ 0 → Kept s (placeAt (s .entries) n ∷ []) (Option·map sentencedCell (contents (s .entries) (placeAt (s .entries) n))) (effect s (sentence n))
+  unfolding looseChecks effect
   sentence-kept h =
       let (d, h₁) = named s v n (no8 s n ∷ no12-sentence s n ∷ []) h in
       let (a, h₂) = passes 8 (withKids s n) (no12-sentence s n ∷ []) (λ z. omega arith) h₁ in
@@ -75,8 +75,8 @@ module _ (s : State) (v : Valid s) (n : ℕ) where
         value = valid-rules s v .each p (d .its) (d .is-contents) .value;
       })
 
-  pub sentence-cells : refusal (checks s (sentence n)) ≡ 0 → (q : Place) → cells (effect s (sentence n) .entries) q ≡ cells (s .entries) q
-  unfolding checks
+  pub sentence-cells : refusal (looseChecks s (sentence n)) ≡ 0 → (q : Place) → cells (effect s (sentence n) .entries) q ≡ cells (s .entries) q
+  unfolding looseChecks
   sentence-cells h = let (d, _) = named s v n (no8 s n ∷ no12-sentence s n ∷ []) h in kept-cells (sentence-kept h) (rw (d .is-contents) tt) (named-in d)
 
   pub sentence-number : (q : Place) → number (effect s (sentence n) .entries) q ≡ number (s .entries) q
@@ -86,8 +86,8 @@ module _ (s : State) (v : Valid s) (n : ℕ) where
   -- ---- "set value, status 1"
 
   module _ (x : Float) where
-    pub setValue-kept : refusal (checks s (setValue n x)) ≡ 0 → Kept s (placeAt (s .entries) n ∷ []) (Option·map (measuredCell x) (contents (s .entries) (placeAt (s .entries) n))) (effect s (setValue n x))
-    unfolding checks effect
+    pub setValue-kept : refusal (looseChecks s (setValue n x)) ≡ 0 → Kept s (placeAt (s .entries) n ∷ []) (Option·map (measuredCell x) (contents (s .entries) (placeAt (s .entries) n))) (effect s (setValue n x))
+    unfolding looseChecks effect
     setValue-kept h =
         let (d, h₁) = named s v n (no8 s n ∷ no16 x ∷ []) h in
         let (a, h₂) = passes 8 (withKids s n) (no16 x ∷ []) (λ z. omega arith) h₁ in
@@ -97,8 +97,8 @@ module _ (s : State) (v : Valid s) (n : ℕ) where
           value = is-yes (finite x) (not-false (finite x) b);
         })
 
-    pub setValue-cells : refusal (checks s (setValue n x)) ≡ 0 → (q : Place) → cells (effect s (setValue n x) .entries) q ≡ cells (s .entries) q
-    unfolding checks
+    pub setValue-cells : refusal (looseChecks s (setValue n x)) ≡ 0 → (q : Place) → cells (effect s (setValue n x) .entries) q ≡ cells (s .entries) q
+    unfolding looseChecks
     setValue-cells h = let (d, _) = named s v n (no8 s n ∷ no16 x ∷ []) h in kept-cells (setValue-kept h) (rw (d .is-contents) tt) (named-in d)
 
     pub setValue-number : (q : Place) → number (effect s (setValue n x) .entries) q ≡ number (s .entries) q

@@ -17,7 +17,7 @@ use Rattle.mesh.specs.Mesh.{leaf, patch}
 use Rattle.mesh.specs.State.{State, Header, Entry, used, Cell, Value, blank, measured, carried, placeOf, valueOf, isNil, isUsed, isCell, stands, entry, cells, number, numberOf, placeAt, freeCount, inUse, gridOf, withEntries, nextFree}
 use Rattle.mesh.specs.Valid.{Valid, ValueRule, aboveOf}
 use Rattle.mesh.specs.Refusal.{refusal}
-use Rattle.mesh.specs.Request.{refine, wanted, missing, checks, give, filled, fill, inherited, kidCell, effect}
+use Rattle.mesh.specs.Request.{refine, wanted, missing, looseChecks, give, filled, fill, inherited, kidCell, effect}
 use Rattle.geometry.proofs.Bools.{is-yes, no-is}
 use Rattle.geometry.proofs.Lists.{keep-length, count-map}
 use Rattle.geometry.proofs.Places.{In}
@@ -41,8 +41,8 @@ pub record Refinable (s : State) (n : ℕ) (p : Place) (x : Cell) : Type 0 where
   pub low : p .depth < base (gridOf s) + 12
   pub room : lacking (s .entries) (wanted (gridOf s) p) ≤ freeCount (s .entries)
 
-pub refinable : (s : State) → Valid s → (n : ℕ) → refusal (checks s (refine n)) ≡ 0 → (p : Place) × (x : Cell) × Refinable s n p x
-unfolding checks missing
+pub refinable : (s : State) → Valid s → (n : ℕ) → refusal (looseChecks s (refine n)) ≡ 0 → (p : Place) × (x : Cell) × Refinable s n p x
+unfolding looseChecks missing
 refinable s v n ok =
     let (a₁, h₁) = passes 6 _ _ (λ z. omega arith) ok in
     let (a₂, h₂) = passes 7 _ _ (λ z. omega arith) h₁ in
@@ -279,7 +279,7 @@ module _ (s : State) (v : Valid s) (n : ℕ) (p : Place) (x : Cell) (r : Refinab
 
 -- ---- an accepted refinement
 
-module _ (s : State) (v : Valid s) (n : ℕ) (ok : refusal (checks s (refine n)) ≡ 0) where
+module _ (s : State) (v : Valid s) (n : ℕ) (ok : refusal (looseChecks s (refine n)) ≡ 0) where
   pub refine-frame : (effect s (refine n) .header ≡ s .header) × (length (effect s (refine n) .entries) ≡ length (s .entries))
   refine-frame = let (p, x, r) = refinable s v n ok in effect-frame s v n p x r
 
@@ -303,5 +303,5 @@ module _ (s : State) (v : Valid s) (n : ℕ) (ok : refusal (checks s (refine n))
   pub refine-takes : (1 ≤ length (missing s (placeAt (s .entries) n))) × (length (missing s (placeAt (s .entries) n)) ≤ 9) × (inUse (effect s (refine n) .entries) ≡ inUse (s .entries) + length (missing s (placeAt (s .entries) n)))
   refine-takes = let (p, x, r) = refinable s v n ok in effect-takes s v n p x r
 
-pub refine-valid : (s : State) → Valid s → (n : ℕ) → refusal (checks s (refine n)) ≡ 0 → Valid (effect s (refine n))
+pub refine-valid : (s : State) → Valid s → (n : ℕ) → refusal (looseChecks s (refine n)) ≡ 0 → Valid (effect s (refine n))
 refine-valid s v n ok = let (p, x, r) = refinable s v n ok in rw (effect-is s v n p x r) (after-valid s v n p x r)

@@ -18,7 +18,7 @@ use Rattle.mesh.specs.State.{State, Entry, nil, free, used, Cell, placeOf, isSe
 use Rattle.mesh.specs.Valid.{Valid}
 use Rattle.mesh.specs.Test.{ofCell}
 use Rattle.mesh.specs.Refusal.{refusal}
-use Rattle.mesh.specs.Request.{remove, kill, checks, effect, fill, prune, groundCells, onGround, withKids, kidsSentenced, no8, no12-kill, no13, no14, no15}
+use Rattle.mesh.specs.Request.{remove, kill, looseChecks, effect, fill, prune, groundCells, onGround, withKids, kidsSentenced, no8, no12-kill, no13, no14, no15}
 use Rattle.geometry.proofs.Bools.{is-yes, not-not}
 use Rattle.geometry.proofs.Lists.{first-hit, count-set, first-found}
 use Rattle.geometry.proofs.Places.{In}
@@ -94,8 +94,8 @@ module _ (s : State) (v : Valid s) (n : ℕ) where
       go (some x) e u = rw (cells-held (s .entries) (valid-numbered v)) (valid-rules s v .each q x e .sentence u .1)
 
   -- the cell and its kids, which are leaves
-  pub remove-passed : refusal (checks s (remove n)) ≡ 0 → Named s n × ((q : Place) → parent q ≡ some (placeAt (s .entries) n) → T (leaf (gridOf s) (cells (s .entries)) q))
-  unfolding checks
+  pub remove-passed : refusal (looseChecks s (remove n)) ≡ 0 → Named s n × ((q : Place) → parent q ≡ some (placeAt (s .entries) n) → T (leaf (gridOf s) (cells (s .entries)) q))
+  unfolding looseChecks
   remove-passed h =
       let (d, h₁) = named s v n (no13 s n ∷ no14 s n ∷ []) h in
       let (_, h₂) = passes 13 (not (withKids s n)) (no14 s n ∷ []) (λ z. omega arith) h₁ in
@@ -103,7 +103,7 @@ module _ (s : State) (v : Valid s) (n : ℕ) where
       let all : T (kidsSentenced s n) = is-yes (kidsSentenced s n) (not-false (kidsSentenced s n) b) in
       (d, λ q e. sentenced-leaf q (all-kids (λ q. isSentenced (entry (s .entries) (number (s .entries) q))) p all q e))
 
-  pub remove-kept : refusal (checks s (remove n)) ≡ 0 → Kept s (kids (placeAt (s .entries) n)) none (effect s (remove n))
+  pub remove-kept : refusal (looseChecks s (remove n)) ≡ 0 → Kept s (kids (placeAt (s .entries) n)) none (effect s (remove n))
   unfolding effect
   remove-kept h =
       let (d, leaves) = remove-passed h in
@@ -125,9 +125,9 @@ module _ (s : State) (v : Valid s) (n : ℕ) where
       apart k o x is other z = other (v .once k n p (ap placeOf is ∙ ap some z) (ap placeOf (d .is-entry)))
 
   -- the cell, which is a leaf on level 0, and another one there
-  pub kill-passed : refusal (checks s (kill n)) ≡ 0 → Named s n × (placeAt (s .entries) n .depth ≡ base (gridOf s)) × T (leaf (gridOf s) (cells (s .entries)) (placeAt (s .entries) n))
+  pub kill-passed : refusal (looseChecks s (kill n)) ≡ 0 → Named s n × (placeAt (s .entries) n .depth ≡ base (gridOf s)) × T (leaf (gridOf s) (cells (s .entries)) (placeAt (s .entries) n))
       × ((o : Place) × (o .depth ≡ base (gridOf s)) × T (cells (s .entries) o) × (o ≡ placeAt (s .entries) n → ⊥))
-  unfolding checks
+  unfolding looseChecks
   kill-passed h =
       let (d, h₁) = named s v n (no12-kill s n ∷ no8 s n ∷ no15 s n ∷ []) h in
       let (a, h₂) = passes 12 (not (onGround s n)) (no8 s n ∷ no15 s n ∷ []) (λ z. omega arith) h₁ in
@@ -136,7 +136,7 @@ module _ (s : State) (v : Valid s) (n : ℕ) where
       let e : p .depth ≡ base (gridOf s) = eqb-true _ _ (not-false (onGround s n) a) in
       (d, e, named-leaf d b, another-ground d e c)
 
-  pub kill-kept : refusal (checks s (kill n)) ≡ 0 → Kept s (placeAt (s .entries) n ∷ []) none (effect s (kill n))
+  pub kill-kept : refusal (looseChecks s (kill n)) ≡ 0 → Kept s (placeAt (s .entries) n ∷ []) none (effect s (kill n))
   unfolding effect
   kill-kept h =
       let (d, e, l, (o, f, t, other)) = kill-passed h in

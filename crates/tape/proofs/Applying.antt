@@ -13,7 +13,8 @@ use Rattle.mesh.specs.State.{State, isFree, entry}
 use Rattle.mesh.specs.Valid.{Valid}
 use Rattle.mesh.specs.Picture.{table, amounts}
 use Rattle.mesh.specs.Refusal.{refusal}
-use Rattle.mesh.specs.Request.{Request, refine, sentence, remove, kill, setValue, checks, effect}
+use Rattle.mesh.specs.Request.{Request, refine, sentence, remove, kill, setValue, looseChecks, checks, effect}
+use Rattle.numbering.proofs.Checks.{loosely}
 use Rattle.deciding.specs.Decide.{refineRefusal, sentenceRefusal, removeRefusal, killRefusal, setRefusal}
 use Rattle.deciding.specs.Marks.{sentenceTable, measureTable}
 use Rattle.deciding.proofs.Marked.{sentence-table, sentence-amounts, set-table, set-amounts}
@@ -31,7 +32,7 @@ use Rattle.tape.proofs.Deciding.{Decides, refine-decides, sentence-deci
 module _ (q : Request) (cap d : ℕ) (t : List ℤ) (v : List Float) where
   -- the words and the values are those of the effect
   abbrev Makes : List ℤ → List Float → Type 0
-  Makes t′ v′ = (s : State) (columns rows mark : ℕ) → Drawn s columns rows mark cap t v → base (rectangle columns rows) ≡ d → refusal (checks s q) ≡ 0
+  Makes t′ v′ = (s : State) (columns rows mark : ℕ) → Drawn s columns rows mark cap t v → base (rectangle columns rows) ≡ d → refusal (looseChecks s q) ≡ 0
       → (t′ ≡ table (effect s q)) × (v′ ≡ amounts (effect s q))
 
   accepted-applied : (t′ : List ℤ) (v′ : List Float) → Decides q cap d t v 0 → Makes t′ v′ → Applied q cap d t v t′ v′ 0
@@ -39,7 +40,7 @@ module _ (q : Request) (cap d : ℕ) (t : List ℤ) (v : List Float) where
     decided = x;
     done = λ s columns rows mark p e h.
         let ok : refusal (checks s q) ≡ 0 = sym (x s columns rows mark p e) in
-        let (a, c) = m s columns rows mark p e ok in
+        let (a, c) = m s columns rows mark p e (loosely s q ok) in
         marked-drawn q p ok a c;
     refused = λ z. absurd (z refl);
   }

@@ -11,7 +11,7 @@ use borrow.Author.Tests.{not-false}
 use Rattle.mesh.specs.State.{State}
 use Rattle.mesh.specs.Valid.{Valid, finite}
 use Rattle.mesh.specs.Refusal.{refusal}
-use Rattle.mesh.specs.Request.{Request, refine, sentence, remove, kill, setValue, checks, withKids, no8, no16}
+use Rattle.mesh.specs.Request.{Request, refine, sentence, remove, kill, setValue, looseChecks, checks, withKids, no8, no16}
 use Rattle.numbering.proofs.Checks.{passes}
 use Rattle.numbering.proofs.Naming.{named}
 use Rattle.tape.specs.Applied.{Applied}
@@ -21,14 +21,14 @@ use Rattle.tape.specs.Asked.{asked, StandsFor}
 
 -- an accepted value is finite
 finite-then : (s : State) (n : ℕ) (x : Float) → Valid s → refusal (checks s (setValue n x)) ≡ 0 → finite x ≡ true
-unfolding checks
+unfolding looseChecks checks
 finite-then s n x valid ok =
     let (_, rest) = named s valid n (no8 s n ∷ no16 x ∷ []) ok in
     let (_, last) = passes 8 (withKids s n) (no16 x ∷ []) (λ z. omega arith) rest in
     not-false (finite x) (passes 16 (not (finite x)) [] (λ z. omega arith) last .0)
 
 same-checks : (s : State) (n : ℕ) (x y : Float) → finite x ≡ finite y → checks s (setValue n x) ≡ checks s (setValue n y)
-unfolding checks
+unfolding looseChecks checks
 same-checks s n x y e = rw e
 
 pub standing-applied : {cap d n w why : ℕ} {x : Float} {t t′ : List ℤ} {v v′ : List Float} → StandsFor w x → Applied (setValue n x) cap d t v t′ v′ why → Applied (setValue n (ofBits binary64 w)) cap d t v t′ v′ why
