@@ -28,7 +28,10 @@
  *       is below from_level
  *   18  the output is too short
  *   19  no leaf holds the point
- * (20 is the program's own.) */
+ *   21  the cell to be refined is above level 0, and one of the four places beside it on its level lies in the remaining area and is no cell
+ *   22  beside one of the four kids to be removed, across an edge, lies a cell of their level that is none of them and has kids
+ * (20 is the program's own.) Of a request the first of its list is given: refine 6, 7, 8, 9, 10, 21, 11; sentence 6, 7, 8, 12; remove 6, 7, 13, 14,
+ * 22; kill 6, 7, 12, 8, 15; set value 6, 7, 8, 16. */
 #ifndef GRID_H
 #define GRID_H
 
@@ -51,7 +54,7 @@ uint32_t grid_build(grid_header *header, int32_t *table, size_t table_len, doubl
                     uint32_t columns, uint32_t rows, uint32_t *in_use);
 
 /* Runs requests end to end, up to the first that is refused. done: those carried out. offset: the refused request's first byte, or tape_len.
- * Refuses 1 to 16. */
+ * Refuses 1 to 16, 21 and 22. */
 uint32_t grid_tape(grid_header *header, int32_t *table, size_t table_len, double *values, size_t values_len, uint32_t capacity,
                    const uint8_t *tape, size_t tape_len, size_t *done, size_t *offset);
 

@@ -89,6 +89,19 @@ def more_cells():
     m.words(8, r.N, 4)
 
 
+def no_jump():
+    print("no jump of two levels")
+    m = Told(2, 1)
+    m.tape(1, 0, 4, 1, 0, 11)
+    m.tape(1, 0, 6, 1, 0, 11)
+    m.words(6, r.NE, 4)
+    m.words(11, r.NE, 4)
+    m.tape(2, 0, 17, 2, 0, 19, 2, 0, 16, 2, 0, 20, 3, 0, 6)
+    m.tape(2, 0, 25, 2, 0, 26, 2, 0, 27, 2, 0, 28, 3, 0, 11, 3, 0, 6)
+    m.scan(3)
+    m.checked()
+
+
 def points():
     print("P10 P11")
     m = Told(1, 1)
@@ -126,4 +139,5 @@ def refusals(m):
 
 one_cell()
 more_cells()
+no_jump()
 refusals(points())

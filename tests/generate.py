@@ -2,8 +2,8 @@
 
     python3 generate.py KIND SEED COUNT FOLDER
 
-KIND is builds, tapes, damaged, scans, lookups, pages or programs.  The same
-kind, seed and count give the same files.
+KIND is builds, tapes, damaged, scans, lookups, pages, older or programs.  The
+same kind, seed and count give the same files.
 
 Kind programs writes NNNN.in and NNNN.out, an input of the program and what it
 prints.  Every other kind writes one file KIND-SEED-NNNN.case for each case: one
@@ -70,11 +70,18 @@ def finite_value(rng):
     return int.from_bytes(struct.pack(">d", rng.uniform(-1000, 1000)), "big")
 
 
+def some_bits(rng):
+    return rng.choice(WRONG_VALUES) if chance(rng, 2) else finite_value(rng)
+
+
 def some_mark(rng):
     return rng.choice((0, 1, 65535, rng.randint(65500, 65535), rng.randint(0, 65535)))
 
 
 # ------------------------------------------------------------ requests
+
+# What a request was refused for under 01 alone: by these, older tables came about.
+CHECKS_OF_01 = {kind: tuple(no for no in checks if no < 21) for kind, checks in r.CHECKS.items()}
 
 
 def encode(kind, number, bits=0):
@@ -92,23 +99,54 @@ def families(grid):
     return sorted(cell for cell in above if all(map(grid.is_leaf, r.kids(cell))))
 
 
+def refinable(grid):
+    """The leaves that are refused 21 or 11 at most, the deepest last."""
+    return [leaf for leaf in leaves(grid) if leaf not in grid.sentenced and leaf[0] < 12]
+
+
+def leaf_over(grid, place):
+    """The leaf that a place in the area lies in, or the cell at the place."""
+    while place not in grid.cells:
+        place = r.parent(place)
+    return place
+
+
+def way(grid, cell):
+    """The refinements that 21 wants before a cell's own, and the cell itself last."""
+    if not r.too_coarse_beside(grid, cell):
+        return [cell]
+    around = sorted(place for place in r.beside([cell]) if r.in_union(place, grid.cells))
+    coarse = [leaf_over(grid, place) for place in around if place not in grid.cells]
+    return list(dict.fromkeys([one for leaf in coarse for one in way(grid, leaf)] + [cell]))
+
+
 def choose_refine(rng, grid, deep):
-    found = [leaf for leaf in leaves(grid) if leaf not in grid.sentenced and leaf[0] < 12]
-    if deep and found:
+    """Refine a leaf, and before it what is too coarse beside it; if deep, of some of the
+    deepest the one that wants the fewest others."""
+    found = refinable(grid)
+    if not found:
+        return []
+    if deep:
         found = [leaf for leaf in found if leaf[0] == found[-1][0]]
-    return [(r.REFINE, rng.choice(found))] if found else []
+    some = [rng.choice(found) for _ in range(rng.choice((1, 4, 16)) if deep else 1)]
+    return [(r.REFINE, one) for one in min((way(grid, leaf) for leaf in some), key=len)]
+
+
+def removal(rng, grid, cell):
+    """Sentence the four kids of a cell in some order, and remove them."""
+    four = [one for one in r.kids(cell) if one not in grid.sentenced]
+    rng.shuffle(four)
+    return [(r.SENTENCE, one) for one in four] + [(r.REMOVE, cell)]
 
 
 def choose_removal(rng, grid):
-    """Sentence the four kids of a cell in some order, then mostly remove them."""
+    """Sentence four kids that mostly have nothing finer beside them, then mostly remove them."""
     found = families(grid)
-    if not found:
-        return []
-    cell = rng.choice(found)
-    four = r.kids(cell)
-    rng.shuffle(four)
-    chosen = [(r.SENTENCE, one) for one in four if one not in grid.sentenced]
-    return chosen + ([] if chance(rng, 6) else [(r.REMOVE, cell)])
+    plain = [cell for cell in found if not r.too_fine_beside(grid, cell)]
+    if plain and not chance(rng, 8):
+        found = plain
+    chosen = removal(rng, grid, rng.choice(found)) if found else []
+    return chosen[:-1] if chance(rng, 6) else chosen
 
 
 def choose_kill(rng, grid):
@@ -156,25 +194,39 @@ def some_number(rng, grid):
     return rng.choice((rng.choice(used), rng.choice(cells), rng.choice(cells), rng.choice(wild)))
 
 
+def refused_by_no_1(rng, grid):
+    """Refinements that 21 refuses; and removals that 22 does, after what 14 asks for."""
+    coarse = [leaf for leaf in refinable(grid) if r.too_coarse_beside(grid, leaf)]
+    fine = [cell for cell in families(grid) if r.too_fine_beside(grid, cell)]
+    return [[(r.REFINE, leaf)] for leaf in coarse], [removal(rng, grid, cell) for cell in fine]
+
+
 def nearly(rng, grid):
-    """A whole request that is refused late in its list: 8, 9, 10, 11 or 14."""
+    """Whole requests, the last mostly refused late in its list: 8 to 16, 21 or 22."""
     refined = sorted(cell for cell in grid.cells if grid.has_kids(cell))
-    found = [(rng.choice((1, 2, 4, 5)), cell) for cell in refined]
-    found += [(r.REMOVE, cell) for cell in refined]
-    found += [(r.REFINE, cell) for cell in leaves(grid) if cell[0] == 12]
-    found += [(r.REFINE, cell) for cell in leaves(grid) if cell in grid.sentenced]
-    kind, cell = rng.choice(found or [(r.REFINE, leaves(grid)[0])])
-    return encode(kind, grid.numbers[cell], finite_value(rng))
+    free = len(grid.free_numbers())
+    found = [
+        [[(rng.choice((1, 2, 4, 5)), cell)] for cell in refined],
+        [[(rng.choice((2, 3, 4, 5)), cell)] for cell in leaves(grid)],
+        [[(r.REMOVE, cell)] for cell in refined],
+        [[(r.REFINE, cell)] for cell in leaves(grid) if cell in grid.sentenced],
+        *refused_by_no_1(rng, grid),
+        [[(r.REFINE, cell)] for cell in refinable(grid) if free < len(r.missing(grid, cell))],
+        [[(r.REFINE, cell)] for cell in leaves(grid) if cell[0] == 12],
+    ]
+    some = [requests for requests in found if requests]
+    place = max(rng.randrange(len(some)), rng.randrange(len(some)))  # the rarer stand last
+    chosen = rng.choice(some[place])
+    return b"".join(encode(kind, grid.numbers[cell], some_bits(rng)) for kind, cell in chosen)
 
 
 def wild_request(rng, grid):
-    """One request that is often refused, for whatever reason."""
-    if chance(rng, 3):
+    """A request that is often refused, for whatever reason, sometimes after others."""
+    if chance(rng, 2):
         return nearly(rng, grid)
     roll = rng.randrange(10)
     kind, number = rng.randint(1, 5), some_number(rng, grid)
-    bits = rng.choice(WRONG_VALUES) if chance(rng, 2) else finite_value(rng)
-    whole = encode(kind, number, bits)
+    whole = encode(kind, number, some_bits(rng))
     if roll == 0:
         return bytes([rng.choice((0, 6, 7, 255, rng.randint(6, 255)))])
     if roll == 1:
@@ -185,10 +237,10 @@ def wild_request(rng, grid):
 def some_tape(rng, grid, most):
     """Accepted requests, and often refused or wild ones behind them."""
     result = suitable(rng, grid, rng.randint(0, most), chance(rng, 4))
-    for _ in range(rng.choice((0, 0, 1, 2, 5))):
+    for _ in range(rng.choice((0, 1, 2, 5))):
         wild = wild_request(rng, grid)
-        if not r.run(grid, wild).refusal or chance(rng, 2):
-            result += wild
+        done = r.run(grid, wild).offset
+        result += wild if chance(rng, 2) else wild[:done]
     if chance(rng, 4):
         result += suitable(rng, grid, 3)
     if chance(rng, 8):
@@ -217,24 +269,45 @@ def some_size(rng):
     return rng.randint(1, most), rng.randint(1, most)
 
 
-def go_down(rng, grid):
-    """Refine a leaf, then one of its kids, and so on to level 12 if numbers last."""
-    cell = rng.choice(leaves(grid))
-    while r.step(grid, r.REFINE, grid.numbers[cell]) == 0:
-        cell = rng.choice(r.kids(cell))
+def go_down(rng, grid, straight):
+    """Refine a leaf, then one of its kids, and so on to level 12 if numbers last: straight
+    into a corner, where 21 wants the fewest others refined before, or anywhere."""
+
+    def chosen(cells):
+        some = rng.sample(cells, len(cells))
+        return min(some, key=lambda cell: len(way(grid, cell))) if straight else some[0]
+
+    cell = r.parent(chosen([kid for leaf in leaves(grid) for kid in r.kids(leaf)]))
+    while all(r.step(grid, r.REFINE, grid.numbers[one]) == 0 for one in way(grid, cell)):
+        cell = chosen(r.kids(cell))
 
 
 def some_grid(rng):
-    """A sound grid after some requests, with any mark, often renumbered."""
+    """A grid from a fresh build, with any mark, often renumbered."""
     columns, rows = some_size(rng)
     need = len(r.built(5, columns, rows).numbers)
-    grid = r.built(some_capacity(rng, need), columns, rows)
+    down = chance(rng, 4)
+    grid = r.built(200 if down else some_capacity(rng, need), columns, rows)
     suitable(rng, grid, rng.choice((0, 5, 20, 60)), chance(rng, 4))
-    if chance(rng, 6):
-        go_down(rng, grid)
+    if down:
+        go_down(rng, grid, not chance(rng, 3))
     if chance(rng, 3):
         renumber(rng, grid)
     grid.header = grid.header._replace(mark=some_mark(rng))
+    return grid
+
+
+def older_grid(rng):
+    """A sound grid that No. 1 does not allow: some requests that it refuses are done."""
+    jumps = 0
+    while not jumps:
+        grid = some_grid(rng)
+        for _ in range(rng.choice((1, 3, 10))):
+            found = [one for one in refused_by_no_1(rng, grid) if one]
+            chosen = rng.choice(rng.choice(found)) if found else []
+            for kind, cell in chosen:
+                done = r.step(grid, kind, grid.numbers[cell], 0, CHECKS_OF_01) == 0
+                jumps += done and kind != r.SENTENCE
     return grid
 
 
@@ -375,6 +448,13 @@ def fit(grid):
     grid.numbers.update(zip(new, grid.free_numbers()))
 
 
+def pictured(columns, rows, cells, capacity):
+    """A grid of any cells."""
+    grid = r.Grid(capacity, r.Header(columns, rows, 0), set(cells), {})
+    fit(grid)
+    return grid
+
+
 def spoil_cells(rng, grid):
     """Cells that are no mesh: a lost cell, or one outside, too deep or orphaned."""
     cells = sorted(grid.cells)
@@ -500,8 +580,8 @@ def tape_lines(lists, requests):
     return lines_of(TAPE, lists, listing(requests), answer, *changed)
 
 
-def tape_case(rng):
-    grid = some_grid(rng)
+def tape_case(rng, some=some_grid):
+    grid = some(rng)
     lists = lend(grid)
     return tape_lines(lists, some_tape(rng, grid, rng.choice((3, 20, 80))))
 
@@ -553,8 +633,8 @@ def some_levels(rng, level):
     return first, last
 
 
-def scan_case(rng):
-    grid = some_grid(rng)
+def scan_case(rng, some=some_grid):
+    grid = some(rng)
     top = chance(rng, 2)
     start = 1 if top else some_number(rng, grid)
     kind = rng.choice((0, 7, 255)) if chance(rng, 20) else rng.randint(1, 6)
@@ -588,8 +668,8 @@ def some_point(rng, grid):
     return max(0, speed), max(0, load)
 
 
-def lookup_case(rng):
-    grid = some_grid(rng)
+def lookup_case(rng, some=some_grid):
+    grid = some(rng)
     return lookup_lines(lend(grid), [some_point(rng, grid) for _ in range(20)])
 
 
@@ -598,11 +678,18 @@ def page_lines(lists, length, filler=46):
     return lines_of(PAGE, lists, [length, filler], answer[:2], listing(answer.output))
 
 
-def page_case(rng):
-    grid = some_grid(rng)
+def page_case(rng, some=some_grid):
+    grid = some(rng)
     count = len(r.page_text(grid))
     length = rng.choice((count, count, count - 1, count + 1, count + 50, 0))
     return page_lines(lend(grid), length, rng.choice((0, 46, 255)))
+
+
+def older_case(rng):
+    """Tapes above all, and every other call, on grids that No. 1 does not allow."""
+    if chance(rng, 4):
+        return check_lines(lend(older_grid(rng)))
+    return rng.choice((tape_case, tape_case, scan_case, lookup_case, page_case))(rng, older_grid)
 
 
 def program_case(rng):
@@ -615,6 +702,9 @@ def program_case(rng):
         return head + rng.randbytes(rng.choice((0, 5))) * (len(head) == 3)
     if chance(rng, 40):
         return head + encode(r.SET_VALUE, 1) * 6000
+    if chance(rng, 40):
+        columns, rows = rng.choice(((25, 25), (26, 26), (31, 20)))  # numbers run out soon
+        head = bytes([7, columns, rows])
     grid = r.built(r.PROGRAM_CAPACITY, columns, rows)
     return head + some_tape(rng, grid, rng.choice((10, 60, 200)))
 
@@ -626,6 +716,7 @@ CASES = {
     "scans": scan_case,
     "lookups": lookup_case,
     "pages": page_case,
+    "older": older_case,
 }
 
 

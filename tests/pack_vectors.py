@@ -22,7 +22,7 @@ import reference as r
 HERE = pathlib.Path(__file__).parent
 VECTORS = HERE / "vectors"
 PROGRAM = HERE.parent / "crates" / "vectors"
-SEED, COUNT = 1, 300
+SEED, COUNT = 1, 340
 MOST_BYTES = 4000
 
 

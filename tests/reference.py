@@ -1,4 +1,4 @@
-"""A reference of the rules of 01, written for reading and comparing.
+"""A reference of the rules of 01, with 02's No. 1, written for reading and comparing.
 
 The grid is held as sets: the cells are a set of (level, i, j), the numbers a
 dict from patch (level, i, j) to number.  The table is a picture of these and
@@ -7,7 +7,7 @@ is never edited: every call decodes it, works on the sets and draws it anew.
 Every call takes (capacity, header, table, values, its own arguments) and
 returns (answer, header, table, values).  The lists that were lent are not
 changed.  `check` alone returns its answer only.  A refusal is its number in
-01's table, 0 stands for none.  Values are 64-bit patterns, never floats.
+01 or 02, 0 stands for none.  Values are 64-bit patterns, never floats.
 """
 
 from collections import namedtuple
@@ -405,11 +405,12 @@ def build(capacity, header, table, values, columns, rows):
 
 REFINE, SENTENCE, REMOVE, KILL, SET_VALUE = 1, 2, 3, 4, 5
 
-# 01, the table of requests: the checks of each kind, in order.
+# 01, the table of requests: the checks of each kind, in order.  02, No. 1: "21 for
+# refine, after 10 and before 11; 22 for remove, after 14".
 CHECKS = {
-    REFINE: (6, 7, 8, 9, 10, 11),
+    REFINE: (6, 7, 8, 9, 10, 21, 11),
     SENTENCE: (6, 7, 8, 12),
-    REMOVE: (6, 7, 13, 14),
+    REMOVE: (6, 7, 13, 14, 22),
     KILL: (6, 7, 12, 8, 15),
     SET_VALUE: (6, 7, 8, 16),
 }
@@ -428,6 +429,25 @@ def refine_order(cell):
 def missing(grid, cell):
     """The new patches of a refinement, in order."""
     return [patch for patch in refine_order(cell) if patch not in grid.numbers]
+
+
+def beside(places):
+    """The places of the same level outside some that share an edge with one of them."""
+    around = {neighbour(place, wind) for place in places for wind in NEIGHBOUR_WINDS}
+    return around - set(places)
+
+
+def too_coarse_beside(grid, cell):
+    """02, No. 1: "a cell above level 0 if one of its four same-level neighbour places
+    lies inside the remaining area and is not a cell"."""
+    inside = {place for place in beside([cell]) if in_union(place, grid.cells)}
+    return cell[0] > 0 and not inside <= grid.cells
+
+
+def too_fine_beside(grid, cell):
+    """02, No. 1: "a same-level cell outside the four that shares an edge with one of
+    them has kids"."""
+    return any(grid.has_kids(one) for one in beside(kids(cell)) & grid.cells)
 
 
 def given(refusal, grid, kind, patch, bits):
@@ -454,6 +474,10 @@ def given(refusal, grid, kind, patch, bits):
         return sum(cell[0] == 0 for cell in grid.cells) == 1
     if refusal == 16:
         return not is_finite(bits)
+    if refusal == 21:
+        return too_coarse_beside(grid, patch)
+    if refusal == 22:
+        return too_fine_beside(grid, patch)
     raise ValueError(refusal)
 
 
@@ -496,10 +520,10 @@ def raise_mark(grid):
     grid.header = grid.header._replace(mark=(grid.header.mark + 1) % 65536)
 
 
-def step(grid, kind, number, bits=0):
+def step(grid, kind, number, bits=0, checks=CHECKS):
     """One request on a grid: a refusal and no change, or 0 and its effect."""
     patch = grid.places().get(number)
-    for refusal in CHECKS[kind]:
+    for refusal in checks[kind]:
         if given(refusal, grid, kind, patch, bits):
             return refusal
     carry_out(grid, kind, patch, bits)

@@ -1,10 +1,12 @@
-"""Tests of the reference: P1 to P11 of 01, its refusals, and the vectors.
+"""Tests of the reference: P1 to P11 of 01, its refusals, No. 1 of 02, and the vectors.
 
     python3 test_reference.py [folder of vectors]
 
 Prints `N passed, M failed` and ends with 1 if anything failed.
 """
 
+import collections
+import copy
 import pathlib
 import random
 import struct
@@ -190,6 +192,7 @@ def test_refusals_of_a_tape():
         ("8 before 15", (1, 1), refine(2) + kill(2), (1, 8, 3)),
         ("9", (1, 1), deep + refine(last), (12, 9, 36)),
         ("9 before 10", (1, 1), deep + sentence(last) + refine(last), (13, 9, 39)),
+        ("9 before 21", (1, 1), deep + refine(last + 1), (12, 9, 36)),
         ("10", (1, 1), refine(2) + sentence(6) + refine(6), (2, 10, 6)),
         ("12 sentence", (1, 1), sentence(2), (0, 12, 0)),
         ("12 kill", (1, 1), refine(2) + kill(6), (1, 12, 3)),
@@ -344,6 +347,230 @@ def test_program():
     expect("program of 60,000 bytes", r.program(exact), f"refused 8 at {offset}\n".encode())
 
 
+# ------------------------------------------------------------ No. 1 of 02
+
+
+def ask(grid, kind, *cells):
+    """What a grid of sets answers to requests of one kind, one after the other."""
+    return [r.step(grid, kind, grid.numbers[cell]) for cell in cells]
+
+
+def ask_alone(grid, kind, cell):
+    """What one request is answered; the grid stays."""
+    return ask(copy.deepcopy(grid), kind, cell)[0]
+
+
+def refined(columns, rows, *cells, capacity=400):
+    """A rectangle with some cells refined, in their order."""
+    grid = r.built(capacity, columns, rows)
+    expect(f"refined {cells}", ask(grid, r.REFINE, *cells), [0] * len(cells))
+    return grid
+
+
+MIDDLE = (0, 1, 1)  # of 3 by 3
+ALL = sorted(r.rectangle(3, 3))
+SIDES = {  # each level-0 cell beside the middle, and the two kids of the middle there
+    (0, 1, 2): [(1, 2, 3), (1, 3, 3)],
+    (0, 2, 1): [(1, 3, 2), (1, 3, 3)],
+    (0, 1, 0): [(1, 2, 2), (1, 3, 2)],
+    (0, 0, 1): [(1, 2, 2), (1, 2, 3)],
+}
+
+
+def test_21_on_each_side():
+    for side, there in SIDES.items():
+        grid = refined(3, 3, MIDDLE, *(one for one in SIDES if one != side))
+        for kid in r.kids(MIDDLE):
+            wanted = 21 if kid in there else 0
+            expect(f"21 of {kid} at {side}", ask_alone(grid, r.REFINE, kid), wanted)
+        expect(f"{side} refined", ask(grid, r.REFINE, side, *there), [0, 0, 0])
+
+
+def test_21_in_the_area_only():
+    grid = refined(2, 1, (0, 0, 0))
+    outward, inward = (1, 0, 0), (1, 1, 0)
+    expect("21 not at the rectangle's edge", ask_alone(grid, r.REFINE, outward), 0)
+    expect("21 in the area", ask(grid, r.REFINE, inward), [21])
+    expect("killed", ask(grid, r.KILL, (0, 1, 0)), [0])
+    expect("21 not at a killed cell's edge", ask(grid, r.REFINE, inward), [0])
+
+
+def test_21_never_on_level_0():
+    for beside in SIDES:
+        grid = refined(3, 3, beside)
+        expect("level 0 beside a refined cell", ask_alone(grid, r.REFINE, MIDDLE), 0)
+        grid = r.built(400, 3, 3)
+        ask(grid, r.KILL, beside)
+        expect("level 0 beside a killed cell", ask_alone(grid, r.REFINE, MIDDLE), 0)
+    grid = refined(3, 3, MIDDLE)
+    for side in SIDES:
+        expect("level 0 beside the finer", ask_alone(grid, r.REFINE, side), 0)
+
+
+def test_21_in_its_turn():
+    """After 10 and before 11; 9 before both stands among the refusals of a tape."""
+    grid = refined(2, 1, (0, 0, 0), capacity=18)
+    expect("none free", grid.free_numbers(), [])
+    outward, inward = (1, 0, 0), (1, 1, 0)
+    expect("11", ask(grid, r.REFINE, outward), [11])
+    expect("21 before 11", ask(grid, r.REFINE, inward), [21])
+    ask(grid, r.SENTENCE, inward)
+    expect("10 before 21", ask(grid, r.REFINE, inward), [10])
+
+
+def test_22_on_each_side():
+    """Exactly the eight cells beside the four, and none that meets them in a corner."""
+    four = r.kids(MIDDLE)
+    outside = [kid for cell in ALL if cell != MIDDLE for kid in r.kids(cell)]
+    found = []
+    for finer in outside:
+        grid = refined(3, 3, *ALL, finer)
+        ask(grid, r.SENTENCE, *four)
+        answer = ask(grid, r.REMOVE, MIDDLE)
+        expect(f"remove beside {finer}", answer in ([0], [22]), True)
+        found += [finer] if answer == [22] else []
+        gone = not any(kid in grid.cells for kid in four)
+        expect(f"removed beside {finer}", gone, answer == [0])
+    north = [(1, 2, 4), (1, 3, 4)]
+    east = [(1, 4, 2), (1, 4, 3)]
+    south = [(1, 2, 1), (1, 3, 1)]
+    west = [(1, 1, 2), (1, 1, 3)]
+    expect("22", sorted(found), sorted(north + east + south + west))
+
+
+def test_22_in_its_turn():
+    """After 14, and not once the finer four are gone; 13 before it needs an older table."""
+    left, right, finer = (0, 0, 0), (0, 1, 0), (1, 1, 0)
+    grid = refined(2, 1, left, right, finer)
+    ask(grid, r.SENTENCE, *r.kids(right)[1:])
+    expect("14 before 22", ask(grid, r.REMOVE, right), [14])
+    ask(grid, r.SENTENCE, *r.kids(right))
+    expect("22", ask(grid, r.REMOVE, right), [22])
+    ask(grid, r.SENTENCE, *r.kids(finer))
+    expect("after the finer four", ask(grid, r.REMOVE, finer, right), [0, 0])
+
+
+def square(leaf):
+    """Left, lower, right and upper edge of a leaf in 1/4096 of a level-0 cell."""
+    level, i, j = leaf
+    size = 4096 >> level
+    return i * size, j * size, (i + 1) * size, (j + 1) * size
+
+
+def share_an_edge(one, other):
+    """Whether two squares without common area have a stretch of an edge in common."""
+    wide = min(one[2], other[2]) - max(one[0], other[0])
+    high = min(one[3], other[3]) - max(one[1], other[1])
+    return min(wide, high) == 0 < max(wide, high)
+
+
+def jumps(grid):
+    """The pairs of leaves that share part of an edge and differ by two levels or more."""
+    leaves = [(cell, square(cell)) for cell in sorted(grid.cells) if grid.is_leaf(cell)]
+    return [
+        (one, other)
+        for one, here in leaves
+        for other, there in leaves
+        if other[0] - one[0] > 1 and share_an_edge(here, there)
+    ]
+
+
+def test_squares():
+    middle = square((1, 1, 1))
+    expect("square", middle, (2048, 2048, 4096, 4096))
+    for other, wanted in [
+        ((1, 0, 1), True),
+        ((1, 1, 2), True),
+        ((0, 1, 0), True),
+        ((3, 8, 4), True),
+        ((12, 4096, 4095), True),
+        ((12, 4096, 4096), False),
+        ((0, 1, 1), False),
+        ((1, 3, 1), False),
+        ((12, 4097, 4000), False),
+    ]:
+        for one, two in ((middle, square(other)), (square(other), middle)):
+            expect(f"an edge of {other}", share_an_edge(one, two), wanted)
+
+
+def history(rng, checks):
+    """A build and requests, under these checks; how often each was refused."""
+    grid = r.built(300, *rng.choice(((1, 1), (2, 1), (3, 2), (4, 4))))
+    answers = collections.Counter()
+    for _ in range(rng.choice((60, 200))):
+        kind = rng.choice((1, 1, 1, 1, 2, 3, 4))
+        cells = sorted(cell for cell in grid.cells if grid.has_kids(cell) == (kind == r.REMOVE))
+        if not cells:
+            continue
+        cell = rng.choice(cells)
+        if kind == r.REMOVE:
+            ask(grid, r.SENTENCE, *(one for one in r.kids(cell) if grid.is_leaf(one)))
+        answers[r.step(grid, kind, grid.numbers[cell], 0, checks)] += 1
+    return grid, answers
+
+
+def test_no_jump_of_two_levels():
+    """From a fresh build; under 01 alone the same histories have jumps, so this can fail."""
+    answers, deepest, without = collections.Counter(), 0, 0
+    for seed in range(80):
+        grid, told = history(random.Random(seed), r.CHECKS)
+        answers += told
+        deepest = max(deepest, *(cell[0] for cell in grid.cells))
+        expect(f"no jump, {seed}", jumps(grid), [])
+        without += bool(jumps(history(random.Random(seed), generate.CHECKS_OF_01)[0]))
+    expect("21 and 22 are given", min(answers[21], answers[22]) > 50, True)
+    expect("deep", deepest > 4, True)
+    expect("jumps under 01 alone", without > 40, True)
+
+
+def test_older_tables():
+    """02, No. 1: "Older tables stay sound, without that promise"; a tape on them runs."""
+    left, right, finer = (0, 0, 0), (0, 1, 0), (1, 1, 0)
+    grid = generate.pictured(2, 1, {left, right, *r.kids(left), *r.kids(finer)}, 100)
+    expect("a jump", sorted(jumps(grid)), [(right, (2, 3, 0)), (right, (2, 3, 1))])
+    expect("sound", r.check(grid.capacity, *r.drawn(grid)), 0)
+    number = grid.numbers
+    outward, inward = (2, 2, 0), (2, 3, 0)
+    accepted = refine(number[right]) + sentence(*(number[kid] for kid in r.kids(finer)))
+    for name, requests, wanted in [
+        ("8 before 21", refine(number[finer]), (0, 8, 0)),
+        ("13 before 22", remove(number[right]), (0, 13, 0)),
+        ("21", refine(number[inward]), (0, 21, 0)),
+        ("21 at another side", refine(number[outward]), (0, 21, 0)),
+        ("21 after one", sentence(number[outward]) + refine(number[inward]), (1, 21, 3)),
+        ("accepted", accepted + remove(number[finer]), (6, 0, 18)),
+    ]:
+        answer, *left_behind = r.tape(grid.capacity, *r.drawn(grid), requests)
+        expect(f"older table, {name}", answer, wanted)
+        expect(f"older table, {name}, sound", r.check(grid.capacity, *left_behind), 0)
+    refined_twice = {*r.kids(finer), *r.kids(inward)}
+    cells = {left, right, *r.kids(left), *r.kids(right), *refined_twice}
+    grid = generate.pictured(2, 1, cells, 100)
+    grid.sentenced = dict.fromkeys(r.kids(right), True)
+    expect("a jump", bool(jumps(grid)), True)
+    answer, *left_behind = r.tape(grid.capacity, *r.drawn(grid), remove(grid.numbers[right]))
+    expect("older table, 22", answer, (0, 22, 0))
+    expect("older table, 22, sound", r.check(grid.capacity, *left_behind), 0)
+
+
+def test_older_grids():
+    for seed in range(30):
+        grid = generate.older_grid(random.Random(seed))
+        expect(f"older grid {seed}", bool(jumps(grid)), True)
+        expect(f"older grid {seed}, sound", r.check(grid.capacity, *r.drawn(grid)), 0)
+
+
+def test_21_is_a_green_wall():
+    """A place beside a cell in the area and no cell is a green wall, on older tables too."""
+    for seed in range(40):
+        grid, _ = history(random.Random(seed), generate.CHECKS_OF_01)
+        kinds = r.walls(grid.cells)
+        for cell in grid.cells:
+            green = r.flags(cell, grid.cells, kinds, {}) & r.GRN_CELL != 0
+            if green != r.too_coarse_beside(grid, cell):
+                expect(f"green wall of {cell}", green, not green)
+
+
 # ------------------------------------------------------------ random grids
 
 
@@ -411,6 +638,7 @@ def test_random_grids():
         expect("mark counts", grid.header.mark, accepted)
         expect("sound", r.check(grid.capacity, *after), 0)
         expect("tiled", leaves_tile(grid), True)
+        expect("no jump", jumps(grid), [])
         for patch, number in grid.numbers.items():
             word = after[1][14 * number + r.FLAGS] & ~r.SENTENCED
             if word != flags_by_geometry(patch, grid.cells):

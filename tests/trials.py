@@ -3,7 +3,7 @@
     python3 trials.py                                crates/trials/stdin and stdout
     python3 trials.py KIND SEED COUNT STDIN STDOUT   COUNT cases of one kind, of another seed
 
-KIND is damaged, tapes, scans, lookups or pages.  crates/trials/src/main.rt says
+KIND is damaged, tapes, scans, lookups, pages or older.  crates/trials/src/main.rt says
 what the program reads: it keeps the words, the values and twelve numbers from
 call to call, so that a case is given by what differs from the case before.  It
 writes a line for each call: the answer, then the header that the call left and
@@ -280,19 +280,23 @@ def grid_of(lists):
     return r.admit(*lists)[1]
 
 
-def tapes(desk, rng, count):
+def tapes_on(desk, rng, lists, count):
     """Tapes one after the other on what the ones before left, refused requests among them."""
+    for _ in range(count):
+        grid = grid_of(lists)
+        lists = desk.tape(lists, g.some_tape(rng, grid, rng.choice((1, 6, 20, 60)))[:MOST_BYTES])
+
+
+def tapes(desk, rng, count):
+    """Tapes on builds and on sound grids."""
     done = 0
     while done < count:
         lists = some_start(desk, rng)
-        if g.chance(rng, 3):
+        if g.chance(rng, 2):
             lists = g.lend(g.some_grid(rng))
-        for _ in range(rng.randint(1, 12)):
-            grid = grid_of(lists)
-            if grid is None:
-                break
-            lists = desk.tape(lists, g.some_tape(rng, grid, rng.choice((1, 6, 20, 60)))[:MOST_BYTES])
-            done += 1
+        some = rng.randint(1, 12) if grid_of(lists) else 0
+        tapes_on(desk, rng, lists, some)
+        done += some
 
 
 ORDERS = list(itertools.permutations((r.NE, r.SE, r.SW, r.NW)))
@@ -337,24 +341,65 @@ def lookups(desk, rng, count):
 
 
 def pages(desk, rng, count):
-    for _ in range(count):
-        grid = g.some_grid(rng)
+    """Two of each grid, with room enough or too little."""
+    for place in range(count):
+        if place % 2 == 0:
+            grid = g.some_grid(rng)
         length = len(r.page_text(grid))
         room = max(0, rng.choice((length, length, length - 1, length + 1, PAGE_ROOM, 0)))
         desk.page(g.lend(grid), min(PAGE_ROOM, room), rng.choice((0, 46, 255)))
 
 
-KINDS = {"damaged": damaged, "tapes": tapes, "scans": scans, "lookups": lookups, "pages": pages}
+def small_older():
+    """Beside a leaf of level 0 leaves of level 2, with numbers free; and beside four sentenced
+    kids a cell refined twice, with none."""
+    left, right, finer, finest = (0, 0, 0), (0, 1, 0), (1, 1, 0), (2, 3, 0)
+    cells = {left, right, *r.kids(left), *r.kids(finer)}
+    more = cells | {*r.kids(right), *r.kids(finest)}
+    full = g.pictured(2, 1, more, len(r.patches(more, 2)))
+    full.sentenced = dict.fromkeys(r.kids(right), True)
+    return g.pictured(2, 1, cells, 40), full
+
+
+def fixed_older(desk):
+    """Of small grids with jumps every refinement and every removal, each as one tape."""
+    for grid in small_older():
+        lists = g.lend(grid)
+        desk.check(lists)
+        desk.page(lists, PAGE_ROOM, 46)
+        for kind, number in itertools.product((r.REFINE, r.REMOVE), range(grid.capacity + 2)):
+            desk.tape(lists, g.encode(kind, number))
+
+
+def older(desk, rng, count):
+    """Every call on sound grids that 02's No. 1 does not allow; of each, tapes last."""
+    done = 0
+    while done < count:
+        grid = g.older_grid(rng)
+        lists = g.lend(grid)
+        desk.check(lists)
+        desk.page(lists, PAGE_ROOM, 46)
+        desk.scan(lists, (1, rng.choice(ORDERS), rng.randint(1, 6), r.root(grid.header)[0], 12), SCAN_ROOM, 7)
+        desk.lookup(lists, *g.some_point(rng, grid))
+        desk.sweep(lists, 0, 0, 64 * max(grid.header[:2]))
+        some = rng.randint(1, 12)
+        tapes_on(desk, rng, lists, some)
+        done += 5 + some
+
+
+KINDS = {"damaged": damaged, "tapes": tapes, "scans": scans, "lookups": lookups, "pages": pages, "older": older}
 
 
 def of_the_gate():
     desk = Desk()
     fixed_damage(desk)
-    damaged(desk, random.Random(1), 2000 - len(desk.lines), 25)
+    damaged(desk, random.Random(1), 2000 - len(desk.lines), 50)
     tapes(desk, random.Random(2), 400)
     scans(desk, random.Random(3), 600)
     lookups(desk, random.Random(4), 220)
     pages(desk, random.Random(5), 60)
+    fixed_older(desk)
+    older(desk, random.Random(6), 160)
     return desk
 
 

@@ -125,6 +125,20 @@ static void more_cells(map *m) {
     row(m, 8, NORTH, 4);
 }
 
+/* 11, a kid of 4, lies beside 6: 6 is refined before 11, and has its kids until 11 has none */
+static void no_jump(map *m) {
+    puts("no jump of two levels");
+    build(m, 40, 2, 1);
+    TAPE(m, 1, 0, 4, 1, 0, 11);
+    TAPE(m, 1, 0, 6, 1, 0, 11);
+    row(m, 6, 1, 4);
+    row(m, 11, 1, 4);
+    TAPE(m, 2, 0, 17, 2, 0, 19, 2, 0, 16, 2, 0, 20, 3, 0, 6);
+    TAPE(m, 2, 0, 25, 2, 0, 26, 2, 0, 27, 2, 0, 28, 3, 0, 11, 3, 0, 6);
+    scan(m, order, 4, 3, 40);
+    check(m);
+}
+
 static void points(map *m) {
     puts("P10 P11");
     build(m, 40, 1, 1);
@@ -161,6 +175,7 @@ int main(void) {
     static map m;
     one_cell(&m);
     more_cells(&m);
+    no_jump(&m);
     points(&m);
     refusals(&m);
     return 0;

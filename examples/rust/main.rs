@@ -184,6 +184,20 @@ fn more_cells(order: &[u8]) {
     m.row(8, NORTH, 4);
 }
 
+/// 11, a kid of 4, lies beside 6: 6 is refined before 11, and has its kids until 11 has none.
+fn no_jump(order: &[u8]) {
+    println!("no jump of two levels");
+    let mut m = Map::build(40, 2, 1);
+    m.tape(&[1, 0, 4, 1, 0, 11]);
+    m.tape(&[1, 0, 6, 1, 0, 11]);
+    m.row(6, 1, 4);
+    m.row(11, 1, 4);
+    m.tape(&[2, 0, 17, 2, 0, 19, 2, 0, 16, 2, 0, 20, 3, 0, 6]);
+    m.tape(&[2, 0, 25, 2, 0, 26, 2, 0, 27, 2, 0, 28, 3, 0, 11, 3, 0, 6]);
+    m.scan(order, 3, 40);
+    m.check();
+}
+
 fn points() -> Map {
     println!("P10 P11");
     let mut m = Map::build(40, 1, 1);
@@ -223,5 +237,6 @@ fn main() {
     let order = [3, 4, 2, 1];
     one_cell();
     more_cells(&order);
+    no_jump(&order);
     refusals(points(), &order);
 }

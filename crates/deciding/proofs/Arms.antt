@@ -6,19 +6,19 @@ use mathlib.Core.Path.{_≡_, refl, sym, _∙_}
 use mathlib.Core.Logic.{_≢_}
 use mathlib.Core.Bool.{Bool, true, false, not, _&&_, _||_, cond}
 use mathlib.Core.List.{List, [], _∷_}
-use lib.Dec.{eqb}
+use lib.Dec.{eqb, leb}
 use lib.IntN.{ℤ, pos}
 use lib.ListN.{set}
-use borrow.Author.Tests.{not-false, ne-eqb, le-leb, lt-leb}
+use borrow.Author.Tests.{not-false, ne-eqb}
 use Rattle.mesh.specs.Tools.{any, every}
 use Rattle.mesh.specs.Picture.{rowWords}
 use Rattle.mesh.specs.Refusal.{Check, _if_, refusal}
 use Rattle.table.specs.Words.{wordOf, linkOf, flagOf, taken}
 use Rattle.table.proofs.Taken.{taken-within}
 use Rattle.numbering.proofs.Checks.{passes}
-use Rattle.stock.specs.Free.{enough, Counted}
+use Rattle.stock.specs.Free.{Counted}
 use Rattle.deciding.specs.Marks.{sentenceTable}
-use Rattle.deciding.specs.Decide.{kidsDoomed, lacking, otherUnder, row6, row7}
+use Rattle.deciding.specs.Decide.{parental, kidsDoomed, lacking, besideKid, finerRound, otherUnder, row6, row7, row11, row21}
 
 -- ---- tests
 
@@ -28,6 +28,14 @@ every-four true true true false = refl
 every-four true true false d = refl
 every-four true false c d = refl
 every-four false b c d = refl
+
+flat-or : (a b c : Bool) → ((a || b) || c) ≡ (a || (b || c))
+flat-or true b c = refl
+flat-or false b c = refl
+
+or-false : (a : Bool) → (a || false) ≡ a
+or-false true = refl
+or-false false = refl
 
 -- ---- a row's kids and the rows around it
 
@@ -56,20 +64,25 @@ module _ (t : List ℤ) (cap n : ℕ) where
       let r = rw (z, y) at ι in
       omega arith
 
+  -- one of two rows beside a kid has kids
+  abbrev finer : ℕ → ℕ → ℕ → Bool
+  finer k x y = parental t cap (besideKid t cap n k x) || parental t cap (besideKid t cap n k y)
+
+  pub finer-two : (kid one other x y k a b : ℕ)
+      → kid ≡ linkOf t cap n k → one ≡ linkOf t cap kid a → other ≡ linkOf t cap kid b → x ≡ linkOf t cap one 1 → y ≡ linkOf t cap other 1
+      → (not (eqb x 0) || not (eqb y 0)) ≡ finer k a b
+  unfolding parental
+  finer-two kid one other x y k a b d e f g h = rw (g, h, e, f, d)
+
+  pub finer-four : (a b c d : Bool) → a ≡ finer 1 5 6 → b ≡ finer 2 6 7 → c ≡ finer 3 7 8 → d ≡ finer 4 5 8 → (a || (b || (c || d))) ≡ finerRound t cap n
+  unfolding finerRound
+  finer-four a b c d e f g h = rw (e, f, g, h) (simp (flat-or, or-false))
+
 -- ---- a sentenced row
 
 pub sentence-written : (t : List ℤ) (n x y : ℕ) (b : Bool) → x ≡ wordOf t n 12 → b ≡ flagOf t 12 n → y ≡ cond b 0 4096 → set t (n * rowWords + 12) (pos (x + y)) ≡ sentenceTable t n
 unfolding sentenceTable
 sentence-written t n x y b e f h = rw (e, h, f)
-
--- ---- the free numbers
-
-module _ (t : List ℤ) (cap n : ℕ) {spare lacks : ℕ} (c : Counted cap t spare) (few : lacks ≤ 9) (is : lacks ≡ lacking t cap n) where
-  pub spare-enough : lacks ≤ spare → enough t cap (lacking t cap n) ≡ true
-  spare-enough l = rw (← is) (c .counts lacks few ∙ le-leb lacks spare l)
-
-  pub spare-few : spare < lacks → enough t cap (lacking t cap n) ≡ false
-  spare-few l = rw (← is) (c .counts lacks few ∙ lt-leb lacks spare l)
 
 -- ---- the walk to another cell
 
@@ -94,11 +107,7 @@ module _ (t : List ℤ) (cap n : ℕ) where
       pub any-below : any below ws ≡ b
 
     pub walk-last : (r : Bool) (k w : ℕ) → k ≡ linkOf t cap m w → r ≡ otherUnder t cap n (l - 1) k → Walked (w ∷ []) r
-    walk-last r k w e f = record { any-below = rw (← e, ← f) (last r) }
-      where
-        last : (b : Bool) → (b || false) ≡ b
-        last true = refl
-        last false = refl
+    walk-last r k w e f = record { any-below = rw (← e, ← f) (or-false r) }
 
     pub walk-hit : (r : Bool) (k w : ℕ) (ws : List ℕ) → k ≡ linkOf t cap m w → r ≡ otherUnder t cap n (l - 1) k → r ≡ true → Walked (w ∷ ws) true
     walk-hit r k w ws e f h = record { any-below = rw (← e, ← f, h) }
@@ -143,6 +152,11 @@ module _ {k : ℕ} {b : Bool} {cs : List Check} where
 
 pub refused : (cs : List Check) (k : ℕ) → Refused cs k → k ≡ refusal cs
 refused cs k f = f .is
+
+-- the two checks that a refinement ends with, by the count of the free numbers
+pub room : (t : List ℤ) (cap n spare lacks r : ℕ) (green : Bool) → Counted cap t spare → green ≡ flagOf t 10 n → lacks ≤ 9 → lacks ≡ lacking t cap n
+    → r ≡ refusal ((21 if green) ∷ (11 if not (leb lacks spare)) ∷ []) → Refused (row21 t cap n ∷ row11 t cap n ∷ []) r
+room t cap n spare lacks r green c e few is h = record { is = h ∙ rw (e, ← c .counts lacks few, is) }
 
 -- a request that is not refused names one of the numbers 1 to the capacity
 pub accepted-within : (t : List ℤ) (cap n : ℕ) (cs : List Check) → refusal (row6 t cap n ∷ cs) ≡ 0 → (1 ≤ n) × (n ≤ cap)

@@ -1,27 +1,28 @@
 -- What the checks ask of a row, where the table is the picture of a valid state: the row under a number says what its entry does.
 -- Assumes nothing.
-use Prim.Native.Nat.{ℕ}
+use Prim.Native.Nat.{ℕ, _≤_}
 use native.Mathlib.Omega.{arith}
-use native.Mathlib.Decide.{ℕ-discrete}
 use mathlib.Core.Path.{_≡_, refl, ap, _∙_}
-use mathlib.Core.Bool.{Bool, true, false, not}
+use mathlib.Core.Logic.{_≢_}
+use mathlib.Core.Bool.{Bool, not}
 use mathlib.Core.Option.{some}
 use mathlib.Core.List.{List}
-use lib.Dec.{T, eqb, lit<}
+use lib.Dec.{T, eqb, lit<, T-not}
 use lib.IntN.{ℤ}
-use borrow.Author.Tests.{ne-eqb, eq-eqb}
+use borrow.Author.Tests.{ne-eqb}
 use Rattle.mesh.specs.Tools.{all, isSome}
-use Rattle.mesh.specs.Place.{Place, Grid, NE, kid, kids}
-use Rattle.mesh.specs.Mesh.{patch, hasKids}
+use Rattle.mesh.specs.Place.{Place, Grid, Wind, NE, base, kid, kids}
+use Rattle.mesh.specs.Mesh.{hasKids}
 use Rattle.mesh.specs.State.{State, Entry, nil, free, used, placeOf, isCell, isSentenced, entry, cells, number, gridOf, capacity}
 use Rattle.mesh.specs.Valid.{Valid}
 use Rattle.mesh.specs.Picture.{table}
 use Rattle.table.specs.Words.{flagOf}
 use Rattle.geometry.proofs.Bools.{bool-ext, is-no}
 use Rattle.geometry.proofs.Digits.{kidBy}
-use Rattle.geometry.proofs.Kids.{parent-kid, kid-has, all-kids}
-use Rattle.geometry.proofs.Tree.{cell-patch}
-use Rattle.geometry.proofs.Growing.{middle-new}
+use Rattle.geometry.proofs.Kids.{parent-kid, parent-depth, kid-depth, has-kid, kid-has, all-kids}
+use Rattle.geometry.proofs.Near.{touched-corner}
+use Rattle.geometry.proofs.Tree.{patch-touched, cell-patch}
+use Rattle.geometry.proofs.Wanted.{middle-kid}
 use Rattle.numbering.proofs.Numbers.{valid-numbered, number-place, numbered-not-zero, cells-contents, entry-contents}
 use Rattle.pictures.proofs.Pictured.{nil-words, free-flags, sentenced-flag}
 use Rattle.pictures.proofs.Linked.{kids-every, link-kid-of}
@@ -61,6 +62,18 @@ module _ (s : State) (v : Valid s) where
       go free h = rw (free-flags s n h)
       go (used p x) h = sentenced-flag s n p (ap placeOf h) ∙ ap isSentenced h
 
+  -- ---- kids
+
+  -- a place of level 0 or above that has kids is a cell
+  pub parent-cell : (p : Place) → base g ≤ p .depth → T (hasKids g c p) → T (c p)
+  parent-cell p low k = let (q, e, u) = has-kid g c p k in rw e at (v .mesh .above q u (omega (arith, parent-depth q p e)))
+
+  pub cell-numbered : (p : Place) → T (c p) → number es p ≢ 0
+  cell-numbered p here = numbered-not-zero es (valid-numbered v) p (v .every p (cell-patch g c (v .mesh) p here))
+
+  pub kid-numbered : (p : Place) → T (c p) → T (hasKids g c p) → (w : Wind) → number es (kid w p) ≢ 0
+  kid-numbered p here k w = cell-numbered (kid w p) (all-kids c p (v .mesh .four p here k) (kid w p) (parent-kid w p))
+
   -- ---- the number of a patch
 
   module _ (n : ℕ) (p : Place) (h : placeOf (entry es n) ≡ some p) where
@@ -68,20 +81,16 @@ module _ (s : State) (v : Valid s) where
     unfolding kidsDoomed
     doomed-row = kids-every s v n p h (flagOf t 12) ∙ simp sentenced-row
 
-    -- a cell has kids exactly if the point in its middle is a patch
-    pub parental-row : T (c p) → parental t (capacity s) n ≡ hasKids g c p
+    -- a place of level 0 or above has kids exactly if the point in its middle is a patch
+    pub parental-row : base g ≤ p .depth → parental t (capacity s) n ≡ hasKids g c p
     unfolding parental kid kidBy
-    parental-row here = rw (link-kid-of s v n p h 1 1 (omega arith) (omega arith)) (bool-ext (not (eqb (number es (kid NE p)) 0)) (hasKids g c p) down up)
+    parental-row low = rw (link-kid-of s v n p h 1 1 (omega arith) (omega arith)) (bool-ext (not (eqb (number es (kid NE p)) 0)) (hasKids g c p) down up)
       where
         up : T (hasKids g c p) → T (not (eqb (number es (kid NE p)) 0))
-        up k =
-            let there : T (patch g c (kid NE p)) = cell-patch g c (v .mesh) (kid NE p) (all-kids c p (v .mesh .four p here k) (kid NE p) (parent-kid NE p)) in
-            is-no (eqb (number es (kid NE p)) 0) (ne-eqb _ _ (numbered-not-zero es (valid-numbered v) (kid NE p) (v .every (kid NE p) there)))
+        up k = is-no (eqb (number es (kid NE p)) 0) (ne-eqb _ _ (kid-numbered p (parent-cell p low k) k NE))
 
         down : T (not (eqb (number es (kid NE p)) 0)) → T (hasKids g c p)
-        down k = go (hasKids g c p) refl (ℕ-discrete (number es (kid NE p)) 0)
-          where
-            go : (b : Bool) → hasKids g c p ≡ b → Dec (number es (kid NE p) ≡ 0) → T b
-            go true e d = tt
-            go false e (yes z) = rw (eq-eqb _ _ z) at k
-            go false e (no z) = middle-new g c (v .mesh) p here (λ q f u. rw e at (kid-has g c p q f u)) (v .each _ (kid NE p) (number-place es (kid NE p) z))
+        down k =
+            let there = v .each _ (kid NE p) (number-place es (kid NE p) (λ z. T-not (eqb (number es (kid NE p)) 0) k (rw z tt))) in
+            let (r, near, u) = touched-corner g c (kid NE p) (patch-touched g c (kid NE p) (omega (arith, kid-depth NE p)) there) in
+            kid-has g c p r (middle-kid g r p near) u

@@ -15,11 +15,13 @@ use Rattle.mesh.specs.Picture.{table}
 use Rattle.mesh.specs.Refusal.{Check, _if_, refusal}
 use Rattle.mesh.specs.Request.{refine, sentence, remove, kill, setValue, looseChecks, checks, withKids, onGround, groundCells, no6, no7}
 use Rattle.table.specs.Words.{depthOf}
+use Rattle.geometry.proofs.Bools.{is-yes}
 use Rattle.numbering.proofs.Naming.{Named, named}
 use Rattle.pictures.proofs.Linked.{depth-of}
 use Rattle.pictures.proofs.Taken.{taken-row}
 use Rattle.deciding.specs.Decide.{parental, lacking, row6, row7, refineRows, sentenceRows, removeRows, killRows, setRows, refineRefusal, sentenceRefusal, removeRefusal, killRefusal, setRefusal}
 use Rattle.deciding.proofs.Asked.{cell-row, sentenced-row, parental-row, doomed-row}
+use Rattle.deciding.proofs.Besides.{coarse-row, finer-row}
 use Rattle.deciding.proofs.Lacking.{lacking-row}
 use Rattle.deciding.proofs.Searching.{enough-row}
 use Rattle.deciding.proofs.Grounds.{other-row}
@@ -59,7 +61,7 @@ module _ (s : State) (v : Valid s) (n : ℕ) where
     stands-there = ap placeOf (d .is-entry)
 
     kids-there : parental (table s) (capacity s) n ≡ withKids s n
-    kids-there = parental-row s v n (placeAt es n) stands-there (d .is-there)
+    kids-there = parental-row s v n (placeAt es n) stands-there (v .mesh .low (placeAt es n) (d .is-there))
 
     depth-there : (k : ℕ) → eqb (depthOf (table s) (base g) n) k ≡ eqb (placeAt es n .depth) k
     depth-there k = rw (depth-of s v n (placeAt es n) stands-there)
@@ -73,7 +75,8 @@ module _ (s : State) (v : Valid s) (n : ℕ) where
       next (kids-there d) (λ _.
       next (depth-there d (base g + 12)) (λ _.
       next (sentenced-row s v n) (λ _.
-      next (enough-row s v (lacking (table s) (capacity s) n) ∙ rw (lacking-row s v n (placeAt es n) (stands-there d) (d .is-there))) (λ _. rest))))))
+      next (coarse-row s v n (placeAt es n) (stands-there d) (d .is-there)) (λ _.
+      next (enough-row s v (lacking (table s) (capacity s) n) ∙ rw (lacking-row s v n (placeAt es n) (stands-there d) (d .is-there))) (λ _. rest)))))))
 
   pub sentence-refusal : sentenceRefusal (table s) (capacity s) (base (gridOf s)) n ≡ refusal (checks s (sentence n))
   unfolding sentenceRefusal looseChecks checks
@@ -86,8 +89,9 @@ module _ (s : State) (v : Valid s) (n : ℕ) where
   unfolding removeRefusal looseChecks checks
   remove-refusal =
       alike-refusal (removeRows (table s) (capacity s) n) (checks s (remove n)) (opened (λ d.
-      next (ap not (kids-there d)) (λ _.
-      next (ap not (doomed-row s v n (placeAt es n) (stands-there d))) (λ _. rest))))
+      next (ap not (kids-there d)) (λ k.
+      next (ap not (doomed-row s v n (placeAt es n) (stands-there d))) (λ _.
+      next (finer-row s v n (placeAt es n) (stands-there d) (d .is-there) (is-yes (withKids s n) (not-false (withKids s n) k))) (λ _. rest)))))
 
   pub kill-refusal : killRefusal (table s) (capacity s) (base (gridOf s)) n ≡ refusal (checks s (kill n))
   unfolding killRefusal looseChecks checks

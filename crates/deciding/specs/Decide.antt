@@ -1,4 +1,5 @@
--- What a request is refused for, by the words of a table: what 01's checks ask, each of one row or a few, and the refusal of each kind of request.
+-- What a request is refused for, by the words of a table: what the checks of 01 and of 02, No. 1, ask, each of one row or a few, and the refusal of
+-- each kind of request.
 -- Assumes nothing.
 use Prim.Native.Nat.{ℕ, zero, suc, _+_}
 use mathlib.Core.Bool.{Bool, not, _&&_}
@@ -41,6 +42,18 @@ module _ (t : List ℤ) (cap : ℕ) where
   unfoldable pub lacking : ℕ → ℕ
   lacking n = count (λ k. eqb k 0) (wantedRows n)
 
+  -- what lies beside a kid of the row n: the word k of the row names the kid, and the word w of the kid's row its neighbour
+  abbrev pub besideKid : ℕ → ℕ → ℕ → ℕ
+  besideKid n k w = linkOf t cap (linkOf t cap n k) w
+
+  -- the rows beside the kids of the row n: of NE, SE, SW and NW the two neighbours each that lie outside the four
+  abbrev pub outerRows : ℕ → List ℕ
+  outerRows n = besideKid n 1 5 ∷ besideKid n 1 6 ∷ besideKid n 2 6 ∷ besideKid n 2 7 ∷ besideKid n 3 7 ∷ besideKid n 3 8 ∷ besideKid n 4 5 ∷ besideKid n 4 8 ∷ []
+
+  -- one of them has kids
+  unfoldable pub finerRound : ℕ → Bool
+  finerRound n = any parental (outerRows n)
+
   -- whether a cell other than n lies so many levels under the row m: the walk ends at the first one
   unfoldable pub otherUnder : ℕ → ℕ → ℕ → Bool
   otherUnder n zero m = not (eqb m 0) && (flagOf t 0 m && not (eqb m n))
@@ -70,8 +83,16 @@ module _ (t : List ℤ) (cap : ℕ) where
     abbrev pub row14 : Check
     row14 = 14 if not (kidsDoomed n)
 
+    -- No. 1 needs no search: where a coarser leaf lies beside a cell, a wall of the cell is green, and its row has the flag GrnCell; and what lies
+    -- beside the kids, outside the four, are eight rows that the kids' links name
+    abbrev pub row21 : Check
+    row21 = 21 if flagOf t 10 n
+
+    abbrev pub row22 : Check
+    row22 = 22 if finerRound n
+
     abbrev pub removeRows : List Check
-    removeRows = row6 ∷ row7 ∷ row13 ∷ row14 ∷ []
+    removeRows = row6 ∷ row7 ∷ row13 ∷ row14 ∷ row22 ∷ []
 
     unfoldable pub removeRefusal : ℕ
     removeRefusal = refusal removeRows
@@ -96,7 +117,7 @@ module _ (t : List ℤ) (cap : ℕ) where
     row15 = 15 if not (otherUnder n d 1)
 
     abbrev pub refineRows : List Check
-    refineRows = row6 n ∷ row7 n ∷ row8 n ∷ row9 ∷ row10 n ∷ row11 n ∷ []
+    refineRows = row6 n ∷ row7 n ∷ row8 n ∷ row9 ∷ row10 n ∷ row21 n ∷ row11 n ∷ []
 
     unfoldable pub refineRefusal : ℕ
     refineRefusal = refusal refineRows

@@ -1,19 +1,28 @@
 // What the checks ask of the rows of a table.
 ghost use mathlib.Core.Path.{_≡_};
-ghost use mathlib.Core.Bool.{cond};
+ghost use mathlib.Core.Bool.{_||_, cond};
 ghost use Prim.Native.Nat.{_+_, _*_, _<_, _≤_};
 ghost use lib.Dec.{eqb};
 ghost use lib.ListN.{length};
 ghost use Rattle.mesh.specs.Picture.{rowWords};
 ghost use Rattle.table.specs.Words.{linkOf, flagOf};
 ghost use Rattle.table.specs.Plain.{Plain};
-ghost use Rattle.deciding.specs.Decide.{parental, kidsDoomed, lacking, otherUnder};
+ghost use Rattle.deciding.specs.Decide.{parental, kidsDoomed, lacking, besideKid, finerRound, otherUnder};
 use table::words::NE_KID;
 use table::words::NW_KID;
 use table::words::SE_KID;
 use table::words::SW_KID;
 use table::words::flag;
 use table::words::link;
+
+// The words of the neighbours.
+const NORTH: usize = 5;
+
+const EAST: usize = 6;
+
+const SOUTH: usize = 7;
+
+const WEST: usize = 8;
 
 // Whether the cell n has kids.
 pub fn has_kids(t: &[i32], cap: usize, n: usize) -> bool
@@ -60,9 +69,9 @@ pub fn lack_count(t: &[i32], cap: usize, n: usize) -> usize
     requires { ⌜ (cap * rowWords + rowWords ≤ length (now t)) × (n ≤ cap) × (cap ≤ 4095) × Plain (now t) cap ⌝ }
     ensures { λ r. ⌜ (r ≤ 9) × (r ≡ lacking (now (t .entry)) cap n) ⌝ }
 {
-    let north = table::plain::link(t, cap, n, 5);
-    let east = table::plain::link(t, cap, n, 6);
-    let far = table::plain::link(t, cap, east, 5);
+    let north = table::plain::link(t, cap, n, NORTH);
+    let east = table::plain::link(t, cap, n, EAST);
+    let far = table::plain::link(t, cap, east, NORTH);
     let own = lacks(t, cap, n, SW_KID)
         + lacks(t, cap, n, SE_KID)
         + lacks(t, cap, n, NW_KID)
@@ -70,6 +79,31 @@ pub fn lack_count(t: &[i32], cap: usize, n: usize) -> usize
     let above = lacks(t, cap, north, SW_KID) + lacks(t, cap, north, SE_KID);
     let beside = lacks(t, cap, east, NW_KID) + lacks(t, cap, east, SW_KID);
     own + above + beside + lacks(t, cap, far, SW_KID)
+}
+
+// Whether one of two neighbours of a kid has kids: the word k of the row n names the kid, and the words a and b of the kid's row the neighbours.
+fn finer_beside(t: &[i32], cap: usize, n: usize, k: usize, a: usize, b: usize) -> bool
+    requires { ⌜ (cap * rowWords + rowWords ≤ length (now t)) × (n ≤ cap) × (k < 9) × (a < 9) × (b < 9) × (cap ≤ 4095) × Plain (now t) cap ⌝ }
+    ensures { λ r. ⌜ r ≡ (parental (now (t .entry)) cap (besideKid (now (t .entry)) cap n k a) || parental (now (t .entry)) cap (besideKid (now (t .entry)) cap n k b)) ⌝ }
+{
+    let kid = table::plain::link(t, cap, n, k);
+    let one = table::plain::link(t, cap, kid, a);
+    let other = table::plain::link(t, cap, kid, b);
+    let x = table::plain::link(t, cap, one, NE_KID);
+    let y = table::plain::link(t, cap, other, NE_KID);
+    (x != 0) | (y != 0)
+}
+
+// Whether a cell beside the four kids of the row n, and outside them, has kids.
+pub fn finer_round(t: &[i32], cap: usize, n: usize) -> bool
+    requires { ⌜ (cap * rowWords + rowWords ≤ length (now t)) × (n ≤ cap) × (cap ≤ 4095) × Plain (now t) cap ⌝ }
+    ensures { λ r. ⌜ r ≡ finerRound (now (t .entry)) cap n ⌝ }
+{
+    let a = finer_beside(t, cap, n, NE_KID, NORTH, EAST);
+    let b = finer_beside(t, cap, n, SE_KID, EAST, SOUTH);
+    let c = finer_beside(t, cap, n, SW_KID, SOUTH, WEST);
+    let e = finer_beside(t, cap, n, NW_KID, NORTH, WEST);
+    a | (b | (c | e))
 }
 
 // Whether a cell other than n lies l levels under the row m: the walk ends at the first one.

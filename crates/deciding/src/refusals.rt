@@ -1,13 +1,15 @@
-// The refusal of each kind of request, 0 for none, by 01's checks in their order; d is the depth of level 0.
+// The refusal of each kind of request, 0 for none, by the checks of 01 and of 02, No. 1, in their order; d is the depth of level 0.
 ghost use mathlib.Core.Path.{_≡_};
+ghost use mathlib.Core.Bool.{not};
 ghost use mathlib.Core.List.{[], _∷_};
 ghost use Prim.Native.Nat.{_+_, _*_, _≤_};
 ghost use lib.ListN.{length};
 ghost use Rattle.mesh.specs.Picture.{rowWords};
-ghost use Rattle.mesh.specs.Refusal.{refusal};
+ghost use Rattle.mesh.specs.Refusal.{_if_, refusal};
 ghost use Rattle.table.specs.Plain.{Plain};
 ghost use Rattle.stock.specs.Free.{Counted};
 ghost use Rattle.deciding.specs.Decide.{row6, row7, refineRefusal, sentenceRefusal, removeRefusal, killRefusal, setRefusal};
+use crate::asks::finer_round;
 use crate::asks::has_kids;
 use crate::asks::kids_doomed;
 use crate::asks::lack_count;
@@ -28,6 +30,16 @@ fn cell_refusal(t: &[i32], cap: usize, n: usize) -> u32
     if flag(t, 0, n) { 0 } else { 7 }
 }
 
+// The two checks that a refinement ends with: a wall of the cell is green, since a coarser leaf lies beside it; and there are numbers enough.
+fn room_refusal(green: bool, enough: bool) -> u32
+    ensures { λ r. ⌜ r ≡ refusal ((21 if green) ∷ (11 if not enough) ∷ []) ⌝ }
+{
+    if green {
+        return 21;
+    }
+    if enough { 0 } else { 11 }
+}
+
 // With the count of the free numbers, up to nine.
 pub fn refine_refusal(t: &[i32], cap: usize, d: u32, n: usize, spare: usize) -> u32
     requires { ⌜ (cap * rowWords + rowWords ≤ length (now t)) × (d ≤ 32) × (cap ≤ 4095) × Counted cap (now t) spare × Plain (now t) cap ⌝ }
@@ -43,14 +55,13 @@ pub fn refine_refusal(t: &[i32], cap: usize, d: u32, n: usize, spare: usize) -> 
     if depth(t, d, n) == d + 12 {
         return 9;
     }
-    if flag(t, 12, n) {
+    if table::plain::flag(t, cap, 12, n) {
         return 10;
     }
-    if lack_count(t, cap, n) <= spare {
-        0
-    } else {
-        11
-    }
+    room_refusal(
+        table::plain::flag(t, cap, 10, n),
+        lack_count(t, cap, n) <= spare,
+    )
 }
 
 pub fn sentence_refusal(t: &[i32], cap: usize, d: u32, n: usize) -> u32
@@ -68,7 +79,7 @@ pub fn sentence_refusal(t: &[i32], cap: usize, d: u32, n: usize) -> u32
 }
 
 pub fn remove_refusal(t: &[i32], cap: usize, n: usize) -> u32
-    requires { ⌜ (cap * rowWords + rowWords ≤ length (now t)) × (cap ≤ 4095) ⌝ }
+    requires { ⌜ (cap * rowWords + rowWords ≤ length (now t)) × (cap ≤ 4095) × Plain (now t) cap ⌝ }
     ensures { λ r. ⌜ r ≡ removeRefusal (now (t .entry)) cap n ⌝ }
 {
     let r = cell_refusal(t, cap, n);
@@ -78,7 +89,10 @@ pub fn remove_refusal(t: &[i32], cap: usize, n: usize) -> u32
     if !has_kids(t, cap, n) {
         return 13;
     }
-    if kids_doomed(t, cap, n) { 0 } else { 14 }
+    if !kids_doomed(t, cap, n) {
+        return 14;
+    }
+    if finer_round(t, cap, n) { 22 } else { 0 }
 }
 
 pub fn kill_refusal(t: &[i32], cap: usize, d: u32, n: usize) -> u32

@@ -32,7 +32,7 @@ module _ {g : Grid} {c : Place → Bool} (m : Mesh g c) (u v : ℕ) where
   -- ---- up to the ground
 
   -- where a cell holds the point, so does a cell n depths less
-  spot-up : (n e d : ℕ) → d ≡ e + n → base g ≤ e → T (c (spot g d u v)) → T (c (spot g e u v))
+  pub spot-up : (n e d : ℕ) → d ≡ e + n → base g ≤ e → T (c (spot g d u v)) → T (c (spot g e u v))
   spot-up zero e d f l t =
       let i : d ≡ e = omega arith in
       rw (← i) t

@@ -1,4 +1,4 @@
--- Demand 1: each call's answer is 0 or one of the refusals that 01 lists for it, on anything that is lent.
+-- Demand 1: each call's answer is 0 or one of the refusals that 01 and 02 list for it, on anything that is lent.
 -- Assumes nothing.
 use Prim.Native.Nat.{ℕ, zero, suc, _+_}
 use native.Mathlib.Omega.{arith}
@@ -57,7 +57,7 @@ among-more (k ∷ ns) ms h n t = go (or-cases (eqb n k) _ t) (among-more ns ms (
 
 -- kind (5), body (4), and the kinds' lists
 abbrev pub ofTapes : List ℕ
-ofTapes = 0 ∷ 1 ∷ 2 ∷ 3 ∷ 4 ∷ 5 ∷ 6 ∷ 7 ∷ 8 ∷ 9 ∷ 10 ∷ 11 ∷ 12 ∷ 13 ∷ 14 ∷ 15 ∷ 16 ∷ []
+ofTapes = 0 ∷ 1 ∷ 2 ∷ 3 ∷ 4 ∷ 5 ∷ 6 ∷ 7 ∷ 8 ∷ 9 ∷ 10 ∷ 11 ∷ 12 ∷ 13 ∷ 14 ∷ 15 ∷ 16 ∷ 21 ∷ 22 ∷ []
 
 listed : (s : State) (r : Request) → T (all (among ofTapes) (0 ∷ numbers (checks s r))) → T (among ofTapes (refusal (checks s r)))
 listed s r h = among-more (0 ∷ numbers (checks s r)) ofTapes h (refusal (checks s r)) (refusal-among (checks s r))

@@ -6,12 +6,15 @@ use mathlib.Core.Logic.{Iff·trans}
 use mathlib.Core.List.{List}
 use Rattle.mesh.specs.Place.{Grid}
 use Rattle.mesh.specs.State.{State, inUse, gridOf, capacity}
+use Rattle.mesh.specs.Valid.{Valid}
 use Rattle.mesh.specs.Refusal.{refusal}
+use Rattle.mesh.specs.Request.{Request, accepted, request}
 use Rattle.mesh.specs.Build.{full, built}
 use Rattle.mesh.specs.Call.{Lent, picture, Built, buildChecks, buildCall}
 use Rattle.geometry.proofs.Tiling.{tiling-one}
 use Rattle.numbering.proofs.Building.{built-contents, built-cells}
 use Rattle.pictures.proofs.Links.{link-place, links-return, parent-kid-return}
+use Rattle.balance.proofs.States.{Even, built-even, accepted-even, even-no-jump}
 use Rattle.walking.specs.Points.{total}
 use Rattle.walking.proofs.Scans.{scan-all}
 use Rattle.walking.proofs.Counts.{in-use-counts}
@@ -22,13 +25,16 @@ use Rattle.laws.proofs.Numbers.{built-numbers}
 use Rattle.laws.proofs.Adjacent.{around-adjacent}
 use Rattle.laws.proofs.Refusals.{unless-accepted, unless-why}
 use Rattle.walking.proofs.Lookups.{lookup-leaf, lookup-none}
+use Rattle.laws.proofs.Exactly.{accepted-is}
+use Rattle.laws.proofs.Requests.{request-done}
 use Rattle.laws.proofs.Tapes.{Led, tapes-led}
+use Rattle.laws.proofs.Lasting.{tapes-keep}
 use Rattle.laws.proofs.Calls.{Buildable, build-checked, build-valid, afterCalls, calls-picture}
 
 -- it holds of every valid state that the deeds lead to
-demanded : (g : Grid) (cap : ℕ) → Buildable cap g → (ds : List Deed) (s : State) → Led (built g cap) ds s → Demand3 g ds s
+demanded : (g : Grid) (cap : ℕ) → Buildable cap g → (ds : List Deed) (s : State) → Led (built g cap) ds s → Even s → Demand3 g ds s
 unfolding built
-demanded g cap b ds s l = record {
+demanded g cap b ds s l even = record {
   same-grid = l .same-grid;
   mark = l .mark;
   valid = l .valid;
@@ -43,7 +49,19 @@ demanded g cap b ds s l = record {
   no-leaf = λ u v h. lookup-none (l .valid) u v h;
   walked = λ o t from to a h k. scan-all s (l .valid) o t from to a h k;
   counted = in-use-counts (l .valid);
+  no-jump = even-no-jump s (l .valid) even;
 }
+
+-- ---- levels side by side
+
+-- a valid state that is balanced is followed by such states alone
+abbrev Balancing : State → Type 0
+Balancing s = Valid s × Even s
+
+stays-even : (s t : State) (r : Request) → request s r ≡ accepted t → Balancing s → Balancing t
+stays-even s t r h (v, even) =
+    let (ok, e) = accepted-is s r t h in
+    (request-done s v r t h .valid, subst Even (sym e) (accepted-even s v even r ok))
 
 -- ---- an accepted build
 
@@ -69,5 +87,5 @@ demand-3 cap l g ok ts =
     let (b, is) = build-accepted cap l g ok in
     let (v, c) = build-valid cap g b in (
       ap (λ (r : Built). afterCalls cap (r .lent) ts) is ∙ calls-picture ts cap (built g cap) v c,
-      demanded g cap b (deeds (built g cap) ts) (after (built g cap) ts) (tapes-led ts (built g cap) v),
+      demanded g cap b (deeds (built g cap) ts) (after (built g cap) ts) (tapes-led ts (built g cap) v) (tapes-keep Balancing stays-even ts (built g cap) (v, built-even g cap (b .rectangle)) .1),
     )

@@ -8,5 +8,6 @@ pub mod Numbers
 pub mod History
 pub mod Requests
 pub mod Tapes
+pub mod Lasting
 pub mod Calls
 pub mod Demand

@@ -71,7 +71,7 @@ led-then s t u ds es a b = record {
 -- ---- one tape
 
 -- a request that goes on was accepted
-step-next : (s : State) (o : Option Kind) (bs : List ℕ) (t : State) (l : ℕ) → stepBy s o bs ≡ next t l → (r : Request) × (request s r ≡ accepted t) × (askedBy (s .entries) o bs ≡ deedOf (s .entries) r ∷ [])
+pub step-next : (s : State) (o : Option Kind) (bs : List ℕ) (t : State) (l : ℕ) → stepBy s o bs ≡ next t l → (r : Request) × (request s r ≡ accepted t) × (askedBy (s .entries) o bs ≡ deedOf (s .entries) r ∷ [])
 step-next s none bs t l e = absurd (let z : _≡_ {A = ℕ} 0 1 = cc in omega arith)
 step-next s (some k) bs t l e = body (ltb (length bs) (k .len)) refl
   where

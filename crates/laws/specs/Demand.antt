@@ -20,6 +20,7 @@ use Rattle.mesh.specs.Build.{full, numbered, blankCell, built}
 use Rattle.mesh.specs.Scan.{permutation, scan}
 use Rattle.mesh.specs.Lookup.{holds, lookup}
 use Rattle.geometry.proofs.Tiling.{groundOf}
+use Rattle.balance.specs.Beside.{NoJump}
 use Rattle.numbering.proofs.Numbers.{contents}
 use Rattle.pictures.proofs.Links.{_of_, linkWord}
 use Rattle.walking.specs.Points.{total}
@@ -66,3 +67,5 @@ pub record Demand3 (g : Grid) (ds : List Deed) (s : State) : Type 0 where
       → (k : ℕ) → count (eqb k) (scan s 1 o 1 from to) ≡ cond (isUsed (entry (s .entries) k)) 1 0
   -- "the number in use is ghosts plus distinct corner points of each level"
   pub counted : inUse (s .entries) ≡ total (gridOf s) (cells (s .entries))
+  -- 02, No. 1: "From a fresh build, leaves that share part of an edge then differ by one level at most"
+  pub no-jump : NoJump (gridOf s) (cells (s .entries))

@@ -5,6 +5,7 @@ use lib.Count as Count
 use lib.Ieee as Ieee
 use Rattle.mesh.specs.Place.{same, base, level, toNorth, toEast, toSouth, toWest, step, kid, kids, parent, around, home}
 use Rattle.mesh.specs.Mesh.{touched, under, patch, hasKids, leaf, wallH, wallV, ends, sides, derived, flags}
+use Rattle.mesh.specs.Jump.{coarseBeside, finerBeside}
 use Rattle.mesh.specs.State.{cells, number, freeCount, inUse, nextFree}
 use Rattle.mesh.specs.Picture.{fields, rowOf, table, amounts}
 use Rattle.mesh.specs.Decode.{decode}
@@ -21,10 +22,10 @@ use Rattle.mesh.specs.Program.{refusedLine, headChecks, tapePage, progra
 use Rattle.mesh.specs.Grids.{Hold, grids}
 
 -- every rule that the grids are worked out by
-unfoldable rules : Unit {0}
-unfolding same base level toNorth toEast toSouth toWest step kid kids parent around home touched under patch hasKids leaf wallH wallV ends sides derived flags cells number freeCount inUse nextFree fields rowOf table amounts decode meshTests cornersThere valueTest tests valid sound refusal full nextLevel levels numbered built wanted missing groundCells looseChecks checks supply give fill prune effect marked request runFrom run listed walk scan scanChecks holds leafHolding lookup lookupChecks decimalIn decimal hexIn line leaves leafLine body page lentChecks unless checkCall buildChecks buildCall tapeCall scanCall lookupCall refusedLine headChecks tapePage program Count.leadingZeros Ieee.toBits Ieee.size Ieee.span Ieee.climb
+unfoldable pub rules : Unit {0}
+unfolding same base level toNorth toEast toSouth toWest step kid kids parent around home touched under patch hasKids leaf wallH wallV ends sides derived flags coarseBeside finerBeside cells number freeCount inUse nextFree fields rowOf table amounts decode meshTests cornersThere valueTest tests valid sound refusal full nextLevel levels numbered built wanted missing groundCells looseChecks checks supply give fill prune effect marked request runFrom run listed walk scan scanChecks holds leafHolding lookup lookupChecks decimalIn decimal hexIn line leaves leafLine body page lentChecks unless checkCall buildChecks buildCall tapeCall scanCall lookupCall refusedLine headChecks tapePage program Count.leadingZeros Ieee.toBits Ieee.size Ieee.span Ieee.climb
 rules = tt
 
 pub references : Hold grids
 unfolding rules grids
-references = (refl, (refl, (refl, (refl, (refl, (refl, (refl, (refl, (refl, (refl, (refl, (refl, (refl, (refl, (refl, (refl, (refl, (refl, (refl, (refl, (refl, (refl, (refl, (refl, (refl, (refl, (refl, (refl, tt))))))))))))))))))))))))))))
+references = (refl, (refl, (refl, (refl, (refl, (refl, (refl, (refl, (refl, (refl, (refl, (refl, (refl, (refl, (refl, (refl, (refl, (refl, (refl, (refl, (refl, (refl, (refl, (refl, (refl, (refl, (refl, (refl, (refl, (refl, (refl, tt)))))))))))))))))))))))))))))))

@@ -94,6 +94,14 @@ refine10 = killed ++ (1 ∷ 0 ∷ 10 ∷ [])
 abbrev kill6 : List ℕ
 kill6 = 4 ∷ 0 ∷ 6 ∷ []
 
+-- the cell 4 and its kid 11, which lies beside the cell 6
+abbrev refine11 : List ℕ
+refine11 = 1 ∷ 0 ∷ 11 ∷ []
+
+-- both cells refined, then 11; the kids of 6, named and sentenced, and it is to lose them
+abbrev doom6 : List ℕ
+doom6 = refine4 ++ (1 ∷ 0 ∷ 6 ∷ []) ++ refine11 ++ (2 ∷ 0 ∷ 17 ∷ 2 ∷ 0 ∷ 19 ∷ 2 ∷ 0 ∷ 16 ∷ 2 ∷ 0 ∷ 20 ∷ 3 ∷ 0 ∷ 6 ∷ [])
+
 unfoldable pub grids : List Claim
 grids =
     -- P1
@@ -142,6 +150,10 @@ grids =
     (map (λ n. wordAt (build 2 1 20 .lent) 10 n) (4 ∷ 6 ∷ []) is (0 ∷ 1 ∷ [])) ∷
     -- "touching at a corner only does not count": the middle of 3×3 once the cell at (2,2) is killed
     (flagsAt (tape 3 3 21 (4 ∷ 0 ∷ 18 ∷ []) .lent) (9 ∷ []) is (7 ∷ [])) ∷
+    -- No. 1: beside a coarser leaf 21, after 10 and before 11; beside a finer one 22
+    (outcome (tape 2 1 20 (refine4 ++ refine11)) is (1, 21, 3)) ∷
+    (outcome (tape 2 1 20 (refine4 ++ (2 ∷ 0 ∷ 11 ∷ []) ++ refine11)) is (2, 10, 6)) ∷
+    (outcome (tape 2 1 33 doom6) is (7, 22, 21)) ∷
     -- what these tapes leave is sound
     (map (checkCall 20) (tape 2 1 20 refine4 .lent ∷ tape 2 1 20 killed .lent ∷ []) is (0 ∷ 0 ∷ [])) ∷
     []

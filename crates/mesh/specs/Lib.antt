@@ -3,6 +3,7 @@ pub mod Tools
 pub mod Place
 pub mod Winds
 pub mod Mesh
+pub mod Jump
 pub mod State
 pub mod Valid
 pub mod Picture

@@ -3,6 +3,7 @@
 use Prim.Native.Nat.{ℕ}
 use mathlib.Core.Bool.{Bool, cond}
 use mathlib.Core.List.{List, [], _∷_}
+use lib.Dec.{eqb}
 
 infix 20 _if_
 pub data Check : Type 0 where
@@ -12,3 +13,8 @@ pub data Check : Type 0 where
 unfoldable pub refusal : List Check → ℕ
 refusal [] = 0
 refusal ((n if b) ∷ cs) = cond b n (refusal cs)
+
+-- the checks with one more, directly behind that of number k
+abbrev pub behind : ℕ → Check → List Check → List Check
+behind k x [] = []
+behind k x ((n if b) ∷ cs) = (n if b) ∷ cond (eqb n k) (x ∷ cs) (behind k x cs)

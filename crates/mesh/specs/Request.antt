@@ -1,4 +1,4 @@
--- The five requests: what each checks, in order, and what it makes of a state (01, 'Build and requests').
+-- The five requests: what each checks, in order, and what it makes of a state (01, 'Build and requests'; 02, No. 1).
 -- Assumes nothing.
 use Prim.Native.Nat.{ℕ, _+_, _%_}
 use mathlib.Core.Bool.{Bool, true, false, not, cond}
@@ -10,10 +10,11 @@ use lib.Ieee.{Float}
 use Rattle.mesh.specs.Tools.{any, all, keep, count}
 use Rattle.mesh.specs.Place.{Place, Grid, NE, SE, SW, NW, same, base, toNorth, toEast, kid, kids}
 use Rattle.mesh.specs.Mesh.{patch, hasKids}
+use Rattle.mesh.specs.Jump.{coarseBeside, finerBeside}
 use Rattle.mesh.specs.State.{State, Entry, nil, free, used, Cell, Value, blank, measured, carried, isUsed, isCell, isSentenced, cellOf, entry, cells, number, placeAt, freeCount, gridOf, withEntries, nextFree}
 use Rattle.mesh.specs.Valid.{finite}
 use Rattle.mesh.specs.Test.{ofCell}
-use Rattle.mesh.specs.Refusal.{Check, _if_, refusal}
+use Rattle.mesh.specs.Refusal.{Check, _if_, refusal, behind}
 
 pub data Request : Type 0 where
   refine sentence remove kill : ℕ → Request
@@ -82,10 +83,17 @@ module _ (s : State) (n : ℕ) where
   abbrev pub no15 : Check
   no15 = 15 if eqb (groundCells s) 1
 
+  -- No. 1, 'No jump of two levels'
+  abbrev pub no21 : Check
+  no21 = 21 if coarseBeside (gridOf s) (cells (s .entries)) (placeAt (s .entries) n)
+
+  abbrev pub no22 : Check
+  no22 = 22 if finerBeside (gridOf s) (cells (s .entries)) (placeAt (s .entries) n)
+
 abbrev pub no16 : Float → Check
 no16 x = 16 if not (finite x)
 
--- the column 'Checks in order' of 01's table: what a request's effect rests on
+-- the column 'Checks in order' of 01's table: what a request's effect rests on, without No. 1
 unfoldable pub looseChecks : State → Request → List Check
 looseChecks s (refine n) = no6 s n ∷ no7 s n ∷ no8 s n ∷ no9 s n ∷ no10 s n ∷ no11 s n ∷ []
 looseChecks s (sentence n) = no6 s n ∷ no7 s n ∷ no8 s n ∷ no12-sentence s n ∷ []
@@ -93,9 +101,13 @@ looseChecks s (remove n) = no6 s n ∷ no7 s n ∷ no13 s n ∷ no14 s n ∷ []
 looseChecks s (kill n) = no6 s n ∷ no7 s n ∷ no12-kill s n ∷ no8 s n ∷ no15 s n ∷ []
 looseChecks s (setValue n x) = no6 s n ∷ no7 s n ∷ no8 s n ∷ no16 x ∷ []
 
--- what a request is refused by
+-- what a request is refused by. No. 1: "21 for refine, after 10 and before 11; 22 for remove, after 14"
 unfoldable pub checks : State → Request → List Check
-checks s r = looseChecks s r
+checks s (refine n) = behind 10 (no21 s n) (looseChecks s (refine n))
+checks s (sentence n) = looseChecks s (sentence n)
+checks s (remove n) = behind 14 (no22 s n) (looseChecks s (remove n))
+checks s (kill n) = looseChecks s (kill n)
+checks s (setValue n x) = looseChecks s (setValue n x)
 
 -- ---- what the requests make
 

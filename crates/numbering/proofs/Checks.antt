@@ -4,12 +4,13 @@ use Prim.Native.Nat.{ℕ, _≤_}
 use native.Mathlib.Omega.{arith}
 use mathlib.Core.Path.{_≡_, refl}
 use mathlib.Core.Logic.{_≢_}
-use mathlib.Core.Bool.{Bool, true, false, _&&_}
+use mathlib.Core.Bool.{Bool, true, false, _&&_, cond}
 use mathlib.Core.List.{List, [], _∷_, _++_}
-use lib.Dec.{T, leb, leb→le}
-use Rattle.mesh.specs.State.{State}
-use Rattle.mesh.specs.Refusal.{Check, _if_, refusal}
-use Rattle.mesh.specs.Request.{Request, looseChecks, checks}
+use lib.Dec.{T, eqb, leb, leb→le}
+use Rattle.mesh.specs.Jump.{coarseBeside, finerBeside}
+use Rattle.mesh.specs.State.{State, cells, placeAt, gridOf}
+use Rattle.mesh.specs.Refusal.{Check, _if_, refusal, behind}
+use Rattle.mesh.specs.Request.{Request, refine, sentence, remove, kill, setValue, looseChecks, checks}
 use Rattle.geometry.proofs.Bools.{and-left, and-right}
 
 -- the first check passes, and so do the others
@@ -42,7 +43,40 @@ kept [] ds h = absurd (h refl)
 kept ((k if true) ∷ cs) ds h = refl
 kept ((k if false) ∷ cs) ds h = kept cs ds h
 
--- a request that is not refused passes the checks that its effect rests on
-pub loosely : (s : State) (r : Request) → refusal (checks s r) ≡ 0 → refusal (looseChecks s r) ≡ 0
-unfolding checks
-loosely s r ok = ok
+-- one more check behind a listed one: it passes, and so do the others
+abbrev listed : ℕ → List Check → Bool
+listed k [] = false
+listed k ((n if b) ∷ cs) = cond (eqb n k) true (listed k cs)
+
+pub behind-passes : (k j : ℕ) (b : Bool) (cs : List Check) → j ≢ 0 → T (from 1 cs) → T (listed k cs) → refusal (behind k (j if b) cs) ≡ 0 → (b ≡ false) × (refusal cs ≡ 0)
+unfolding refusal
+behind-passes k j b [] z t l e = absurd l
+behind-passes k j b ((n if true) ∷ cs) z t l e = absurd (omega (arith, leb→le 1 n (and-left (leb 1 n) (from 1 cs) t)))
+behind-passes k j b ((n if false) ∷ cs) z t l e = go (eqb n k) l e (behind-passes k j b cs z (and-right (leb 1 n) (from 1 cs) t))
+  where
+    go : (x : Bool) → T (cond x true (listed k cs)) → refusal (cond x ((j if b) ∷ cs) (behind k (j if b) cs)) ≡ 0
+        → (T (listed k cs) → refusal (behind k (j if b) cs) ≡ 0 → (b ≡ false) × (refusal cs ≡ 0)) → (b ≡ false) × (refusal cs ≡ 0)
+    go true l e further = passes j b cs z e
+    go false l e further = further l e
+
+-- ---- a request
+
+module _ (s : State) where
+  -- "21 for refine": it passes where a refinement is not refused, and so do the checks that the effect rests on
+  pub refine-passes : (n : ℕ) → refusal (checks s (refine n)) ≡ 0 → (coarseBeside (gridOf s) (cells (s .entries)) (placeAt (s .entries) n) ≡ false) × (refusal (looseChecks s (refine n)) ≡ 0)
+  unfolding looseChecks checks
+  refine-passes n ok = behind-passes 10 21 _ (looseChecks s (refine n)) (λ z. omega arith) tt tt ok
+
+  -- "22 for remove"
+  pub remove-passes : (n : ℕ) → refusal (checks s (remove n)) ≡ 0 → (finerBeside (gridOf s) (cells (s .entries)) (placeAt (s .entries) n) ≡ false) × (refusal (looseChecks s (remove n)) ≡ 0)
+  unfolding looseChecks checks
+  remove-passes n ok = behind-passes 14 22 _ (looseChecks s (remove n)) (λ z. omega arith) tt tt ok
+
+  -- a request that is not refused passes the checks that its effect rests on
+  pub loosely : (r : Request) → refusal (checks s r) ≡ 0 → refusal (looseChecks s r) ≡ 0
+  unfolding checks
+  loosely (refine n) ok = refine-passes n ok .1
+  loosely (sentence n) ok = ok
+  loosely (remove n) ok = remove-passes n ok .1
+  loosely (kill n) ok = ok
+  loosely (setValue n x) ok = ok

@@ -9,7 +9,7 @@ use borrow.Author.Needs.{needs}
 use Rattle.mesh.specs.Refusal.{Check}
 use Rattle.table.proofs.Tests.{is-eq, is-other}
 use Rattle.deciding.specs.Decide.{refineRows, refineRefusal}
-use Rattle.deciding.proofs.Arms.{Refused, accepts, first-two, goes-on, goes-on-not, past-le, past-two, refused, spare-enough, spare-few, stops, stops-not}
+use Rattle.deciding.proofs.Arms.{Refused, first-two, goes-on, past-le, past-two, refused, room, stops}
 use Rattle.deciding.proofs.refusals.refine_refusal.Statement.{statement}
 use Rattle.deciding.proofs.refusals.refine_refusal.Tie as tie
 use Rattle.deciding.proofs.refusals.refine_refusal.Reads as reads
@@ -17,11 +17,12 @@ use Rattle.deciding.proofs.refusals.refine_refusal.Lts as lts
 use Rattle.deciding.proofs.refusals.cell_refusal.Reads as cell-refusal-reads
 use Rattle.deciding.proofs.asks.has_kids.Reads as has-kids-reads
 use Rattle.table.proofs.words.depth.Reads as depth-reads
-use Rattle.table.proofs.words.flag.Reads as flag-reads
+use Rattle.table.proofs.plain.flag.Reads as flag-reads
 use Rattle.deciding.proofs.asks.lack_count.Reads as lack-count-reads
+use Rattle.deciding.proofs.refusals.room_refusal.Reads as room-refusal-reads
 
 abbrev claims : lts.Claims
-claims = (cell-refusal-reads.Asked, cell-refusal-reads.Learnt, has-kids-reads.Asked, has-kids-reads.Learnt, depth-reads.Asked, depth-reads.Learnt, flag-reads.Asked, flag-reads.Learnt, lack-count-reads.Asked, lack-count-reads.Learnt)
+claims = (cell-refusal-reads.Asked, cell-refusal-reads.Learnt, has-kids-reads.Asked, has-kids-reads.Learnt, depth-reads.Asked, depth-reads.Learnt, flag-reads.Asked, flag-reads.Learnt, lack-count-reads.Asked, lack-count-reads.Learnt, room-refusal-reads.Asked, room-refusal-reads.Learnt)
 
 abbrev rows : lts.Start claims reads.Pre reads.Post → List Check
 rows c = refineRows (c .args .t .now) (c .args .cap) (c .args .d) (c .args .n)
@@ -70,22 +71,24 @@ unfolding refineRefusal
 returns-3 c = refused _ 9 (past-kids (c .before .before) (stops (is-eq (c .before .depth .ensures .1) (c .if3 .taken))))
 
 flag-requires : tie.Need-flag-requires
-flag-requires c κs = omega (arith, within (c .before .before .before .before))
+flag-requires c κs = let w = within (c .before .before .before .before) in (omega arith, w, omega arith, c .before .before .before .before .before .before .pre .4)
 
 returns-4 : tie.Need-returns-4
 unfolding refineRefusal
 returns-4 c = refused _ 10 (past-level (c .before .before) (stops (sym (c .before .flag .ensures) ∙ c .if4 .taken)))
 
+flag-requires-2 : tie.Need-flag-requires-2
+flag-requires-2 c κs = let w = within (c .before .before .before .before .before .before) in (omega arith, w, omega arith, c .before .before .before .before .before .before .before .before .pre .4)
+
 lack-count-requires : tie.Need-lack-count-requires
-lack-count-requires c κs = let w = within (c .before .before .before .before .before .before) in (omega arith, w, omega arith, c .before .before .before .before .before .before .before .before .pre .4)
+lack-count-requires c κs = let w = within (c .before .before .before .before .before .before .before) in (omega arith, w, omega arith, c .before .before .before .before .before .before .before .before .before .pre .4)
+
+room-refusal-requires : tie.Need-room-refusal-requires
+room-refusal-requires c κs = search needs
 
 returns-5 : tie.Need-returns-5
 unfolding refineRefusal
-returns-5 c = refused _ 0 (past-sentence (c .before .before) (goes-on-not (spare-enough _ _ _ (c .before .before .before .before .before .before .before .before .before .before .pre .3) (c .before .lack-count .ensures .0) (c .before .lack-count .ensures .1) (c .if5 .taken)) accepts))
-
-returns-6 : tie.Need-returns-6
-unfolding refineRefusal
-returns-6 c = refused _ 11 (past-sentence (c .before .before) (stops-not (spare-few _ _ _ (c .before .before .before .before .before .before .before .before .before .before .pre .3) (c .before .lack-count .ensures .0) (c .before .lack-count .ensures .1) (omega arith))))
+returns-5 c = refused _ _ (past-sentence (c .before .before .before) (room _ _ _ _ _ _ _ (c .before .before .before .before .before .before .before .before .before .before .before .pre .3) (c .before .before .flag2 .ensures) (c .before .lack-count .ensures .0) (c .before .lack-count .ensures .1) (c .room-refusal .ensures)))
 
 pub refine-refusal-spec : {M : Type 1} → statement M
 refine-refusal-spec =
@@ -100,6 +103,7 @@ refine-refusal-spec =
     returns-3
     flag-requires
     returns-4
+    flag-requires-2
     lack-count-requires
-    returns-5
-    returns-6)
+    room-refusal-requires
+    returns-5)

@@ -9,7 +9,7 @@ use borrow.Author.Tests.{not-true, not-false}
 use borrow.Author.Needs.{needs}
 use Rattle.mesh.specs.Refusal.{Check}
 use Rattle.deciding.specs.Decide.{removeRows, removeRefusal}
-use Rattle.deciding.proofs.Arms.{Refused, accepts, first-two, goes-on-not, past-le, past-two, refused, stops-not}
+use Rattle.deciding.proofs.Arms.{Refused, accepts, first-two, goes-on, goes-on-not, past-le, past-two, refused, stops, stops-not}
 use Rattle.deciding.proofs.refusals.remove_refusal.Statement.{statement}
 use Rattle.deciding.proofs.refusals.remove_refusal.Tie as tie
 use Rattle.deciding.proofs.refusals.remove_refusal.Reads as reads
@@ -17,9 +17,10 @@ use Rattle.deciding.proofs.refusals.remove_refusal.Lts as lts
 use Rattle.deciding.proofs.refusals.cell_refusal.Reads as cell-refusal-reads
 use Rattle.deciding.proofs.asks.has_kids.Reads as has-kids-reads
 use Rattle.deciding.proofs.asks.kids_doomed.Reads as kids-doomed-reads
+use Rattle.deciding.proofs.asks.finer_round.Reads as finer-round-reads
 
 abbrev claims : lts.Claims
-claims = (cell-refusal-reads.Asked, cell-refusal-reads.Learnt, has-kids-reads.Asked, has-kids-reads.Learnt, kids-doomed-reads.Asked, kids-doomed-reads.Learnt)
+claims = (cell-refusal-reads.Asked, cell-refusal-reads.Learnt, has-kids-reads.Asked, has-kids-reads.Learnt, kids-doomed-reads.Asked, kids-doomed-reads.Learnt, finer-round-reads.Asked, finer-round-reads.Learnt)
 
 abbrev rows : lts.Start claims reads.Pre reads.Post → List Check
 rows c = removeRows (c .args .t .now) (c .args .cap) (c .args .n)
@@ -34,6 +35,9 @@ within c = past-le _ _ _ _ (c .before .cell-refusal .ensures) (c .if1 .left)
 
 past-kids : (c : lts.Else2 claims reads.Pre reads.Post) {j : ℕ} → Refused (drop 3 (rows (c .before .before .before .before))) j → Refused (rows (c .before .before .before .before)) j
 past-kids c f = past-cell (c .before .before) (goes-on-not (sym (c .before .has-kids .ensures) ∙ not-false _ (c .if2 .left)) f)
+
+past-doomed : (c : lts.Else3 claims reads.Pre reads.Post) {j : ℕ} → Refused (drop 4 (rows (c .before .before .before .before .before .before))) j → Refused (rows (c .before .before .before .before .before .before)) j
+past-doomed c f = past-kids (c .before .before) (goes-on-not (sym (c .before .kids-doomed .ensures) ∙ not-false _ (c .if3 .left)) f)
 
 -- ---- what is needed
 
@@ -56,11 +60,18 @@ kids-doomed-requires c κs = omega (arith, within (c .before .before))
 
 returns-3 : tie.Need-returns-3
 unfolding removeRefusal
-returns-3 c = refused _ 0 (past-kids (c .before .before) (goes-on-not (sym (c .before .kids-doomed .ensures) ∙ c .if3 .taken) accepts))
+returns-3 c = refused _ 14 (past-kids (c .before .before) (stops-not (sym (c .before .kids-doomed .ensures) ∙ not-true _ (c .if3 .taken))))
+
+finer-round-requires : tie.Need-finer-round-requires
+finer-round-requires c κs = let w = within (c .before .before .before .before) in (omega arith, w, omega arith, c .before .before .before .before .before .before .pre .2)
 
 returns-4 : tie.Need-returns-4
 unfolding removeRefusal
-returns-4 c = refused _ 14 (past-kids (c .before .before) (stops-not (sym (c .before .kids-doomed .ensures) ∙ c .if3 .left)))
+returns-4 c = refused _ 22 (past-doomed (c .before .before) (stops (sym (c .before .finer-round .ensures) ∙ c .if4 .taken)))
+
+returns-5 : tie.Need-returns-5
+unfolding removeRefusal
+returns-5 c = refused _ 0 (past-doomed (c .before .before) (goes-on (sym (c .before .finer-round .ensures) ∙ c .if4 .left) accepts))
 
 pub remove-refusal-spec : {M : Type 1} → statement M
 remove-refusal-spec =
@@ -72,4 +83,6 @@ remove-refusal-spec =
     returns-2
     kids-doomed-requires
     returns-3
-    returns-4)
+    finer-round-requires
+    returns-4
+    returns-5)

@@ -1,0 +1,119 @@
+-- Refusal 22 asks eight places: of each kid the two neighbours that lie outside the four, and of each only whether it has kids.
+-- Assumes nothing.
+use Prim.Native.Nat.{ℕ, suc, _+_, _*_, _/_, _%_, _≤_, _<_}
+use native.Mathlib.Omega.{arith}
+use mathlib.Core.Path.{_≡_, refl, sym, ap, _∙_}
+use mathlib.Core.Bool.{Bool, true, false, not, _&&_, _||_, cond}
+use mathlib.Core.Option.{Option, none, some, Option·map, Option·some-injective}
+use mathlib.Core.List.{List, [], _∷_}
+use lib.Dec.{T}
+use Rattle.mesh.specs.Tools.{any, orElse}
+use Rattle.mesh.specs.Place.{Place, Grid, Wind, NE, SE, SW, NW, N, E, S, W, compass, kidWinds, sideWinds, same, base, toNorth, toEast, step, kid, kids, parent}
+use Rattle.mesh.specs.Mesh.{Mesh, hasKids}
+use Rattle.mesh.specs.Jump.{finerThan, finerBeside}
+use Rattle.mesh.proofs.Winds.{rule}
+use Rattle.geometry.proofs.Bools.{yes-is, no-is, bool-ext, and-both, and-right}
+use Rattle.geometry.proofs.Places.{In, south-north, west-east}
+use Rattle.geometry.proofs.Kids.{up, parent-up, up-is, parent-depth, kid-depth, up-kid, parent-in, in-parent, has-kid}
+use Rattle.geometry.proofs.Digits.{aside, within, stays, step-up, step-depth}
+
+-- the neighbours of the kids that lie outside the four
+abbrev pub eight : Grid → Place → List (Option Place)
+eight g p =
+    step g N (kid NE p) ∷
+    step g E (kid NE p) ∷
+    step g E (kid SE p) ∷
+    step g S (kid SE p) ∷
+    step g S (kid SW p) ∷
+    step g W (kid SW p) ∷
+    step g N (kid NW p) ∷
+    step g W (kid NW p) ∷
+    []
+
+-- ---- which steps stay among the four
+
+abbrev inward : Wind → Wind → Bool
+inward x w = within (compass x .east / 2 + compass w .east) && within (compass x .north / 2 + compass w .north)
+
+stays-kid : (x w : Wind) (p : Place) → stays w (kid x p) ≡ inward x w
+unfolding kid
+stays-kid x w p =
+    let a : (2 * p .col + compass x .east / 2) % 2 ≡ compass x .east / 2 = omega (arith, rule x .east-back) in
+    let b : (2 * p .row + compass x .north / 2) % 2 ≡ compass x .north / 2 = omega (arith, rule x .north-back) in
+    rw (a, b)
+
+-- a step leads away
+north-moves : (g : Grid) (p : Place) → toNorth g p ≡ p → ⊥
+unfolding toNorth
+north-moves g p e = let x : suc (p .row) ≡ p .row = ap (λ (q : Place). q .row) e in omega arith
+
+east-moves : (g : Grid) (p : Place) → toEast g p ≡ p → ⊥
+unfolding toEast
+east-moves g p e = let x : suc (p .col) ≡ p .col = ap (λ (q : Place). q .col) e in omega arith
+
+step-moves : (g : Grid) (w : Wind) → T (aside w) → (p : Place) → step g w p ≡ some p → ⊥
+unfolding step
+step-moves g N a p e = north-moves g p (Option·some-injective _ _ e)
+step-moves g E a p e = east-moves g p (Option·some-injective _ _ e)
+step-moves g S a p e = north-moves g p (south-north g p p e)
+step-moves g W a p e = east-moves g p (west-east g p p e)
+step-moves g NE a p e = absurd a
+step-moves g SE a p e = absurd a
+step-moves g SW a p e = absurd a
+step-moves g NW a p e = absurd a
+
+and-false : (a : Bool) → (a && false) ≡ false
+and-false true = refl
+and-false false = refl
+
+flat : (a b c : Bool) → ((a || (b || false)) || c) ≡ (a || (b || c))
+flat true b c = refl
+flat false true c = refl
+flat false false c = refl
+
+-- what is the same for each wind is the same for the four
+any-sides : (f h : Wind → Bool) → ((w : Wind) → T (aside w) → f w ≡ h w) → any f sideWinds ≡ any h sideWinds
+any-sides f h e = rw (e N tt, e E tt, e S tt, e W tt)
+
+any-kids : (f h : Wind → Bool) → ((x : Wind) → f x ≡ h x) → any f kidWinds ≡ any h kidWinds
+any-kids f h e = rw (e NE, e SE, e SW, e NW)
+
+module _ (g : Grid) (c : Place → Bool) (m : Mesh g c) (p : Place) (low : base g ≤ p .depth) where
+  -- a neighbour of a kid, as 22 asks of it, and whether it has kids
+  abbrev asked : Wind → Wind → Bool
+  asked x w = orElse false (finerThan g c p) (step g w (kid x p))
+
+  abbrev parental : Wind → Wind → Bool
+  parental x w = orElse false (hasKids g c) (step g w (kid x p))
+
+  -- 22 asks only where the step leads out of the four, and there only this
+  asked-is : (x w : Wind) → T (aside w) → asked x w ≡ cond (inward x w) false (parental x w)
+  asked-is x w a = rw (← stays-kid x w p) (go (stays w (kid x p)) refl (step g w (kid x p)) refl)
+    where
+      go : (b : Bool) → stays w (kid x p) ≡ b → (o : Option Place) → step g w (kid x p) ≡ o → orElse false (finerThan g c p) o ≡ cond b false (orElse false (hasKids g c) o)
+      go true s none e = refl
+      go false s none e = refl
+      go b s (some q) e = at-place b s
+        where
+          above : (b : Bool) → stays w (kid x p) ≡ b → some (up q) ≡ cond b (some p) (step g w p)
+          above b s = sym (ap (Option·map up) e) ∙ step-up g w a (kid x p) (omega (arith, kid-depth x p)) ∙ rw (s, up-kid x p)
+
+          depth-of : q .depth ≡ suc (p .depth)
+          depth-of = step-depth g w a (kid x p) q e ∙ kid-depth x p
+
+          cell : T (hasKids g c q) → T (c q)
+          cell t = let (k, f, u) = has-kid g c q t in rw f at (m .above k u (omega (arith, parent-depth k q f, depth-of)))
+
+          at-place : (b : Bool) → stays w (kid x p) ≡ b → finerThan g c p q ≡ cond b false (hasKids g c q)
+          at-place true s =
+              let i : In q (kids p) = parent-in q p (parent-up q (omega (arith, depth-of)) ∙ above true s) in
+              rw (yes-is (any (same q) (kids p)) i) (and-false (c q))
+          at-place false s =
+              let n : any (same q) (kids p) ≡ false = no-is (any (same q) (kids p)) (λ i. step-moves g w a p (sym (above false s) ∙ ap some (up-is q p (in-parent q p i)))) in
+              rw n (bool-ext (c q && hasKids g c q) (hasKids g c q) (λ t. and-right (c q) (hasKids g c q) t) (λ t. and-both (c q) (hasKids g c q) (cell t) t))
+
+  pub finer-eight : finerBeside g c p ≡ any (orElse false (hasKids g c)) (eight g p)
+  unfolding finerBeside kids
+  finer-eight =
+      any-kids (λ x. any (asked x) sideWinds) _ (λ x. any-sides (asked x) (λ w. cond (inward x w) false (parental x w)) (asked-is x))
+      ∙ rw (flat (parental NE N) (parental NE E), flat (parental SE E) (parental SE S), flat (parental SW S) (parental SW W), flat (parental NW N) (parental NW W))

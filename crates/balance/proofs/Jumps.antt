@@ -1,0 +1,175 @@
+-- In a balanced mesh two leaves that share part of an edge differ by one level at most. If one were two levels finer, there would be two points,
+-- one in each, whose places on the level above the coarse leaf lie side by side; that of the fine leaf is a refined cell, so that of the
+-- coarse leaf is a cell too, and a kid of it.
+-- Assumes nothing.
+use Prim.Native.Nat.{ℕ, zero, suc, _+_, _-_, _*_, _/_, _^_, _≤_, _<_}
+use native.Mathlib.Nat.{add-mul, one-mul, suc-mul, mul-assoc, mul-comm, pow-suc, one-le-pow, div-eq-of-lt-le}
+use native.Mathlib.Omega.{arith}
+use native.Mathlib.Decide.{decLe}
+use mathlib.Core.Path.{_≡_, refl, sym, ap, _∙_, subst}
+use mathlib.Core.Logic.{_⊎_, inl, inr}
+use mathlib.Core.Bool.{Bool, _&&_}
+use mathlib.Core.Option.{some}
+use lib.Dec.{T, leb, ltb, le→leb, lt→ltb}
+use Rattle.mesh.specs.Place.{Place, Grid, Wind, N, E, S, W, at, base, home, toSouth, toWest, step, parent}
+use Rattle.mesh.specs.Mesh.{Mesh, on, hasKids, leaf}
+use Rattle.mesh.specs.Lookup.{side, holds}
+use Rattle.geometry.proofs.Bools.{and-both}
+use Rattle.geometry.proofs.Places.{place-path, step-back}
+use Rattle.geometry.proofs.Kids.{up-is, kid-has, leaf-cell, leaf-kidless}
+use Rattle.geometry.proofs.Digits.{aside}
+use Rattle.geometry.proofs.Walls.{home-up, home-cell}
+use Rattle.geometry.proofs.Points.{spot, spot-depth, holds-spot, spot-parent}
+use Rattle.geometry.proofs.Tiling.{spot-up}
+use Rattle.balance.specs.Beside.{westEdge, eastEdge, southEdge, northEdge, Overlap, BesideV, BesideH, Beside, NoJump}
+use Rattle.balance.specs.Balanced.{Balanced}
+
+-- ---- intervals
+
+-- a number lies in the i-th interval of length h
+abbrev pub Within : ℕ → ℕ → ℕ → Type 0
+Within h i u = (i * h ≤ u) × (u < (i + 1) * h)
+
+grows : (h i : ℕ) → 0 < h → i * h < (i + 1) * h
+grows h i l = rw (add-mul, one-mul) (omega arith)
+
+-- a number in both of two intervals that overlap
+common : (h i k j : ℕ) → 0 < h → 0 < k → Overlap (i * h) ((i + 1) * h) (j * k) ((j + 1) * k) → (v : ℕ) × Within h i v × Within k j v
+common h i k j a b (x, y) = go (decLe (i * h) (j * k))
+  where
+    go : Dec (i * h ≤ j * k) → (v : ℕ) × Within h i v × Within k j v
+    go (yes l) = (j * k, (l, y), (omega arith, grows k j b))
+    go (no l) = (i * h, (omega arith, grows h i a), (omega arith, x))
+
+-- the last number of the interval before an edge, and the first of the one behind it
+last : (h i : ℕ) → 0 < h → Within h i ((i + 1) * h - 1)
+last h i l = let g = grows h i l in (omega arith, omega arith)
+
+index : (h k : ℕ) → 0 < h → (suc k * h / h ≡ suc k) × ((suc k * h - 1) / h ≡ k)
+index h k l =
+    let (a, b) = last h k l in
+    let e : k + 1 ≡ suc k = omega arith in
+    (div-eq-of-lt-le h (omega arith) (grows h (suc k) l), rw e at (div-eq-of-lt-le h a b))
+
+-- ---- places side by side
+
+module _ (g : Grid) (e : ℕ) where
+  abbrev len : ℕ
+  len = 2 ^ (base g + 12 - e)
+
+  len-pos : 0 < len
+  len-pos = one-le-pow (base g + 12 - e) 2 (omega arith)
+
+  west-of : (k v : ℕ) → step g W (spot g e (suc k * len) v) ≡ some (spot g e (suc k * len - 1) v)
+  unfolding spot step toWest
+  west-of k v = let (a, b) = index len k len-pos in rw (a, b)
+
+  south-of : (k u : ℕ) → step g S (spot g e u (suc k * len)) ≡ some (spot g e u (suc k * len - 1))
+  unfolding spot step toSouth
+  south-of k u = let (a, b) = index len k len-pos in rw (a, b)
+
+pub held : (g : Grid) (p : Place) (u v : ℕ) → Within (side g p) (p .col) u → Within (side g p) (p .row) v → T (holds g p u v)
+unfolding holds
+held g p u v (a, b) (c, d) =
+    let h = side g p in
+    let t₃ = leb (p .row * h) v in
+    let t₄ = ltb v ((p .row + 1) * h) in
+    and-both (leb (p .col * h) u) (ltb u ((p .col + 1) * h) && (t₃ && t₄)) (le→leb _ _ a)
+    (and-both (ltb u ((p .col + 1) * h)) (t₃ && t₄) (lt→ltb _ _ b) (and-both t₃ t₄ (le→leb _ _ c) (lt→ltb _ _ d)))
+
+-- ---- a leaf two levels finer
+
+module _ {g : Grid} {c : Place → Bool} (m : Mesh g c) where
+  module _ (even : Balanced g c) (p q : Place) (here : T (leaf g c p)) (there : T (c q)) (deep : suc (p .depth) < q .depth) where
+    -- the place with the point x, y of q has the place with the point u, v of p on one of its sides
+    across : (u v x y : ℕ) → T (holds g p u v) → T (holds g q x y) → (w : Wind) → T (aside w) → step g w (spot g (suc (p .depth)) x y) ≡ some (spot g (suc (p .depth)) u v) → ⊥
+    across u v x y hp hq w a e =
+        let d = p .depth in
+        let n = spot g (suc d) u v in
+        let k = spot g (suc d) x y in
+        let low = m .low p (leaf-cell g c p here) in
+        let high = m .high q there in
+        let t : T (c (spot g (q .depth) x y)) = subst (λ (r : Place). T (c r)) (holds-spot g x y q hq) there in
+        let i : parent n ≡ some p = spot-parent g u v d (omega arith) ∙ ap some (sym (holds-spot g u v p hp)) in
+        let f : T (hasKids g c k) = kid-has g c k (spot g (suc (suc d)) x y) (spot-parent g x y (suc d) (omega arith)) (spot-up m x y (q .depth - suc (suc d)) (suc (suc d)) (q .depth) (omega arith) (omega arith) t) in
+        let area : T (c (home g n)) = rw (ap (home g) (sym (up-is n p i)) ∙ home-up g n (omega (arith, spot-depth g u v (suc d)))) at (home-cell g c m p (leaf-cell g c p here)) in
+        let on-k : T (c k) = spot-up m x y (q .depth - suc d) (suc d) (q .depth) (omega arith) (omega arith) t in
+        let r : T (on g c (step g w k)) = even k on-k (omega (arith, spot-depth g x y (suc d))) f w a (rw e area) in
+        leaf-kidless g c p here n i (rw e at r)
+
+    -- half the side of p
+    abbrev half : ℕ
+    half = 2 ^ (base g + 12 - suc (p .depth))
+
+    twice : side g p ≡ half * 2
+    twice =
+        let l = m .high q there in
+        let k : base g + 12 - p .depth ≡ suc (base g + 12 - suc (p .depth)) = omega arith in
+        ap (λ (n : ℕ). 2 ^ n) k ∙ pow-suc 2 (base g + 12 - suc (p .depth))
+
+    -- an edge of p, in halves of its side
+    halves : (i : ℕ) → i * side g p ≡ 2 * i * half
+    halves i = rw (twice, mul-comm half 2, ← mul-assoc i 2 half, mul-comm i 2)
+
+    pos-p : 0 < side g p
+    pos-p = one-le-pow (base g + 12 - p .depth) 2 (omega arith)
+
+    pos-q : 0 < side g q
+    pos-q = one-le-pow (base g + 12 - q .depth) 2 (omega arith)
+
+    -- the edge between p and q: p ends there or q ends there
+    behind : (i j : ℕ) → (i + 1) * side g p ≡ j * side g q → (k : ℕ) × Within (side g p) i (suc k * half - 1) × Within (side g q) j (suc k * half)
+    behind i j e =
+        let h : 2 * (i + 1) ≡ suc (2 * i + 1) = omega arith in
+        let f : suc (2 * i + 1) * half ≡ (i + 1) * side g p = rw (← h) (sym (halves (i + 1))) in
+        (2 * i + 1, rw f (last (side g p) i pos-p), rw (f, e) (omega arith, grows (side g q) j pos-q))
+
+    before : (i j : ℕ) → (j + 1) * side g q ≡ i * side g p → (k : ℕ) × Within (side g p) i (suc k * half) × Within (side g q) j (suc k * half - 1)
+    before zero j e = absurd (omega (arith, grows (side g q) j pos-q))
+    before (suc i) j e =
+        let h : 2 * suc i ≡ suc (2 * i + 1) = omega arith in
+        let f : suc (2 * i + 1) * half ≡ suc i * side g p = rw (← h) (sym (halves (suc i))) in
+        (2 * i + 1, rw f (omega arith, grows (side g p) (suc i) pos-p), rw (f, ← e) (last (side g q) j pos-q))
+
+    no-jump-v : BesideV g p q → ⊥
+    no-jump-v (x, o) = let (v, a, b) = common (side g p) (p .row) (side g q) (q .row) pos-p pos-q o in go v a b x
+      where
+        go : (v : ℕ) → Within (side g p) (p .row) v → Within (side g q) (q .row) v → (eastEdge g p ≡ westEdge g q) ⊎ (eastEdge g q ≡ westEdge g p) → ⊥
+        go v a b (inl e) =
+            let (k, s, t) = behind (p .col) (q .col) e in
+            across (suc k * half - 1) v (suc k * half) v (held g p _ v s a) (held g q _ v t b) W tt (west-of g (suc (p .depth)) k v)
+        go v a b (inr e) =
+            let (k, s, t) = before (p .col) (q .col) e in
+            across (suc k * half) v (suc k * half - 1) v (held g p _ v s a) (held g q _ v t b) E tt (step-back g W _ _ (west-of g (suc (p .depth)) k v))
+
+    no-jump-h : BesideH g p q → ⊥
+    no-jump-h (x, o) = let (u, a, b) = common (side g p) (p .col) (side g q) (q .col) pos-p pos-q o in go u a b x
+      where
+        go : (u : ℕ) → Within (side g p) (p .col) u → Within (side g q) (q .col) u → (northEdge g p ≡ southEdge g q) ⊎ (northEdge g q ≡ southEdge g p) → ⊥
+        go u a b (inl e) =
+            let (k, s, t) = behind (p .row) (q .row) e in
+            across u (suc k * half - 1) u (suc k * half) (held g p u _ a s) (held g q u _ b t) S tt (south-of g (suc (p .depth)) k u)
+        go u a b (inr e) =
+            let (k, s, t) = before (p .row) (q .row) e in
+            across u (suc k * half) u (suc k * half - 1) (held g p u _ a s) (held g q u _ b t) N tt (step-back g S _ _ (south-of g (suc (p .depth)) k u))
+
+    no-jump : Beside g p q → ⊥
+    no-jump (inl b) = no-jump-v b
+    no-jump (inr b) = no-jump-h b
+
+-- ---- the promise
+
+flip : {A B : Type 0} → A ⊎ B → B ⊎ A
+flip (inl a) = inr a
+flip (inr b) = inl b
+
+pub beside-flip : (g : Grid) (p q : Place) → Beside g p q → Beside g q p
+beside-flip g p q (inl (x, (a, b))) = inl (flip x, (b, a))
+beside-flip g p q (inr (x, (a, b))) = inr (flip x, (b, a))
+
+pub balanced-no-jump : {g : Grid} {c : Place → Bool} → Mesh g c → Balanced g c → NoJump g c
+balanced-no-jump {g} {c} m even p q a b e = (go q p b a (beside-flip g p q e) (decLe (p .depth) (suc (q .depth))), go p q a b e (decLe (q .depth) (suc (p .depth))))
+  where
+    go : (p q : Place) → T (leaf g c p) → T (leaf g c q) → Beside g p q → Dec (q .depth ≤ suc (p .depth)) → q .depth ≤ suc (p .depth)
+    go p q a b e (yes l) = l
+    go p q a b e (no l) = absurd (no-jump m even p q a (leaf-cell g c q b) (omega arith) e)

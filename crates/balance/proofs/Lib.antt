@@ -1,0 +1,8 @@
+-- The laws of No. 1, 'No jump of two levels'.
+pub mod Jumps
+pub mod Green
+pub mod Keeping
+pub mod States
+pub mod Units
+pub mod Eight
+pub mod Older

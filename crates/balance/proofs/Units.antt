@@ -1,0 +1,64 @@
+-- `Beside` misses nothing: two leaves that hold two points one unit apart, of which one is east or north of the other, are one leaf or lie
+-- beside each other.
+-- Assumes nothing.
+use Prim.Native.Nat.{ℕ, suc, _+_, _*_, _≤_, _<_}
+use native.Mathlib.Omega.{arith}
+use native.Mathlib.Decide.{decLe, decLt}
+use mathlib.Core.Path.{_≡_, sym}
+use mathlib.Core.Logic.{_⊎_, inl, inr}
+use mathlib.Core.Bool.{Bool, _&&_}
+use lib.Dec.{T, leb, ltb, leb→le, ltb→lt}
+use Rattle.mesh.specs.Place.{Place, Grid}
+use Rattle.mesh.specs.Mesh.{Mesh, leaf}
+use Rattle.mesh.specs.Lookup.{side, holds}
+use Rattle.geometry.proofs.Bools.{and-left, and-right}
+use Rattle.geometry.proofs.Tiling.{tiling-one}
+use Rattle.balance.specs.Beside.{Overlap, Beside}
+use Rattle.balance.proofs.Jumps.{Within, held}
+
+holding : (g : Grid) (p : Place) (u v : ℕ) → T (holds g p u v) → Within (side g p) (p .col) u × Within (side g p) (p .row) v
+unfolding holds
+holding g p u v t =
+    let h = side g p in
+    let a = leb (p .col * h) u in
+    let b = ltb u ((p .col + 1) * h) in
+    let c = leb (p .row * h) v in
+    let d = ltb v ((p .row + 1) * h) in
+    let t₁ = and-right a (b && (c && d)) t in
+    let t₂ = and-right b (c && d) t₁ in
+    ((leb→le _ _ (and-left a (b && (c && d)) t), ltb→lt _ _ (and-left b (c && d) t₁)), (leb→le _ _ (and-left c d t₂), ltb→lt _ _ (and-right c d t₂)))
+
+-- one of the intervals has both numbers, or one ends where the other begins
+meet : (h i k j u : ℕ) → Within h i u → Within k j (suc u) → Within h i (suc u) ⊎ (Within k j u ⊎ ((i + 1) * h ≡ j * k))
+meet h i k j u (a, b) (c, d) = go (decLt (suc u) ((i + 1) * h)) (decLe (j * k) u)
+  where
+    go : Dec (suc u < (i + 1) * h) → Dec (j * k ≤ u) → Within h i (suc u) ⊎ (Within k j u ⊎ ((i + 1) * h ≡ j * k))
+    go (yes l) y = inl (omega arith, l)
+    go (no l) (yes y) = inr (inl (y, omega arith))
+    go (no l) (no y) = inr (inr (omega arith))
+
+overlap : (h i k j v : ℕ) → Within h i v → Within k j v → Overlap (i * h) ((i + 1) * h) (j * k) ((j + 1) * k)
+overlap h i k j v (a, b) (c, d) = (omega arith, omega arith)
+
+module _ {g : Grid} {c : Place → Bool} (m : Mesh g c) (p q : Place) (a : T (leaf g c p)) (b : T (leaf g c q)) (u v : ℕ) (x : T (holds g p u v)) where
+  pub east-beside : T (holds g q (suc u) v) → (p ≡ q) ⊎ Beside g p q
+  east-beside y =
+      let (x₁, x₂) = holding g p u v x in
+      let (y₁, y₂) = holding g q (suc u) v y in
+      go x₂ y₂ (meet (side g p) (p .col) (side g q) (q .col) u x₁ y₁)
+    where
+      go : Within (side g p) (p .row) v → Within (side g q) (q .row) v → Within (side g p) (p .col) (suc u) ⊎ (Within (side g q) (q .col) u ⊎ ((p .col + 1) * side g p ≡ q .col * side g q)) → (p ≡ q) ⊎ Beside g p q
+      go s t (inl i) = inl (tiling-one m (suc u) v p q a (held g p (suc u) v i s) b y)
+      go s t (inr (inl i)) = inl (tiling-one m u v p q a x b (held g q u v i t))
+      go s t (inr (inr e)) = inr (inl (inl e, overlap (side g p) (p .row) (side g q) (q .row) v s t))
+
+  pub north-beside : T (holds g q u (suc v)) → (p ≡ q) ⊎ Beside g p q
+  north-beside y =
+      let (x₁, x₂) = holding g p u v x in
+      let (y₁, y₂) = holding g q u (suc v) y in
+      go x₁ y₁ (meet (side g p) (p .row) (side g q) (q .row) v x₂ y₂)
+    where
+      go : Within (side g p) (p .col) u → Within (side g q) (q .col) u → Within (side g p) (p .row) (suc v) ⊎ (Within (side g q) (q .row) v ⊎ ((p .row + 1) * side g p ≡ q .row * side g q)) → (p ≡ q) ⊎ Beside g p q
+      go s t (inl i) = inl (tiling-one m u (suc v) p q a (held g p u (suc v) s i) b y)
+      go s t (inr (inl i)) = inl (tiling-one m u v p q a x b (held g q u v t i))
+      go s t (inr (inr e)) = inr (inr (inl e, overlap (side g p) (p .col) (side g q) (q .col) u s t))
