@@ -16,10 +16,10 @@ pub const NE: usize = 1;
 pub const SE: usize = 2;
 pub const SW: usize = 3;
 pub const NW: usize = 4;
-const N: usize = 5;
-const E: usize = 6;
-const S: usize = 7;
-const W: usize = 8;
+pub const N: usize = 5;
+pub const E: usize = 6;
+pub const S: usize = 7;
+pub const W: usize = 8;
 pub const LEVEL: usize = 9;
 pub const I: usize = 10;
 pub const J: usize = 11;
@@ -30,7 +30,7 @@ pub const COMPLETE: i32 = 1 << 0;
 const BDY_POINT: i32 = 1 << 3;
 const BDY_CELL: i32 = 1 << 6;
 const GRN_POINT: i32 = 1 << 7;
-const GRN_CELL: i32 = 1 << 10;
+pub const GRN_CELL: i32 = 1 << 10;
 pub const SENTENCED: i32 = 1 << 12;
 const DEAD: i32 = 1 << 13;
 
@@ -365,6 +365,8 @@ impl<'a> Desk<'a> {
             1 if !leaf => 8,
             1 if level == LAST_LEVEL => 9,
             1 if r[FLAGS] & SENTENCED != 0 => 10,
+            // where a place beside the cell lies in the area and is no cell, the wall between them is green; on level 0 none is
+            1 if r[FLAGS] & GRN_CELL != 0 => 21,
             1 => self.refine(n),
             2 if !leaf => 8,
             2 if level == 0 => 12,
@@ -542,10 +544,14 @@ impl<'a> Desk<'a> {
         if under[..4].iter().any(|&q| self.flags(q) & SENTENCED == 0) {
             return 14;
         }
+        let beside = self.beside(&under);
+        // the eight patches around the four kids: only a cell with kids has a kid NE
+        if under[4..8].iter().chain(&beside).any(|&q| self.word(q, NE) != 0) {
+            return 22;
+        }
         for &q in &under[..4] {
             self.take_cell(q);
         }
-        let beside = self.beside(&under);
         for q in &mut under {
             if !self.touched(*q) {
                 self.release(*q);

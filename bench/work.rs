@@ -1,7 +1,7 @@
 //! The workloads: lists to start from and calls to make on them. Tapes are made by a seeded generator that looks at the hand-written version's state,
 //! so that every request is accepted and the table stays near full.
 
-use crate::hand::{self, row, Desk, Header, COMPLETE, FLAGS, I, J, LEVEL, NE, NW, ROW, SE, SENTENCED, SW};
+use crate::hand::{self, row, Desk, Header, COMPLETE, E, FLAGS, GRN_CELL, I, J, LEVEL, N, NE, NW, ROW, S, SE, SENTENCED, SW, W};
 
 #[derive(Clone)]
 pub struct Lists {
@@ -185,6 +185,12 @@ impl<'a> Maker<'a> {
         r[FLAGS] & COMPLETE != 0 && r[NE] != 0 && self.kids(n).into_iter().all(|kid| self.is_leaf(kid))
     }
 
+    /// A family that may be removed: nothing beside its kids has kids.
+    fn is_removable(&self, n: usize) -> bool {
+        let beside = |kid: usize| [N, E, S, W].map(|wind| row(self.desk.t, kid)[wind] as usize);
+        self.is_family(n) && self.kids(n).into_iter().flat_map(beside).all(|q| row(self.desk.t, q)[NE] == 0)
+    }
+
     fn some(&mut self, wanted: impl Fn(&Self, usize) -> bool) -> Option<usize> {
         for _ in 0..100_000 {
             let n = 1 + self.chance.below(self.rows() - 1);
@@ -199,6 +205,11 @@ impl<'a> Maker<'a> {
         self.some(|maker, n| maker.is_leaf(n) && row(maker.desk.t, n)[FLAGS] & SENTENCED == 0).expect("a leaf")
     }
 
+    /// A leaf with nothing coarser beside it.
+    fn some_refinable(&mut self) -> usize {
+        self.some(|maker, n| maker.is_leaf(n) && row(maker.desk.t, n)[FLAGS] & (SENTENCED | GRN_CELL) == 0).expect("a leaf to refine")
+    }
+
     fn value(&mut self) {
         let leaf = self.some_leaf();
         let value = self.chance.below(1_000_000) as f64 / 1024.0;
@@ -207,7 +218,7 @@ impl<'a> Maker<'a> {
 
     /// Takes a family of four away: those that are not yet sentenced are, then the parent's kids go.
     fn shrink(&mut self) {
-        if let Some(n) = self.some(|maker, n| maker.is_family(n)) {
+        if let Some(n) = self.some(|maker, n| maker.is_removable(n)) {
             for kid in self.kids(n) {
                 if row(self.desk.t, kid)[FLAGS] & SENTENCED == 0 {
                     self.ask(2, kid, None);
@@ -231,7 +242,7 @@ impl<'a> Maker<'a> {
                     ground.map(|n| self.ask(4, n, None));
                 }
                 _ if self.desk.free >= 9 => {
-                    let leaf = self.some_leaf();
+                    let leaf = self.some_refinable();
                     self.ask(1, leaf, None);
                 }
                 _ => self.shrink(),
@@ -243,7 +254,7 @@ impl<'a> Maker<'a> {
     fn fill(&mut self, left: usize, value_every: usize) {
         let mut failures = 0;
         while self.desk.free > left && failures < 20_000 {
-            let leaf = self.some_leaf();
+            let leaf = self.some_refinable();
             if !self.ask(1, leaf, None) {
                 failures += 1;
             }
@@ -288,18 +299,16 @@ fn one_level() -> Lists {
     lists
 }
 
-/// One cell refined at its deepest leaves, down to level 12, then wherever there is room.
+/// One cell refined at the deepest of some leaves, down to level 12 and until there is no room.
 fn deep() -> Lists {
     let mut lists = built(1, 1, 4095);
     let mut maker = Maker::new(&mut lists, 7);
     maker.ask(5, 2, Some(42.5));
-    for level in 0..12 {
-        let n = maker.some(|maker, n| maker.is_leaf(n) && row(maker.desk.t, n)[LEVEL] == level).expect("a leaf");
-        maker.ask(1, n, None);
-    }
     let mut failures = 0;
     while maker.desk.free > 0 && failures < 20_000 {
-        let n = maker.some(|maker, n| maker.is_leaf(n) && row(maker.desk.t, n)[LEVEL] >= 6);
+        let some = [(); 8].map(|()| maker.some_refinable());
+        let level = |n: &usize| row(maker.desk.t, *n)[LEVEL];
+        let n = some.into_iter().filter(|n| level(n) < 12).max_by_key(level);
         if !n.map_or(false, |n| maker.ask(1, n, None)) {
             failures += 1;
         }
