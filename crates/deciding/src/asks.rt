@@ -8,21 +8,16 @@ ghost use Rattle.mesh.specs.Picture.{rowWords};
 ghost use Rattle.table.specs.Words.{linkOf, flagOf};
 ghost use Rattle.table.specs.Plain.{Plain};
 ghost use Rattle.deciding.specs.Decide.{parental, kidsDoomed, lacking, besideKid, finerRound, otherUnder};
+use table::words::EAST;
 use table::words::NE_KID;
+use table::words::NORTH;
 use table::words::NW_KID;
 use table::words::SE_KID;
+use table::words::SOUTH;
 use table::words::SW_KID;
+use table::words::WEST;
 use table::words::flag;
 use table::words::link;
-
-// The words of the neighbours.
-const NORTH: usize = 5;
-
-const EAST: usize = 6;
-
-const SOUTH: usize = 7;
-
-const WEST: usize = 8;
 
 // Whether the cell n has kids.
 pub fn has_kids(t: &[i32], cap: usize, n: usize) -> bool

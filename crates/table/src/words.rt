@@ -19,6 +19,15 @@ pub const SW_KID: usize = mesh::SW + 1;
 
 pub const NW_KID: usize = mesh::NW + 1;
 
+// The words of the neighbours, behind those of the kids: N, E, S and W, as in the table of winds.
+pub const NORTH: usize = 5;
+
+pub const EAST: usize = 6;
+
+pub const SOUTH: usize = 7;
+
+pub const WEST: usize = 8;
+
 // A signed word as a number.
 pub fn coded(x: i32) -> u32
     ensures { λ r. ⌜ r ≡ code x ⌝ }
