@@ -14,7 +14,8 @@ use Rattle.mesh.specs.Jump.{finerThan, finerBeside}
 use Rattle.mesh.proofs.Winds.{rule}
 use Rattle.geometry.proofs.Bools.{yes-is, no-is, bool-ext, and-both, and-right}
 use Rattle.geometry.proofs.Places.{In, south-north, west-east}
-use Rattle.geometry.proofs.Kids.{up, parent-up, up-is, parent-depth, kid-depth, up-kid, parent-in, in-parent, has-kid}
+use Rattle.geometry.proofs.Kids.{up, parent-up, up-is, kid-depth, up-kid, parent-in, in-parent}
+use Rattle.geometry.proofs.Tree.{kids-cell}
 use Rattle.geometry.proofs.Digits.{aside, within, stays, step-up, step-depth}
 
 -- the neighbours of the kids that lie outside the four
@@ -101,16 +102,13 @@ module _ (g : Grid) (c : Place → Bool) (m : Mesh g c) (p : Place) (low : base 
           depth-of : q .depth ≡ suc (p .depth)
           depth-of = step-depth g w a (kid x p) q e ∙ kid-depth x p
 
-          cell : T (hasKids g c q) → T (c q)
-          cell t = let (k, f, u) = has-kid g c q t in rw f at (m .above k u (omega (arith, parent-depth k q f, depth-of)))
-
           at-place : (b : Bool) → stays w (kid x p) ≡ b → finerThan g c p q ≡ cond b false (hasKids g c q)
           at-place true s =
               let i : In q (kids p) = parent-in q p (parent-up q (omega (arith, depth-of)) ∙ above true s) in
               rw (yes-is (any (same q) (kids p)) i) (and-false (c q))
           at-place false s =
               let n : any (same q) (kids p) ≡ false = no-is (any (same q) (kids p)) (λ i. step-moves g w a p (sym (above false s) ∙ ap some (up-is q p (in-parent q p i)))) in
-              rw n (bool-ext (c q && hasKids g c q) (hasKids g c q) (λ t. and-right (c q) (hasKids g c q) t) (λ t. and-both (c q) (hasKids g c q) (cell t) t))
+              rw n (bool-ext (c q && hasKids g c q) (hasKids g c q) (λ t. and-right (c q) (hasKids g c q) t) (λ t. and-both (c q) (hasKids g c q) (kids-cell g c m q (omega (arith, depth-of)) t) t))
 
   pub finer-eight : finerBeside g c p ≡ any (orElse false (hasKids g c)) (eight g p)
   unfolding finerBeside kids

@@ -19,9 +19,9 @@ use Rattle.mesh.specs.Picture.{table}
 use Rattle.table.specs.Words.{flagOf}
 use Rattle.geometry.proofs.Bools.{bool-ext, is-no}
 use Rattle.geometry.proofs.Digits.{kidBy}
-use Rattle.geometry.proofs.Kids.{parent-kid, parent-depth, kid-depth, has-kid, kid-has, all-kids}
+use Rattle.geometry.proofs.Kids.{parent-kid, kid-depth, kid-has, all-kids}
 use Rattle.geometry.proofs.Near.{touched-corner}
-use Rattle.geometry.proofs.Tree.{patch-touched, cell-patch}
+use Rattle.geometry.proofs.Tree.{patch-touched, cell-patch, kids-cell}
 use Rattle.geometry.proofs.Wanted.{middle-kid}
 use Rattle.numbering.proofs.Numbers.{valid-numbered, number-place, numbered-not-zero, cells-contents, entry-contents}
 use Rattle.pictures.proofs.Pictured.{nil-words, free-flags, sentenced-flag}
@@ -64,10 +64,6 @@ module _ (s : State) (v : Valid s) where
 
   -- ---- kids
 
-  -- a place of level 0 or above that has kids is a cell
-  pub parent-cell : (p : Place) → base g ≤ p .depth → T (hasKids g c p) → T (c p)
-  parent-cell p low k = let (q, e, u) = has-kid g c p k in rw e at (v .mesh .above q u (omega (arith, parent-depth q p e)))
-
   pub cell-numbered : (p : Place) → T (c p) → number es p ≢ 0
   cell-numbered p here = numbered-not-zero es (valid-numbered v) p (v .every p (cell-patch g c (v .mesh) p here))
 
@@ -87,7 +83,7 @@ module _ (s : State) (v : Valid s) where
     parental-row low = rw (link-kid-of s v n p h 1 1 (omega arith) (omega arith)) (bool-ext (not (eqb (number es (kid NE p)) 0)) (hasKids g c p) down up)
       where
         up : T (hasKids g c p) → T (not (eqb (number es (kid NE p)) 0))
-        up k = is-no (eqb (number es (kid NE p)) 0) (ne-eqb _ _ (kid-numbered p (parent-cell p low k) k NE))
+        up k = is-no (eqb (number es (kid NE p)) 0) (ne-eqb _ _ (kid-numbered p (kids-cell g c (v .mesh) p low k) k NE))
 
         down : T (not (eqb (number es (kid NE p)) 0)) → T (hasKids g c p)
         down k =

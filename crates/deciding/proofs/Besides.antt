@@ -22,6 +22,7 @@ use Rattle.table.specs.Words.{flagOf, linkOf}
 use Rattle.geometry.proofs.Bools.{no-is}
 use Rattle.geometry.proofs.Digits.{step-depth}
 use Rattle.geometry.proofs.Kids.{kid-depth}
+use Rattle.geometry.proofs.Tree.{kids-cell}
 use Rattle.balance.proofs.Green.{green-is-coarse}
 use Rattle.balance.proofs.Eight.{finer-eight}
 use Rattle.numbering.proofs.Numbers.{valid-numbered, number-place, place-number}
@@ -29,7 +30,7 @@ use Rattle.pictures.proofs.Pictured.{flag-of}
 use Rattle.pictures.proofs.Links.{_of_}
 use Rattle.pictures.proofs.Linked.{link-side, link-nil, link-kid}
 use Rattle.deciding.specs.Decide.{parental, besideKid, finerRound}
-use Rattle.deciding.proofs.Asked.{parent-cell, cell-numbered, kid-numbered, parental-row}
+use Rattle.deciding.proofs.Asked.{cell-numbered, kid-numbered, parental-row}
 
 module _ (s : State) (v : Valid s) where
   abbrev g : Grid
@@ -54,7 +55,7 @@ module _ (s : State) (v : Valid s) where
       low = h q refl
 
       go : Dec (number es q ≡ 0) → parental t (capacity s) (number es q) ≡ hasKids g c q
-      go (yes z) = rw (z, link-nil s v 1 (lit< tt)) (sym (no-is (hasKids g c q) (λ k. cell-numbered s v q (parent-cell s v q low k) z)))
+      go (yes z) = rw (z, link-nil s v 1 (lit< tt)) (sym (no-is (hasKids g c q) (λ k. cell-numbered s v q (kids-cell g c (v .mesh) q low k) z)))
       go (no z) = parental-row s v (number es q) q (number-place es q z) low
 
   module _ (n : ℕ) (p : Place) (h : placeOf (entry es n) ≡ some p) (here : T (c p)) where

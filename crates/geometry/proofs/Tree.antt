@@ -8,9 +8,9 @@ use mathlib.Core.Bool.{Bool}
 use mathlib.Core.Option.{some}
 use lib.Dec.{T}
 use Rattle.mesh.specs.Place.{Place, Grid, base, kids, parent}
-use Rattle.mesh.specs.Mesh.{Mesh, touched, under, patch}
+use Rattle.mesh.specs.Mesh.{Mesh, touched, under, patch, hasKids}
 use Rattle.geometry.proofs.Lists.{any-weaken}
-use Rattle.geometry.proofs.Kids.{up, parent-up, up-is, up-depth, parent-depth, any-kid, kid-any}
+use Rattle.geometry.proofs.Kids.{up, parent-up, up-is, up-depth, parent-depth, any-kid, kid-any, has-kid}
 use Rattle.geometry.proofs.Near.{Corner, c-here, corner-up, corner-depth, touched-corner, corner-touched}
 
 module _ (g : Grid) (c : Place → Bool) where
@@ -61,6 +61,10 @@ module _ (g : Grid) (c : Place → Bool) where
     -- the parent's place of a cell above level 0 is a cell
     pub cell-up : (p : Place) → T (c p) → base g < p .depth → T (c (up p))
     cell-up p t h = rw (parent-up p (omega arith)) at (m .above p t h)
+
+    -- a place of level 0 or above that has kids is a cell
+    pub kids-cell : (p : Place) → base g ≤ p .depth → T (hasKids g c p) → T (c p)
+    kids-cell p l t = let (q, e, u) = has-kid g c p t in rw e at (m .above q u (omega (arith, parent-depth q p e)))
 
     -- the parent's place of a patch is a patch
     pub patch-up : (p : Place) → 0 < p .depth → T (patch g c p) → T (patch g c (up p))
