@@ -22,7 +22,7 @@ use Rattle.geometry.proofs.Walls.{home-up, home-cell}
 use Rattle.geometry.proofs.Points.{spot, spot-depth, holds-spot, spot-parent}
 use Rattle.geometry.proofs.Tiling.{spot-up}
 use Rattle.balance.specs.Beside.{westEdge, eastEdge, southEdge, northEdge, Overlap, BesideV, BesideH, Beside, NoJump}
-use Rattle.balance.specs.Balanced.{Balanced}
+use Rattle.balance.proofs.Balanced.{Balanced}
 
 -- ---- intervals
 

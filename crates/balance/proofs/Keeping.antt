@@ -21,7 +21,7 @@ use Rattle.geometry.proofs.Digits.{aside, step-depth}
 use Rattle.geometry.proofs.Full.{full-cell}
 use Rattle.geometry.proofs.Growing.{grown, grown-old, grown-cases}
 use Rattle.geometry.proofs.Shrinking.{shrunk, stays, stayed}
-use Rattle.balance.specs.Balanced.{Balanced}
+use Rattle.balance.proofs.Balanced.{Balanced}
 
 -- ---- the four sides
 

@@ -1,4 +1,5 @@
 -- The laws of No. 1, 'No jump of two levels'.
+pub mod Balanced
 pub mod Jumps
 pub mod Green
 pub mod Keeping

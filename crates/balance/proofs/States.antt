@@ -23,7 +23,7 @@ use Rattle.numbering.proofs.Refining.{refinable, here, after-cells, effect-is}
 use Rattle.numbering.proofs.Marking.{sentence-kept, sentence-cells, setValue-kept, setValue-cells}
 use Rattle.numbering.proofs.Taking.{remove-kept, kill-passed, kill-kept}
 use Rattle.balance.specs.Beside.{NoJump}
-use Rattle.balance.specs.Balanced.{Balanced}
+use Rattle.balance.proofs.Balanced.{Balanced}
 use Rattle.balance.proofs.Jumps.{balanced-no-jump}
 use Rattle.balance.proofs.Keeping.{full-balanced, grown-balanced, removed-balanced, killed-balanced}
 

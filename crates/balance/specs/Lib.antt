@@ -1,3 +1,2 @@
--- No jump of two levels (02, No. 1): what is promised, and what the refusals keep.
+-- No jump of two levels (02, No. 1): what is promised.
 pub mod Beside
-pub mod Balanced
