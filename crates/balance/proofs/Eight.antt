@@ -3,7 +3,7 @@
 use Prim.Native.Nat.{ℕ, suc, _+_, _*_, _/_, _%_, _≤_, _<_}
 use native.Mathlib.Omega.{arith}
 use mathlib.Core.Path.{_≡_, refl, sym, ap, _∙_}
-use mathlib.Core.Bool.{Bool, true, false, not, _&&_, _||_, cond}
+use mathlib.Core.Bool.{Bool, true, false, _&&_, cond, and-false, or-false, or-assoc}
 use mathlib.Core.Option.{Option, none, some, Option·map, Option·some-injective}
 use mathlib.Core.List.{List, [], _∷_}
 use lib.Dec.{T}
@@ -63,15 +63,6 @@ step-moves g SE a p e = absurd a
 step-moves g SW a p e = absurd a
 step-moves g NW a p e = absurd a
 
-and-false : (a : Bool) → (a && false) ≡ false
-and-false true = refl
-and-false false = refl
-
-flat : (a b c : Bool) → ((a || (b || false)) || c) ≡ (a || (b || c))
-flat true b c = refl
-flat false true c = refl
-flat false false c = refl
-
 -- what is the same for each wind is the same for the four
 any-sides : (f h : Wind → Bool) → ((w : Wind) → T (aside w) → f w ≡ h w) → any f sideWinds ≡ any h sideWinds
 any-sides f h e = rw (e N tt, e E tt, e S tt, e W tt)
@@ -114,4 +105,4 @@ module _ (g : Grid) (c : Place → Bool) (m : Mesh g c) (p : Place) (low : base 
   unfolding finerBeside kids
   finer-eight =
       any-kids (λ x. any (asked x) sideWinds) _ (λ x. any-sides (asked x) (λ w. cond (inward x w) false (parental x w)) (asked-is x))
-      ∙ rw (flat (parental NE N) (parental NE E), flat (parental SE E) (parental SE S), flat (parental SW S) (parental SW W), flat (parental NW N) (parental NW W))
+      ∙ simp (or-assoc, or-false)

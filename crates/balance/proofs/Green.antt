@@ -4,7 +4,7 @@ use Prim.Native.Nat.{_<_}
 use native.Mathlib.Omega.{arith}
 use native.Mathlib.Decide.{decLt}
 use mathlib.Core.Path.{_≡_, refl, sym, ap, _∙_}
-use mathlib.Core.Bool.{Bool, true, false, not, _&&_, _||_}
+use mathlib.Core.Bool.{Bool, true, false, not, _&&_, _||_, and-false, and-not-self}
 use mathlib.Core.Option.{Option, none, some}
 use lib.Dec.{T, ltb}
 use lib.ListN.{getD}
@@ -61,16 +61,12 @@ module _ (g : Grid) (c : Place → Bool) where
 
   -- ---- on level 0 the area is the cells
 
-  never : (b : Bool) → (b && not b) ≡ false
-  never true = refl
-  never false = refl
-
   bare-ground : (p : Place) → p .depth ≡ base g → (w : Wind) → T (aside w) → bare g c p w ≡ false
   bare-ground p e w a = go (step g w p) refl
     where
       go : (o : Option Place) → step g w p ≡ o → (inArea g c o && not (on g c o)) ≡ false
       go none f = refl
-      go (some q) f = rw (home-ground g q (step-depth g w a p q f ∙ e)) (never (c q))
+      go (some q) f = rw (home-ground g q (step-depth g w a p q f ∙ e)) (and-not-self (c q))
 
   pub none-bare : (p : Place) → p .depth ≡ base g → any (bare g c p) sideWinds ≡ false
   none-bare p e = rw (bare-ground p e N tt, bare-ground p e E tt, bare-ground p e S tt, bare-ground p e W tt)
@@ -98,11 +94,7 @@ module _ (g : Grid) (c : Place → Bool) where
 
     -- on level 0 no cell has it, and 21 is never given
     pub ground-not-green : (p : Place) → p .depth ≡ base g → getD (derived g c p) 10 false ≡ false
-    ground-not-green p e = green-cell p ∙ ap (λ (b : Bool). c p && b) (ground-not-coarse p e) ∙ go (c p)
-      where
-        go : (b : Bool) → (b && false) ≡ false
-        go true = refl
-        go false = refl
+    ground-not-green p e = green-cell p ∙ ap (λ (b : Bool). c p && b) (ground-not-coarse p e) ∙ and-false (c p)
 
     -- the flag of a cell is the test
     pub green-is-coarse : (p : Place) → T (c p) → getD (derived g c p) 10 false ≡ coarseBeside g c p

@@ -4,7 +4,7 @@ use Prim.Native.Nat.{ℕ, zero, suc, _+_, _-_, _*_, _≤_, _<_}
 use native.Mathlib.Omega.{arith}
 use mathlib.Core.Path.{_≡_, refl, sym, _∙_}
 use mathlib.Core.Logic.{_≢_}
-use mathlib.Core.Bool.{Bool, true, false, not, _&&_, _||_, cond}
+use mathlib.Core.Bool.{Bool, true, false, not, _&&_, _||_, cond, or-false, or-assoc}
 use mathlib.Core.List.{List, [], _∷_}
 use lib.Dec.{eqb, leb}
 use lib.IntN.{ℤ, pos}
@@ -28,14 +28,6 @@ every-four true true true false = refl
 every-four true true false d = refl
 every-four true false c d = refl
 every-four false b c d = refl
-
-flat-or : (a b c : Bool) → ((a || b) || c) ≡ (a || (b || c))
-flat-or true b c = refl
-flat-or false b c = refl
-
-or-false : (a : Bool) → (a || false) ≡ a
-or-false true = refl
-or-false false = refl
 
 -- ---- a row's kids and the rows around it
 
@@ -76,7 +68,7 @@ module _ (t : List ℤ) (cap n : ℕ) where
 
   pub finer-four : (a b c d : Bool) → a ≡ finer 1 5 6 → b ≡ finer 2 6 7 → c ≡ finer 3 7 8 → d ≡ finer 4 5 8 → (a || (b || (c || d))) ≡ finerRound t cap n
   unfolding finerRound
-  finer-four a b c d e f g h = rw (e, f, g, h) (simp (flat-or, or-false))
+  finer-four a b c d e f g h = rw (e, f, g, h) (simp (or-assoc, or-false))
 
 -- ---- a sentenced row
 
