@@ -1,6 +1,6 @@
 -- Refusal 22 asks eight places: of each kid the two neighbours that lie outside the four, and of each only whether it has kids.
 -- Assumes nothing.
-use Prim.Native.Nat.{ℕ, suc, _+_, _*_, _/_, _%_, _≤_, _<_}
+use Prim.Native.Nat.{suc, _+_, _*_, _/_, _%_, _≤_}
 use native.Mathlib.Omega.{arith}
 use mathlib.Core.Path.{_≡_, refl, sym, ap, _∙_}
 use mathlib.Core.Bool.{Bool, true, false, _&&_, cond, and-false, or-false, or-assoc}
@@ -8,7 +8,7 @@ use mathlib.Core.Option.{Option, none, some, Option·map, Option·some-injective
 use mathlib.Core.List.{List, [], _∷_}
 use lib.Dec.{T}
 use Rattle.mesh.specs.Tools.{any, orElse}
-use Rattle.mesh.specs.Place.{Place, Grid, Wind, NE, SE, SW, NW, N, E, S, W, compass, kidWinds, sideWinds, same, base, toNorth, toEast, step, kid, kids, parent}
+use Rattle.mesh.specs.Place.{Place, Grid, Wind, NE, SE, SW, NW, N, E, S, W, compass, kidWinds, sideWinds, same, base, toNorth, toEast, step, kid, kids}
 use Rattle.mesh.specs.Mesh.{Mesh, hasKids}
 use Rattle.mesh.specs.Jump.{finerThan, finerBeside}
 use Rattle.mesh.proofs.Winds.{rule}

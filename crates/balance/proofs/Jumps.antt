@@ -3,32 +3,27 @@
 -- coarse leaf is a cell too, and a kid of it.
 -- Assumes nothing.
 use Prim.Native.Nat.{ℕ, zero, suc, _+_, _-_, _*_, _/_, _^_, _≤_, _<_}
-use native.Mathlib.Nat.{add-mul, one-mul, suc-mul, mul-assoc, mul-comm, pow-suc, one-le-pow, div-eq-of-lt-le}
+use native.Mathlib.Nat.{add-mul, one-mul, mul-assoc, mul-comm, pow-suc, one-le-pow, div-eq-of-lt-le}
 use native.Mathlib.Omega.{arith}
 use native.Mathlib.Decide.{decLe}
-use mathlib.Core.Path.{_≡_, refl, sym, ap, _∙_, subst}
+use mathlib.Core.Path.{_≡_, sym, ap, _∙_, subst}
 use mathlib.Core.Logic.{_⊎_, inl, inr}
-use mathlib.Core.Bool.{Bool, _&&_}
+use mathlib.Core.Bool.{Bool}
 use mathlib.Core.Option.{some}
-use lib.Dec.{T, leb, ltb, le→leb, lt→ltb}
-use Rattle.mesh.specs.Place.{Place, Grid, Wind, N, E, S, W, at, base, home, toSouth, toWest, step, parent}
+use lib.Dec.{T}
+use Rattle.mesh.specs.Place.{Place, Grid, Wind, N, E, S, W, base, home, toSouth, toWest, step, parent}
 use Rattle.mesh.specs.Mesh.{Mesh, on, hasKids, leaf}
 use Rattle.mesh.specs.Lookup.{side, holds}
-use Rattle.geometry.proofs.Bools.{and-both}
-use Rattle.geometry.proofs.Places.{place-path, step-back}
+use Rattle.geometry.proofs.Places.{step-back}
 use Rattle.geometry.proofs.Kids.{up-is, kid-has, leaf-cell, leaf-kidless}
 use Rattle.geometry.proofs.Digits.{aside}
 use Rattle.geometry.proofs.Walls.{home-up, home-cell}
-use Rattle.geometry.proofs.Points.{spot, spot-depth, holds-spot, spot-parent}
+use Rattle.geometry.proofs.Points.{Within, held, spot, spot-depth, holds-spot, spot-parent}
 use Rattle.geometry.proofs.Tiling.{spot-up}
 use Rattle.balance.specs.Beside.{westEdge, eastEdge, southEdge, northEdge, Overlap, BesideV, BesideH, Beside, NoJump}
 use Rattle.balance.proofs.Balanced.{Balanced}
 
 -- ---- intervals
-
--- a number lies in the i-th interval of length h
-abbrev pub Within : ℕ → ℕ → ℕ → Type 0
-Within h i u = (i * h ≤ u) × (u < (i + 1) * h)
 
 grows : (h i : ℕ) → 0 < h → i * h < (i + 1) * h
 grows h i l = rw (add-mul, one-mul) (omega arith)
@@ -67,15 +62,6 @@ module _ (g : Grid) (e : ℕ) where
   south-of : (k u : ℕ) → step g S (spot g e u (suc k * len)) ≡ some (spot g e u (suc k * len - 1))
   unfolding spot step toSouth
   south-of k u = let (a, b) = index len k len-pos in rw (a, b)
-
-pub held : (g : Grid) (p : Place) (u v : ℕ) → Within (side g p) (p .col) u → Within (side g p) (p .row) v → T (holds g p u v)
-unfolding holds
-held g p u v (a, b) (c, d) =
-    let h = side g p in
-    let t₃ = leb (p .row * h) v in
-    let t₄ = ltb v ((p .row + 1) * h) in
-    and-both (leb (p .col * h) u) (ltb u ((p .col + 1) * h) && (t₃ && t₄)) (le→leb _ _ a)
-    (and-both (ltb u ((p .col + 1) * h)) (t₃ && t₄) (lt→ltb _ _ b) (and-both t₃ t₄ (le→leb _ _ c) (lt→ltb _ _ d)))
 
 -- ---- a leaf two levels finer
 

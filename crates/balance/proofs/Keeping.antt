@@ -17,7 +17,8 @@ use Rattle.mesh.specs.Build.{full}
 use Rattle.geometry.proofs.Bools.{either, and-both, and-right, or-left, or-right}
 use Rattle.geometry.proofs.Places.{In, in-any, in-one, step-back}
 use Rattle.geometry.proofs.Kids.{parent-depth, has-kid, kid-has}
-use Rattle.geometry.proofs.Digits.{aside, step-depth}
+use Rattle.geometry.proofs.Tree.{kids-cell}
+use Rattle.geometry.proofs.Digits.{aside, opposite-aside, step-depth}
 use Rattle.geometry.proofs.Full.{full-cell}
 use Rattle.geometry.proofs.Growing.{grown, grown-old, grown-cases}
 use Rattle.geometry.proofs.Shrinking.{shrunk, stays, stayed}
@@ -43,16 +44,6 @@ side-any f w a t = go w a t
     go SE a t = absurd a
     go SW a t = absurd a
     go NW a t = absurd a
-
-aside-back : (w : Wind) → T (aside w) → T (aside (compass w .opposite))
-aside-back N a = tt
-aside-back E a = tt
-aside-back S a = tt
-aside-back W a = tt
-aside-back NE a = absurd a
-aside-back SE a = absurd a
-aside-back SW a = absurd a
-aside-back NW a = absurd a
 
 -- a side that lies in the area has a cell, where 21 does not hold
 pub covered : (g : Grid) (c : Place → Bool) (p : Place) → coarseBeside g c p ≡ false → base g < p .depth → (w : Wind) → T (aside w) → T (inArea g c (step g w p)) → T (on g c (step g w p))
@@ -104,8 +95,8 @@ grown-balanced g c m even p here fine q t l k w a s =
 
     go : (x : Place) → parent x ≡ some q → T (c x) ⊎ (parent x ≡ some p) → T (on g c (step g w q))
     go x e (inl y) =
-        let h : T (c q) = rw e at (m .above x y (omega (arith, parent-depth x q e))) in
-        even q h l (kid-has g c q x e y) w a area
+        let h = kid-has g c q x e y in
+        even q (kids-cell g c m q (omega arith) h) l h w a area
     go x e (inr f) =
         let i : q ≡ p = Option·some-injective _ _ (sym e ∙ f) in
         covered g c q (ap (coarseBeside g c) i ∙ fine) l w a area
@@ -134,7 +125,7 @@ module _ (g : Grid) (c : Place → Bool) (even : Balanced g c) where
           let n : T (not (any (same q) (kids p))) = and-right (c q) (not (any (same q) (kids p))) t in
           let z : T (finerThan g c p q) = and-both (c q) (not (any (same q) (kids p)) && hasKids g c q) (stayed c (kids p) q t) (and-both (not (any (same q) (kids p))) (hasKids g c q) n h) in
           let b : T (beside r (compass w .opposite)) = rw (step-back g w q r f) z in
-          let y : T (any (λ k. any (beside k) sideWinds) (kids p)) = in-any (λ k. any (beside k) sideWinds) (kids p) r i (side-any (beside r) (compass w .opposite) (aside-back w a) b) in
+          let y : T (any (λ k. any (beside k) sideWinds) (kids p)) = in-any (λ k. any (beside k) sideWinds) (kids p) r i (side-any (beside r) (compass w .opposite) (opposite-aside w a) b) in
           rw fine at y
 
   pub killed-balanced : (p : Place) → p .depth ≡ base g → Balanced g (shrunk c (p ∷ []))

@@ -1,13 +1,12 @@
 -- "Older tables stay sound, without that promise": a table as it could be made before No. 1, worked out by the rules. Of two cells side by side
 -- one is refined, and then its kid beside the other; the table is sound, it jumps by two levels, and a tape on it runs.
 -- Assumes nothing.
-use Prim.Native.Nat.{ℕ, suc, _≤_}
 use native.Mathlib.Omega.{arith}
 use mathlib.Core.Path.{_≡_, refl}
-use mathlib.Core.Logic.{_⊎_, inl, inr}
-use mathlib.Core.List.{List, [], _∷_}
+use mathlib.Core.Logic.{inl}
+use mathlib.Core.List.{[], _∷_}
 use lib.Dec.{lit<}
-use Rattle.mesh.specs.Place.{Place, rectangle, at}
+use Rattle.mesh.specs.Place.{rectangle, at}
 use Rattle.mesh.specs.State.{State, cells, gridOf}
 use Rattle.mesh.specs.Build.{built}
 use Rattle.mesh.specs.Request.{refine, effect}

@@ -1,12 +1,12 @@
 -- A build is balanced, and an accepted request keeps a valid state so: 21 does not hold of a cell that it refines, nor 22 of one whose kids it removes.
 -- Assumes nothing.
 use Prim.Native.Nat.{ℕ}
-use mathlib.Core.Path.{_≡_, refl, sym, ap, _∙_, subst, fun-ext}
+use mathlib.Core.Path.{_≡_, refl, sym, _∙_, subst, fun-ext}
 use mathlib.Core.Bool.{Bool, true, false, not, _&&_, cond}
 use mathlib.Core.Option.{none}
-use mathlib.Core.List.{List, [], _∷_}
+use mathlib.Core.List.{List}
 use Rattle.mesh.specs.Tools.{any}
-use Rattle.mesh.specs.Place.{Place, Grid, same, base, kids}
+use Rattle.mesh.specs.Place.{Place, Grid, same}
 use Rattle.mesh.specs.Jump.{coarseBeside}
 use Rattle.mesh.specs.Build.{full, built}
 use Rattle.mesh.specs.State.{State, Header, cells, placeAt, gridOf}
@@ -14,7 +14,6 @@ use Rattle.mesh.specs.Valid.{Valid}
 use Rattle.mesh.specs.Refusal.{refusal}
 use Rattle.mesh.specs.Request.{Request, refine, sentence, remove, kill, setValue, looseChecks, checks, effect, marked}
 use Rattle.geometry.proofs.Base.{Rectangle}
-use Rattle.geometry.proofs.Growing.{grown}
 use Rattle.geometry.proofs.Shrinking.{shrunk}
 use Rattle.numbering.proofs.Checks.{refine-passes, remove-passes, loosely}
 use Rattle.numbering.proofs.Building.{built-cells}

@@ -4,29 +4,16 @@
 use Prim.Native.Nat.{ℕ, suc, _+_, _*_, _≤_, _<_}
 use native.Mathlib.Omega.{arith}
 use native.Mathlib.Decide.{decLe, decLt}
-use mathlib.Core.Path.{_≡_, sym}
+use mathlib.Core.Path.{_≡_}
 use mathlib.Core.Logic.{_⊎_, inl, inr}
-use mathlib.Core.Bool.{Bool, _&&_}
-use lib.Dec.{T, leb, ltb, leb→le, ltb→lt}
+use mathlib.Core.Bool.{Bool}
+use lib.Dec.{T}
 use Rattle.mesh.specs.Place.{Place, Grid}
 use Rattle.mesh.specs.Mesh.{Mesh, leaf}
 use Rattle.mesh.specs.Lookup.{side, holds}
-use Rattle.geometry.proofs.Bools.{and-left, and-right}
+use Rattle.geometry.proofs.Points.{Within, held, holding}
 use Rattle.geometry.proofs.Tiling.{tiling-one}
 use Rattle.balance.specs.Beside.{Overlap, Beside}
-use Rattle.balance.proofs.Jumps.{Within, held}
-
-holding : (g : Grid) (p : Place) (u v : ℕ) → T (holds g p u v) → Within (side g p) (p .col) u × Within (side g p) (p .row) v
-unfolding holds
-holding g p u v t =
-    let h = side g p in
-    let a = leb (p .col * h) u in
-    let b = ltb u ((p .col + 1) * h) in
-    let c = leb (p .row * h) v in
-    let d = ltb v ((p .row + 1) * h) in
-    let t₁ = and-right a (b && (c && d)) t in
-    let t₂ = and-right b (c && d) t₁ in
-    ((leb→le _ _ (and-left a (b && (c && d)) t), ltb→lt _ _ (and-left b (c && d) t₁)), (leb→le _ _ (and-left c d t₂), ltb→lt _ _ (and-right c d t₂)))
 
 -- one of the intervals has both numbers, or one ends where the other begins
 meet : (h i k j u : ℕ) → Within h i u → Within k j (suc u) → Within h i (suc u) ⊎ (Within k j u ⊎ ((i + 1) * h ≡ j * k))

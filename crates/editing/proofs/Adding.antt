@@ -18,7 +18,7 @@ use Rattle.mesh.specs.Picture.{rowWords}
 use Rattle.geometry.proofs.Bools.{yes-is, no-is, and-left}
 use Rattle.geometry.proofs.Places.{same-is, same-refl}
 use Rattle.geometry.proofs.Kids.{parent-depth}
-use Rattle.geometry.proofs.Digits.{kidBy, kid-by-parent, kid-by-digits, aside, step-depth}
+use Rattle.geometry.proofs.Digits.{kidBy, kid-by-parent, kid-by-digits, aside, step-depth, opposite-aside}
 use Rattle.numbering.proofs.Entries.{in-list, stands-in}
 use Rattle.numbering.proofs.Numbers.{number-place, place-number, numbered-not-zero, unnumbered}
 use Rattle.pictures.proofs.Links.{around-parent, around-side}
@@ -29,7 +29,7 @@ use Rattle.editing.specs.Steps.{linkSide, placeIn, linkIn}
 use Rattle.editing.proofs.Spots.{word, Spot, Hit, hit-later, Off, off-at, untouched, write, write-unless, settled}
 use Rattle.editing.proofs.Linked.{linked-length, word-link, word-level, word-col, word-row, word-flags, word-status, col-of, row-of, word-free, word-nil}
 use Rattle.editing.proofs.Rooted.{Rooted, number-le, depth-of}
-use Rattle.editing.proofs.Sides.{around-kid-by, kid-word-lt, side-word-lt, Link, to-parent, to-kid, to-side, link-word, opposite-aside, hit-side, side-hit, turned}
+use Rattle.editing.proofs.Sides.{around-kid-by, kid-word-lt, side-word-lt, Link, to-parent, to-kid, to-side, link-word, hit-side, side-hit, turned}
 use Rattle.editing.proofs.Siding.{Agrees, side-by}
 use Rattle.editing.proofs.Changing.{Swap, Toward, as-parent, as-side, swap-same, swap-other, swap-number, swap-numbered, swap-rooted, beside-same, beside-there, side-names, parent-names, row-kept}
 

@@ -22,7 +22,7 @@ use Rattle.geometry.proofs.Bools.{no-is, is-yes}
 use Rattle.geometry.proofs.Lists.{any-set, first-set}
 use Rattle.geometry.proofs.Places.{same-is, is-same, mapped, then-some, step-back}
 use Rattle.geometry.proofs.Kids.{parent-depth}
-use Rattle.geometry.proofs.Digits.{kidBy, kid-by-parent, kid-by-digits, parent-by, aside}
+use Rattle.geometry.proofs.Digits.{kidBy, kid-by-parent, kid-by-digits, parent-by, aside, opposite-aside}
 use Rattle.numbering.proofs.Entries.{stands-place}
 use Rattle.numbering.proofs.Numbers.{Numbered, number-place, place-number, numbered-not-zero}
 use Rattle.pictures.proofs.Links.{around-parent, around-side}
@@ -31,7 +31,7 @@ use Rattle.editing.specs.Linked.{Flags, fieldsWith, tableWith}
 use Rattle.editing.proofs.Spots.{word}
 use Rattle.editing.proofs.Linked.{word-link, word-field}
 use Rattle.editing.proofs.Rooted.{Rooted}
-use Rattle.editing.proofs.Sides.{around-kid-by, kid-word-lt, side-word-lt, step-other, Link, to-parent, to-kid, to-side, link-word, opposite-twice, opposite-aside}
+use Rattle.editing.proofs.Sides.{around-kid-by, kid-word-lt, side-word-lt, step-other, Link, to-parent, to-kid, to-side, link-word, opposite-twice}
 
 -- ---- the change
 

@@ -17,7 +17,7 @@ use Rattle.mesh.specs.State.{Entry, free, placeOf, entry, number, numberOf}
 use Rattle.mesh.specs.Picture.{rowWords}
 use Rattle.geometry.proofs.Bools.{and-left}
 use Rattle.geometry.proofs.Kids.{up, parent-up}
-use Rattle.geometry.proofs.Digits.{aside}
+use Rattle.geometry.proofs.Digits.{aside, opposite-aside}
 use Rattle.numbering.proofs.Entries.{in-list}
 use Rattle.numbering.proofs.Numbers.{number-place, not-zero}
 use Rattle.pictures.proofs.Links.{around-parent, around-side}
@@ -29,7 +29,7 @@ use Rattle.editing.specs.Steps.{putWord, dropSide, takeOut}
 use Rattle.editing.proofs.Spots.{word, Spot, Hit, Off, off-at, untouched, write, write-unless, settled, put-length, put-same, put-other}
 use Rattle.editing.proofs.Linked.{row-length, linked-length, linked-word, col-of, row-of, word-free, word-nil}
 use Rattle.editing.proofs.Rooted.{Rooted, number-le, link-of}
-use Rattle.editing.proofs.Sides.{kid-word-lt, side-word-lt, opposite-aside, hit-side, side-hit, turned}
+use Rattle.editing.proofs.Sides.{kid-word-lt, side-word-lt, hit-side, side-hit, turned}
 use Rattle.editing.proofs.Changing.{Swap, Toward, as-parent, as-side, swap-same, swap-other, swap-numbered, swap-rooted, above-there, beside-there, side-names, parent-names, row-kept}
 
 module _ {g : Grid} {cap : ℕ} {es : List Entry} (r : Rooted g cap es) (f : Flags) (k : ℕ) (q : Place)

@@ -98,16 +98,6 @@ opposite-twice E = refl
 opposite-twice S = refl
 opposite-twice W = refl
 
-pub opposite-aside : (w : Wind) → T (aside w) → T (aside (compass w .opposite))
-opposite-aside N t = tt
-opposite-aside E t = tt
-opposite-aside S t = tt
-opposite-aside W t = tt
-opposite-aside NE t = absurd t
-opposite-aside SE t = absurd t
-opposite-aside SW t = absurd t
-opposite-aside NW t = absurd t
-
 -- ---- spots of the four sides
 
 pub hit-side : (h : Wind → List Spot) (n v : ℕ) (w : Wind) → T (aside w) → Hit n v (h w) → Hit n v (flat (map h sideWinds))

@@ -51,6 +51,16 @@ parent-by q p e = by-digits q (omega (arith, parent-depth q p e)) ∙ ap (kidBy 
 abbrev pub aside : Wind → Bool
 aside w = any (λ x. eqb (wordOfWind x) (wordOfWind w)) sideWinds
 
+pub opposite-aside : (w : Wind) → T (aside w) → T (aside (compass w .opposite))
+opposite-aside N t = tt
+opposite-aside E t = tt
+opposite-aside S t = tt
+opposite-aside W t = tt
+opposite-aside NE t = absurd t
+opposite-aside SE t = absurd t
+opposite-aside SW t = absurd t
+opposite-aside NW t = absurd t
+
 -- a digit moved by an offset (one too large) is still one of the same two
 abbrev pub within : ℕ → Bool
 within a = leb 1 a && leb a 2

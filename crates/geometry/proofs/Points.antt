@@ -1,6 +1,6 @@
 -- Points in 1/4096 of a level-0 cell: of each depth one place holds a point, and its parent is the place one depth less that holds it.
 -- Assumes nothing.
-use Prim.Native.Nat.{ℕ, suc, _+_, _-_, _*_, _/_, _^_, _<_}
+use Prim.Native.Nat.{ℕ, suc, _+_, _-_, _*_, _/_, _^_, _≤_, _<_}
 use native.Mathlib.Nat.{add-mul, one-mul, pow-suc, one-le-pow, div-eq-of-lt-le, div-mul-le-self, lt-div-mul-add, div-div-eq-div-mul}
 use native.Mathlib.Omega.{arith}
 use mathlib.Core.Path.{_≡_, refl, sym, ap, _∙_}
@@ -13,16 +13,43 @@ use Rattle.geometry.proofs.Bools.{and-both, and-left, and-right}
 use Rattle.geometry.proofs.Places.{place-path}
 use Rattle.geometry.proofs.Kids.{up, parent-up}
 
--- ---- one index: the interval of length h that a number lies in
+-- ---- one coordinate
 
-index-low : (h u : ℕ) → T (leb (u / h * h) u)
-index-low h u = le→leb (u / h * h) u (div-mul-le-self u h)
+-- a number lies in the i-th interval of length h
+abbrev pub Within : ℕ → ℕ → ℕ → Type 0
+Within h i u = (i * h ≤ u) × (u < (i + 1) * h)
 
-index-high : (h u : ℕ) → 0 < h → T (ltb u ((u / h + 1) * h))
-index-high h u l = lt→ltb u ((u / h + 1) * h) (rw (add-mul, one-mul) (lt-div-mul-add l))
+-- in one of them, and in no other
+index-within : (h u : ℕ) → 0 < h → Within h (u / h) u
+index-within h u l = (div-mul-le-self u h, rw (add-mul, one-mul) (lt-div-mul-add l))
 
-is-index : (h i u : ℕ) → T (leb (i * h) u) → T (ltb u ((i + 1) * h)) → i ≡ u / h
-is-index h i u a b = sym (div-eq-of-lt-le h (leb→le (i * h) u a) (ltb→lt u ((i + 1) * h) b))
+within-index : (h i u : ℕ) → Within h i u → i ≡ u / h
+within-index h i u (a, b) = sym (div-eq-of-lt-le h a b)
+
+-- ---- both
+
+-- a place holds a point exactly if its columns have the one coordinate and its rows the other
+module _ (g : Grid) (p : Place) (u v : ℕ) where
+  pub held : Within (side g p) (p .col) u → Within (side g p) (p .row) v → T (holds g p u v)
+  unfolding holds
+  held (a, b) (c, d) =
+      let h = side g p in
+      let t₃ = leb (p .row * h) v in
+      let t₄ = ltb v ((p .row + 1) * h) in
+      and-both (leb (p .col * h) u) (ltb u ((p .col + 1) * h) && (t₃ && t₄)) (le→leb _ _ a)
+      (and-both (ltb u ((p .col + 1) * h)) (t₃ && t₄) (lt→ltb _ _ b) (and-both t₃ t₄ (le→leb _ _ c) (lt→ltb _ _ d)))
+
+  pub holding : T (holds g p u v) → Within (side g p) (p .col) u × Within (side g p) (p .row) v
+  unfolding holds
+  holding t =
+      let h = side g p in
+      let a = leb (p .col * h) u in
+      let b = ltb u ((p .col + 1) * h) in
+      let c = leb (p .row * h) v in
+      let d = ltb v ((p .row + 1) * h) in
+      let t₁ = and-right a (b && (c && d)) t in
+      let t₂ = and-right b (c && d) t₁ in
+      ((leb→le _ _ (and-left a (b && (c && d)) t), ltb→lt _ _ (and-left b (c && d) t₁)), (leb→le _ _ (and-left c d t₂), ltb→lt _ _ (and-right c d t₂)))
 
 -- ---- the place that holds a point
 
@@ -36,28 +63,19 @@ module _ (g : Grid) (u v : ℕ) where
   spot-depth e = refl
 
   pub spot-holds : (e : ℕ) → T (holds g (spot g e u v) u v)
-  unfolding spot holds
+  unfolding spot
   spot-holds e =
       let h = 2 ^ (base g + 12 - e) in
       let l : 0 < h = one-le-pow (base g + 12 - e) 2 (omega arith) in
-      and-both (leb (u / h * h) u) (ltb u ((u / h + 1) * h) && (leb (v / h * h) v && ltb v ((v / h + 1) * h))) (index-low h u)
-      (and-both (ltb u ((u / h + 1) * h)) (leb (v / h * h) v && ltb v ((v / h + 1) * h)) (index-high h u l)
-      (and-both (leb (v / h * h) v) (ltb v ((v / h + 1) * h)) (index-low h v) (index-high h v l)))
+      held g (spot g e u v) u v (index-within h u l) (index-within h v l)
 
   -- and no other place of that depth
   pub holds-spot : (p : Place) → T (holds g p u v) → p ≡ spot g (p .depth) u v
-  unfolding spot holds
+  unfolding spot
   holds-spot p t =
       let h = side g p in
-      let a = leb (p .col * h) u in
-      let b = ltb u ((p .col + 1) * h) in
-      let c = leb (p .row * h) v in
-      let d = ltb v ((p .row + 1) * h) in
-      let t₁ = and-right a (b && (c && d)) t in
-      let t₂ = and-right b (c && d) t₁ in
-      place-path p (at (p .depth) (u / h) (v / h)) refl
-      (is-index h (p .col) u (and-left a (b && (c && d)) t) (and-left b (c && d) t₁))
-      (is-index h (p .row) v (and-left c d t₂) (and-right c d t₂))
+      let (a, b) = holding g p u v t in
+      place-path p (at (p .depth) (u / h) (v / h)) refl (within-index h (p .col) u a) (within-index h (p .row) v b)
 
   -- "halve the indices, rounding down": half an index is the index in intervals twice as long
   pub spot-parent : (e : ℕ) → e < base g + 12 → parent (spot g (suc e) u v) ≡ some (spot g e u v)

@@ -21,6 +21,7 @@ use Rattle.mesh.specs.Picture.{rowWords, fields, rowOf, table}
 use Rattle.geometry.proofs.Lists.{any-at, any-hit, any-map}
 use Rattle.geometry.proofs.Places.{same-is, step-back}
 use Rattle.geometry.proofs.Kids.{parent-kid, parent-in}
+use Rattle.geometry.proofs.Digits.{opposite-aside}
 use Rattle.numbering.proofs.Entries.{in-stands}
 use Rattle.numbering.proofs.Numbers.{valid-numbered, number-place, place-number, not-zero}
 use Rattle.pictures.proofs.Rows.{getD-repeated, table-word}
@@ -41,16 +42,6 @@ wind-lt N = lit< tt
 wind-lt E = lit< tt
 wind-lt S = lit< tt
 wind-lt W = lit< tt
-
-opposite-side : (w : Wind) → T (w of sideWinds) → T ((compass w .opposite) of sideWinds)
-opposite-side NE t = absurd t
-opposite-side SE t = absurd t
-opposite-side SW t = absurd t
-opposite-side NW t = absurd t
-opposite-side N t = tt
-opposite-side E t = tt
-opposite-side S t = tt
-opposite-side W t = tt
 
 pub around-parent : (g : Grid) (o : Option Place) → getD (around g o) 0 none ≡ then parent o
 unfolding around
@@ -165,7 +156,7 @@ module _ (s : State) (v : Valid s) where
   links-return w t n m z e =
       let (p, q, a, b, h) = follow n m (wordOfWind w) (wind-lt w) z e in
       let back : step (gridOf s) (compass w .opposite) q ≡ some p = step-back (gridOf s) w p q (sym (around-side (gridOf s) w t (some p)) ∙ h) in
-      meet m n (wordOfWind (compass w .opposite)) q p (wind-lt (compass w .opposite)) b a (around-side (gridOf s) (compass w .opposite) (opposite-side w t) (some q) ∙ back)
+      meet m n (wordOfWind (compass w .opposite)) q p (wind-lt (compass w .opposite)) b a (around-side (gridOf s) (compass w .opposite) (opposite-aside w t) (some q) ∙ back)
 
   kid-return : (w : Wind) → T (w of kidWinds) → (n m : ℕ) → m ≢ 0 → linkWord s n (wordOfWind w) ≡ pos m → linkWord s m 0 ≡ pos n
   kid-return w t n m z e =
