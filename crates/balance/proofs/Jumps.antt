@@ -13,14 +13,14 @@ use mathlib.Core.Option.{some}
 use lib.Dec.{T}
 use Rattle.mesh.specs.Place.{Place, Grid, Wind, N, E, S, W, base, home, toSouth, toWest, step, parent}
 use Rattle.mesh.specs.Mesh.{Mesh, on, hasKids, leaf}
-use Rattle.mesh.specs.Lookup.{side, holds}
+use Rattle.mesh.specs.Holding.{side, westEdge, eastEdge, southEdge, northEdge, holds}
 use Rattle.geometry.proofs.Places.{step-back}
 use Rattle.geometry.proofs.Kids.{up-is, kid-has, leaf-cell, leaf-kidless}
 use Rattle.geometry.proofs.Digits.{aside}
 use Rattle.geometry.proofs.Walls.{home-up, home-cell}
 use Rattle.geometry.proofs.Points.{Within, held, spot, spot-depth, holds-spot, spot-parent}
 use Rattle.geometry.proofs.Tiling.{spot-up}
-use Rattle.balance.specs.Beside.{westEdge, eastEdge, southEdge, northEdge, Overlap, BesideV, BesideH, Beside, NoJump}
+use Rattle.balance.specs.Beside.{Overlap, BesideV, BesideH, Beside, NoJump}
 use Rattle.balance.proofs.Balanced.{Balanced}
 
 -- ---- intervals

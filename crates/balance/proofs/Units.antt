@@ -10,7 +10,7 @@ use mathlib.Core.Bool.{Bool}
 use lib.Dec.{T}
 use Rattle.mesh.specs.Place.{Place, Grid}
 use Rattle.mesh.specs.Mesh.{Mesh, leaf}
-use Rattle.mesh.specs.Lookup.{side, holds}
+use Rattle.mesh.specs.Holding.{side, holds}
 use Rattle.geometry.proofs.Points.{Within, held, holding}
 use Rattle.geometry.proofs.Tiling.{tiling-one}
 use Rattle.balance.specs.Beside.{Overlap, Beside}

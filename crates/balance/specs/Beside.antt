@@ -1,28 +1,14 @@
 -- "Leaves that share part of an edge then differ by one level at most" (02, No. 1). Squares are measured in 1/4096 of a level-0 cell; what they
 -- share knows no tree, no patch and no link.
 -- Assumes nothing.
-use Prim.Native.Nat.{ℕ, suc, _+_, _*_, _≤_, _<_}
+use Prim.Native.Nat.{ℕ, suc, _≤_, _<_}
 use mathlib.Core.Path.{_≡_}
 use mathlib.Core.Logic.{_⊎_}
 use mathlib.Core.Bool.{Bool}
 use lib.Dec.{T}
 use Rattle.mesh.specs.Place.{Place, Grid}
 use Rattle.mesh.specs.Mesh.{leaf}
-use Rattle.mesh.specs.Lookup.{side}
-
--- where the square of a place ends
-module _ (g : Grid) (p : Place) where
-  abbrev pub westEdge : ℕ
-  westEdge = p .col * side g p
-
-  abbrev pub eastEdge : ℕ
-  eastEdge = (p .col + 1) * side g p
-
-  abbrev pub southEdge : ℕ
-  southEdge = p .row * side g p
-
-  abbrev pub northEdge : ℕ
-  northEdge = (p .row + 1) * side g p
+use Rattle.mesh.specs.Holding.{westEdge, eastEdge, southEdge, northEdge}
 
 -- the stretch from a to b and that from c to d have a part of positive length in common
 abbrev pub Overlap : ℕ → ℕ → ℕ → ℕ → Type 0

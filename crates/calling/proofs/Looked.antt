@@ -15,7 +15,7 @@ use Rattle.mesh.specs.Call.{Lent, Found, lentChecks, stateOf, unless, lookupCal
 use Rattle.walk.specs.Calls.{rowValue, rowLookupOut}
 use Rattle.pictures.proofs.Rows.{amounts-at}
 use Rattle.pictures.proofs.Pictured.{word-status}
-use Rattle.walking.proofs.Finding.{row-lookup}
+use Rattle.walking.proofs.Lookups.{row-lookup}
 use Rattle.calling.proofs.Called.{checks-after, by-picture}
 
 -- a value is its status and its amount

@@ -8,7 +8,7 @@ use mathlib.Core.Bool.{_&&_}
 use mathlib.Core.Option.{some}
 use lib.Dec.{T, leb, ltb, leb→le, ltb→lt, le→leb, lt→ltb}
 use Rattle.mesh.specs.Place.{Place, Grid, at, base, parent}
-use Rattle.mesh.specs.Lookup.{side, holds}
+use Rattle.mesh.specs.Holding.{side, holds}
 use Rattle.geometry.proofs.Bools.{and-both, and-left, and-right}
 use Rattle.geometry.proofs.Places.{place-path}
 use Rattle.geometry.proofs.Kids.{up, parent-up}

@@ -12,7 +12,7 @@ use mathlib.Core.Option.{some}
 use lib.Dec.{T}
 use Rattle.mesh.specs.Place.{Place, Grid, at, base}
 use Rattle.mesh.specs.Mesh.{Mesh, hasKids, leaf}
-use Rattle.mesh.specs.Lookup.{holds}
+use Rattle.mesh.specs.Holding.{holds}
 use Rattle.geometry.proofs.Bools.{either, and-both}
 use Rattle.geometry.proofs.Kids.{up, parent-depth, up-is, all-kids, has-kid, leaf-cell, leaf-kidless}
 use Rattle.geometry.proofs.Tree.{cell-up}

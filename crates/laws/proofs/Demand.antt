@@ -24,7 +24,7 @@ use Rattle.laws.specs.History.{History}
 use Rattle.laws.proofs.Numbers.{built-numbers}
 use Rattle.laws.proofs.Adjacent.{around-adjacent}
 use Rattle.laws.proofs.Refusals.{unless-accepted, unless-why}
-use Rattle.walking.proofs.Lookups.{lookup-leaf, lookup-none}
+use Rattle.walking.proofs.Leaves.{leaf-at-some, leaf-at-none}
 use Rattle.laws.proofs.Exactly.{accepted-is}
 use Rattle.laws.proofs.Requests.{request-done}
 use Rattle.laws.proofs.Tapes.{Led, tapes-led}
@@ -44,9 +44,9 @@ demanded g cap b ds s l even = record {
   linked = λ n m w p q h a b. Iff·trans (link-place s (l .valid) n m w p q h a b) (around-adjacent (gridOf s) w p q);
   returned = links-return s (l .valid);
   parents = parent-kid-return s (l .valid);
-  tiled = λ u v t. lookup-leaf (l .valid) u v t;
+  tiled = λ u v t. leaf-at-some (l .valid) u v t;
   one-leaf = λ u v p q a h c k. tiling-one (l .valid .mesh) u v p q a h c k;
-  no-leaf = λ u v h. lookup-none (l .valid) u v h;
+  no-leaf = λ u v h. leaf-at-none (l .valid) u v h;
   walked = λ o t from to a h k. scan-all s (l .valid) o t from to a h k;
   counted = in-use-counts (l .valid);
   no-jump = even-no-jump s (l .valid) even;

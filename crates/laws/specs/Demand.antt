@@ -18,7 +18,7 @@ use Rattle.mesh.specs.State.{State, placeOf, isUsed, entry, cells, number, inUs
 use Rattle.mesh.specs.Valid.{Valid}
 use Rattle.mesh.specs.Build.{full, numbered, blankCell, built}
 use Rattle.mesh.specs.Scan.{permutation, scan}
-use Rattle.mesh.specs.Lookup.{holds, lookup}
+use Rattle.mesh.specs.Holding.{holds, leafAt}
 use Rattle.geometry.proofs.Tiling.{groundOf}
 use Rattle.balance.specs.Beside.{NoJump}
 use Rattle.numbering.proofs.Numbers.{contents}
@@ -57,11 +57,11 @@ pub record Demand3 (g : Grid) (ds : List Deed) (s : State) : Type 0 where
   pub parents : (n m : ℕ)
       → ((w : Wind) → T (w of kidWinds) → m ≢ 0 → linkWord s n (wordOfWind w) ≡ pos m → linkWord s m 0 ≡ pos n)
       × (n ≢ 0 → linkWord s m 0 ≡ pos n → (w : Wind) × T (w of kidWinds) × (linkWord s n (wordOfWind w) ≡ pos m))
-  -- "every point of the remaining area in one leaf", which the lookup gives; no leaf holds any other point
+  -- "every point of the remaining area in one leaf"; no leaf holds any other point
   pub tiled : (u v : ℕ) → T (cells (s .entries) (groundOf (gridOf s) u v))
-      → (p : Place) × T (leaf (gridOf s) (cells (s .entries)) p) × T (holds (gridOf s) p u v) × (lookup s u v ≡ number (s .entries) p) × (number (s .entries) p ≢ 0)
+      → (p : Place) × T (leaf (gridOf s) (cells (s .entries)) p) × T (holds (gridOf s) p u v) × (leafAt s u v ≡ number (s .entries) p) × (number (s .entries) p ≢ 0)
   pub one-leaf : (u v : ℕ) (p q : Place) → T (leaf (gridOf s) (cells (s .entries)) p) → T (holds (gridOf s) p u v) → T (leaf (gridOf s) (cells (s .entries)) q) → T (holds (gridOf s) q u v) → p ≡ q
-  pub no-leaf : (u v : ℕ) → (T (cells (s .entries) (groundOf (gridOf s) u v)) → ⊥) → lookup s u v ≡ 0
+  pub no-leaf : (u v : ℕ) → (T (cells (s .entries) (groundOf (gridOf s) u v)) → ⊥) → leafAt s u v ≡ 0
   -- "a walk meets each patch once": from the root over all levels, in any order of the kids
   pub walked : (o : List ℕ) → T (permutation o) → (from to : ℤ) → T (leZ (pos 12) to) → T (leZ from (level (gridOf s) root))
       → (k : ℕ) → count (eqb k) (scan s 1 o 1 from to) ≡ cond (isUsed (entry (s .entries) k)) 1 0

@@ -14,6 +14,7 @@ pub mod Build
 pub mod Request
 pub mod Tape
 pub mod Scan
+pub mod Holding
 pub mod Lookup
 pub mod Page
 pub mod Call

@@ -21,7 +21,7 @@ use Rattle.table.specs.Words.{wordOf, linkOf}
 use Rattle.table.specs.Worked.{kidWord}
 use Rattle.geometry.proofs.Bools.{is-yes, and-left, and-right}
 use Rattle.geometry.proofs.Lists.{all-at}
-use Rattle.walk.specs.Rows.{kidsWord, isEnd, leafRow, fromLevel, scans, rowWalk, rowsBelow, rowFind, rowLookup}
+use Rattle.walk.specs.Rows.{kidsWord, isEnd, leafRow, fromLevel, scans, rowWalk, rowsBelow, rowFind, rowAt}
 
 -- ---- tests
 
@@ -205,14 +205,14 @@ more-digits k x e = go (decLt x (2 ^ k))
     go (no h) = le-ltb x (2 ^ k) (omega (arith, h))
 
 module _ (t : List ℤ) (cap d u v : ℕ) where
-  pub lookup-east : u / 2 ^ (d + 12) ≢ 0 → 0 ≡ rowLookup t cap d u v
-  unfolding rowLookup
-  lookup-east e = rw (more-digits (d + 12) u e)
+  pub row-at-east : u / 2 ^ (d + 12) ≢ 0 → 0 ≡ rowAt t cap d u v
+  unfolding rowAt
+  row-at-east e = rw (more-digits (d + 12) u e)
 
-  pub lookup-north : u / 2 ^ (d + 12) ≡ 0 → v / 2 ^ (d + 12) ≢ 0 → 0 ≡ rowLookup t cap d u v
-  unfolding rowLookup
-  lookup-north e h = rw (no-digits (d + 12) u e, more-digits (d + 12) v h)
+  pub row-at-north : u / 2 ^ (d + 12) ≡ 0 → v / 2 ^ (d + 12) ≢ 0 → 0 ≡ rowAt t cap d u v
+  unfolding rowAt
+  row-at-north e h = rw (no-digits (d + 12) u e, more-digits (d + 12) v h)
 
-  pub lookup-inside : {r : ℕ} → u / 2 ^ (d + 12) ≡ 0 → v / 2 ^ (d + 12) ≡ 0 → r ≡ rowFind t cap d u v (d + 12) 1 → r ≡ rowLookup t cap d u v
-  unfolding rowLookup
-  lookup-inside e h i = rw (no-digits (d + 12) u e, no-digits (d + 12) v h) i
+  pub row-at-inside : {r : ℕ} → u / 2 ^ (d + 12) ≡ 0 → v / 2 ^ (d + 12) ≡ 0 → r ≡ rowFind t cap d u v (d + 12) 1 → r ≡ rowAt t cap d u v
+  unfolding rowAt
+  row-at-inside e h i = rw (no-digits (d + 12) u e, no-digits (d + 12) v h) i

@@ -1,4 +1,4 @@
--- Scan and lookup as the code meets the rows: down kid by kid, one level less left at each step.
+-- A scan and the way to a point as the code meets the rows: down kid by kid, one level less left at each step.
 -- Assumes nothing.
 use Prim.Native.Nat.{ℕ, zero, suc, _+_, _-_, _*_, _/_, _%_, _^_}
 use mathlib.Core.Bool.{Bool, _&&_, _||_, cond}
@@ -58,5 +58,5 @@ module _ (t : List ℤ) (cap d : ℕ) where
   rowFind u v (suc l) n = cond (leafRow n) n (cond (eqb n 0) 0 (rowFind u v l (linkOf t cap n (kidWord (u / 2 ^ l % 2) (v / 2 ^ l % 2)))))
 
   -- from the root, which is as wide as 2 ^ (d + 12)
-  unfoldable pub rowLookup : ℕ → ℕ → ℕ
-  rowLookup u v = cond (ltb u (2 ^ (d + 12)) && ltb v (2 ^ (d + 12))) (rowFind u v (d + 12) 1) 0
+  unfoldable pub rowAt : ℕ → ℕ → ℕ
+  rowAt u v = cond (ltb u (2 ^ (d + 12)) && ltb v (2 ^ (d + 12))) (rowFind u v (d + 12) 1) 0

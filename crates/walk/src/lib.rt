@@ -9,7 +9,7 @@ ghost use lib.ListN.{length};
 ghost use Rattle.mesh.specs.Picture.{rowWords};
 ghost use Rattle.table.specs.Words.{linkOf};
 ghost use Rattle.table.specs.Worked.{kidWord};
-ghost use Rattle.walk.specs.Rows.{leafRow, rowFind, rowLookup};
+ghost use Rattle.walk.specs.Rows.{leafRow, rowFind, rowAt};
 ghost use Rattle.walk.specs.Plain.{Plain};
 use table::words::NE_KID;
 use table::words::flag;
@@ -50,9 +50,9 @@ pub fn find_row(t: &&[i32], cap: usize, d: u32, left: u32, n: usize, u: u32, v: 
 }
 
 // The leaf that holds a point, from the root on, or 0.
-pub fn lookup_row(t: &[i32], cap: usize, d: u32, u: u32, v: u32) -> usize
+pub fn leaf_at(t: &[i32], cap: usize, d: u32, u: u32, v: u32) -> usize
     requires { ⌜ Plain (now t) cap d × (1 ≤ cap) × (d ≤ 19) ⌝ }
-    ensures { λ r. ⌜ (r ≤ cap) × (r ≡ rowLookup (now (t .entry)) cap d u v) ⌝ }
+    ensures { λ r. ⌜ (r ≤ cap) × (r ≡ rowAt (now (t .entry)) cap d u v) ⌝ }
 {
     let e = d + 12;
     if u >> e != 0 {

@@ -1,4 +1,4 @@
--- Lookups in the picture of a valid state: the digits of a point lead from the root down the places that hold it, and the first leaf among them is
+-- Points in the picture of a valid state: the digits of a point lead from the root down the places that hold it, and the first leaf among them is
 -- the one leaf that holds the point. Where no patch stands any more none does.
 -- Assumes nothing.
 use Prim.Native.Nat.{ℕ, zero, suc, _+_, _-_, _/_, _%_, _^_, _≤_, _<_}
@@ -17,10 +17,10 @@ use Rattle.mesh.specs.Mesh.{patch, leaf}
 use Rattle.mesh.specs.State.{State, Entry, cells, number, gridOf, capacity}
 use Rattle.mesh.specs.Valid.{Valid}
 use Rattle.mesh.specs.Picture.{table}
-use Rattle.mesh.specs.Lookup.{holds, lookup}
+use Rattle.mesh.specs.Holding.{holds, leafAt}
 use Rattle.table.specs.Words.{linkOf}
 use Rattle.table.specs.Worked.{kidWord}
-use Rattle.walk.specs.Rows.{leafRow, rowFind, rowLookup}
+use Rattle.walk.specs.Rows.{leafRow, rowFind, rowAt}
 use Rattle.geometry.proofs.Bools.{is-yes}
 use Rattle.geometry.proofs.Places.{place-path}
 use Rattle.geometry.proofs.Kids.{leaf-cell}
@@ -31,7 +31,7 @@ use Rattle.geometry.proofs.Points.{spot, spot-depth, spot-holds, holds-spot, sp
 use Rattle.numbering.proofs.Numbers.{valid-numbered, place-number, numbered-not-zero}
 use Rattle.walk.proofs.Steps.{no-digits}
 use Rattle.pictures.proofs.Linked.{kid-link}
-use Rattle.walking.proofs.Lookups.{lookup-place, leaf-number}
+use Rattle.walking.proofs.Leaves.{leaf-at-place, leaf-number}
 use Rattle.walking.proofs.Rowing.{leaf-row}
 
 either-way : {A : Type 0} {a : A} (b : Bool) → cond b a a ≡ a
@@ -57,12 +57,12 @@ module _ (s : State) (v : Valid s) (x y : ℕ) where
   abbrev Leaf : Place → Type 0
   Leaf q = T (leaf g c q) × T (holds g q x y)
 
-  none-found : ((q : Place) → Leaf q → ⊥) → lookup s x y ≡ 0
-  none-found h = go (ℕ-discrete (lookup s x y) 0)
+  none-found : ((q : Place) → Leaf q → ⊥) → leafAt s x y ≡ 0
+  none-found h = go (ℕ-discrete (leafAt s x y) 0)
     where
-      go : Dec (lookup s x y ≡ 0) → lookup s x y ≡ 0
+      go : Dec (leafAt s x y ≡ 0) → leafAt s x y ≡ 0
       go (yes z) = z
-      go (no z) = let (q, e, a, b) = lookup-place v x y z in absurd (h q (a, b))
+      go (no z) = let (q, e, a, b) = leaf-at-place v x y z in absurd (h q (a, b))
 
   -- a patch stands at each place that holds the point, from the root to the leaf
   spot-above : (n e d : ℕ) → d ≡ e + n → d ≤ base g + 12 → T (patch g c (at-depth d)) → T (patch g c (at-depth e))
@@ -96,7 +96,7 @@ module _ (s : State) (v : Valid s) (x y : ℕ) where
       let kid : at-depth (suc e) ≡ kidBy (x / 2 ^ l % 2) (y / 2 ^ l % 2) (at-depth e) = parent-by (at-depth (suc e)) (at-depth e) (spot-parent g x y e (omega arith)) ∙ rw (i, j) in
       kid-link s v (x / 2 ^ l % 2) (y / 2 ^ l % 2) (omega arith) (omega arith) (some (at-depth e)) ∙ ap (number es) (sym kid)
 
-  found-here : (e : ℕ) → leaf g c (at-depth e) ≡ true → number es (at-depth e) ≡ lookup s x y
+  found-here : (e : ℕ) → leaf g c (at-depth e) ≡ true → number es (at-depth e) ≡ leafAt s x y
   found-here e i = sym (leaf-number v x y (at-depth e) (is-yes (leaf g c (at-depth e)) i) (spot-holds g x y e) .0)
 
   found-below : (e : ℕ) → leaf g c (at-depth e) ≡ false → (q : Place) → Leaf q → e ≤ q .depth → suc e ≤ q .depth
@@ -110,22 +110,22 @@ module _ (s : State) (v : Valid s) (x y : ℕ) where
           absurd (let f : T false = rw i at t in f)
 
   -- from a patch that holds the point, under which the leaf lies if there is one
-  find-row : (l e : ℕ) → e + l ≡ base g + 12 → ((q : Place) → Leaf q → e ≤ q .depth) → number es (at-depth e) ≢ 0 → rowFind (table s) (capacity s) (base g) x y l (number es (at-depth e)) ≡ lookup s x y
+  find-row : (l e : ℕ) → e + l ≡ base g + 12 → ((q : Place) → Leaf q → e ≤ q .depth) → number es (at-depth e) ≢ 0 → rowFind (table s) (capacity s) (base g) x y l (number es (at-depth e)) ≡ leafAt s x y
   unfolding rowFind
   find-row zero e h low z = rw (leaf-row s v (at-depth e) z) (go (leaf g c (at-depth e)) refl)
     where
-      go : (b : Bool) → leaf g c (at-depth e) ≡ b → cond b (number es (at-depth e)) 0 ≡ lookup s x y
+      go : (b : Bool) → leaf g c (at-depth e) ≡ b → cond b (number es (at-depth e)) 0 ≡ leafAt s x y
       go true i = found-here e i
       go false i = sym (none-found (λ q f. omega (arith, found-below e i q f (low q f), v .mesh .high q (leaf-cell g c q (f .0)))))
   find-row (suc l) e h low z = rw (leaf-row s v (at-depth e) z, ne-eqb (number es (at-depth e)) 0 z, link-spot e l (omega arith)) (go (leaf g c (at-depth e)) refl (find-row l (suc e) (omega arith)))
     where
       go : (b : Bool) → leaf g c (at-depth e) ≡ b
-          → (((q : Place) → Leaf q → suc e ≤ q .depth) → number es (at-depth (suc e)) ≢ 0 → rowFind (table s) (capacity s) (base g) x y l (number es (at-depth (suc e))) ≡ lookup s x y)
-          → cond b (number es (at-depth e)) (rowFind (table s) (capacity s) (base g) x y l (number es (at-depth (suc e)))) ≡ lookup s x y
+          → (((q : Place) → Leaf q → suc e ≤ q .depth) → number es (at-depth (suc e)) ≢ 0 → rowFind (table s) (capacity s) (base g) x y l (number es (at-depth (suc e))) ≡ leafAt s x y)
+          → cond b (number es (at-depth e)) (rowFind (table s) (capacity s) (base g) x y l (number es (at-depth (suc e)))) ≡ leafAt s x y
       go true i ih = found-here e i
       go false i ih = on (ℕ-discrete (number es (at-depth (suc e))) 0)
         where
-          on : Dec (number es (at-depth (suc e)) ≡ 0) → rowFind (table s) (capacity s) (base g) x y l (number es (at-depth (suc e))) ≡ lookup s x y
+          on : Dec (number es (at-depth (suc e)) ≡ 0) → rowFind (table s) (capacity s) (base g) x y l (number es (at-depth (suc e))) ≡ leafAt s x y
           on (no k) = ih (λ q f. found-below e i q f (low q f)) k
           on (yes k) =
               rw (k, find-nil (base g) l)
@@ -150,15 +150,15 @@ module _ (s : State) (v : Valid s) (x y : ℕ) where
       below : (u : ℕ) → u / width ≡ 0 → u < width
       below u z = ltb→lt u width (is-yes (ltb u width) (no-digits (base g + 12) u z))
 
-  -- the lookup by rows is the lookup
-  pub row-lookup : rowLookup (table s) (capacity s) (base g) x y ≡ lookup s x y
-  unfolding rowLookup
-  row-lookup = go (ltb x width) (ltb y width) refl refl
+  -- the leaf by rows is the leaf that holds the point
+  pub row-at : rowAt (table s) (capacity s) (base g) x y ≡ leafAt s x y
+  unfolding rowAt
+  row-at = go (ltb x width) (ltb y width) refl refl
     where
-      outside : ((x < width) × (y < width) → ⊥) → 0 ≡ lookup s x y
+      outside : ((x < width) × (y < width) → ⊥) → 0 ≡ leafAt s x y
       outside h = sym (none-found (λ q f. h (spot-root (depth-zero-root g c (v .mesh) (v .rectangle) (at-depth 0) (spot-depth g x y 0) (leaf-above q f 0 (omega arith))))))
 
-      go : (a b : Bool) → ltb x width ≡ a → ltb y width ≡ b → cond (a && b) (rowFind (table s) (capacity s) (base g) x y (base g + 12) 1) 0 ≡ lookup s x y
+      go : (a b : Bool) → ltb x width ≡ a → ltb y width ≡ b → cond (a && b) (rowFind (table s) (capacity s) (base g) x y (base g + 12) 1) 0 ≡ leafAt s x y
       go true true i j =
           let r = root-spot (ltb→lt x width (is-yes (ltb x width) i)) (ltb→lt y width (is-yes (ltb y width) j)) in
           let n : number es (at-depth 0) ≡ 1 = ap (number es) r ∙ place-number es (valid-numbered v) 1 root (v .first-root) in

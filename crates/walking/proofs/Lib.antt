@@ -7,7 +7,8 @@ pub mod Few
 pub mod Sets
 pub mod Points
 pub mod Counts
-pub mod Lookups
+pub mod Leaves
 pub mod Rowing
 pub mod Finding
+pub mod Lookups
 pub mod Plainly

@@ -1,93 +1,29 @@
--- The leaf that holds a point: the list has one entry for it, the one at its place, so the lookup gives that place's number.
+-- Lookups: by the rows of a picture, and refused exactly outside the area.
 -- Assumes nothing.
 use Prim.Native.Nat.{ℕ}
-use native.Mathlib.Nat.{zero-add}
-use native.Mathlib.Decide.{ℕ-discrete}
-use mathlib.Core.Path.{_≡_, refl, sym, ap, _∙_}
-use mathlib.Core.Logic.{_≢_}
-use mathlib.Core.Bool.{Bool, true, false, _&&_, cond}
-use mathlib.Core.Option.{none, some}
-use lib.Dec.{T, T-not, eqb, eqb→eq}
-use Rattle.mesh.specs.Tools.{first}
-use Rattle.mesh.specs.Place.{Place}
-use Rattle.mesh.specs.Mesh.{leaf}
-use Rattle.mesh.specs.State.{State, Entry, nil, free, used, Cell, placeOf, entry, cells, number, gridOf}
+use mathlib.Core.Path.{_≡_, refl}
+use mathlib.Core.Bool.{Bool, true, false, not, cond}
+use Rattle.mesh.specs.Place.{base}
+use Rattle.mesh.specs.State.{State, cells, gridOf, capacity}
 use Rattle.mesh.specs.Valid.{Valid}
-use Rattle.mesh.specs.Lookup.{holds, leafHolding, lookup, lookupChecks}
+use Rattle.mesh.specs.Picture.{table}
 use Rattle.mesh.specs.Refusal.{refusal}
-use Rattle.geometry.proofs.Bools.{and-left, and-right, is-yes, is-no, not-not, yes-is, no-is}
-use Rattle.geometry.proofs.Lists.{first-hit, first-at}
-use Rattle.geometry.proofs.Kids.{leaf-cell}
-use Rattle.geometry.proofs.Tiling.{groundOf, tiling-some, tiling-one, tiling-none}
-use Rattle.numbering.proofs.Entries.{in-list, cell-somewhere}
-use Rattle.numbering.proofs.Numbers.{valid-numbered, place-number, not-zero}
+use Rattle.mesh.specs.Lookup.{lookup, lookupChecks}
+use Rattle.walk.specs.Rows.{rowAt}
+use Rattle.geometry.proofs.Tiling.{groundOf}
+use Rattle.walking.proofs.Leaves.{leaf-at-zero}
+use Rattle.walking.proofs.Finding.{row-at}
 
--- ---- one entry
+-- the lookup by rows is the lookup
+pub row-lookup : (s : State) → Valid s → (u v : ℕ) → rowAt (table s) (capacity s) (base (gridOf s)) u v ≡ lookup s u v
+unfolding lookup
+row-lookup s w u v = row-at s w u v
 
-module _ (s : State) (u v : ℕ) where
-  holding-place : (e : Entry) → T (leafHolding s u v e) → (p : Place) × (placeOf e ≡ some p) × T (leaf (gridOf s) (cells (s .entries)) p) × T (holds (gridOf s) p u v)
-  unfolding leafHolding
-  holding-place nil t = absurd t
-  holding-place free t = absurd t
-  holding-place (used p none) t = absurd t
-  holding-place (used p (some x)) t =
-      let a = leaf (gridOf s) (cells (s .entries)) p in
-      let b = holds (gridOf s) p u v in
-      let h = not-not (a && b) t in
-      (p, refl, and-left a b h, and-right a b h)
-
-  place-holding : (e : Entry) (p : Place) (x : Cell) → e ≡ used p (some x) → T (leaf (gridOf s) (cells (s .entries)) p) → T (holds (gridOf s) p u v) → T (leafHolding s u v e)
-  unfolding leafHolding
-  place-holding e p x i a b = rw (i, yes-is (leaf (gridOf s) (cells (s .entries)) p) a, yes-is (holds (gridOf s) p u v) b) tt
-
--- ---- the list
-
-module _ {s : State} (w : Valid s) (u v : ℕ) where
-  -- a number is that of a leaf that holds the point
-  pub lookup-place : lookup s u v ≢ 0 → (p : Place) × (placeOf (entry (s .entries) (lookup s u v)) ≡ some p) × T (leaf (gridOf s) (cells (s .entries)) p) × T (holds (gridOf s) p u v)
-  unfolding lookup
-  lookup-place h =
-      let (k, e, l, t) = first-hit (leafHolding s u v) nil 0 (s .entries) h in
-      holding-place s u v (entry (s .entries) (first (leafHolding s u v) 0 (s .entries))) (rw (e, zero-add) t)
-
-  pub lookup-none : (T (cells (s .entries) (groundOf (gridOf s) u v)) → ⊥) → lookup s u v ≡ 0
-  lookup-none h = go (ℕ-discrete (lookup s u v) 0)
-    where
-      go : Dec (lookup s u v ≡ 0) → lookup s u v ≡ 0
-      go (yes z) = z
-      go (no z) = let (p, e, a, b) = lookup-place z in absurd (h (tiling-none (w .mesh) u v p a b))
-
-  -- beside the entry of a leaf that holds the point there is no other
-  holding-once : (n : ℕ) (p : Place) → placeOf (entry (s .entries) n) ≡ some p → T (leaf (gridOf s) (cells (s .entries)) p) → T (holds (gridOf s) p u v) → (j : ℕ) → T (leafHolding s u v (entry (s .entries) j)) → j ≡ n
-  holding-once n p i a b j t =
-      let (q, f, c, d) = holding-place s u v (entry (s .entries) j) t in
-      w .once j n p (f ∙ ap some (tiling-one (w .mesh) u v q p c d a b)) i
-
-  -- a leaf that holds the point is the one that is found
-  pub leaf-number : (p : Place) → T (leaf (gridOf s) (cells (s .entries)) p) → T (holds (gridOf s) p u v) → (lookup s u v ≡ number (s .entries) p) × (number (s .entries) p ≢ 0)
-  unfolding lookup
-  leaf-number p a b =
-      let es = s .entries in
-      let (n, x, e) = cell-somewhere es p (leaf-cell (gridOf s) (cells es) p a) in
-      let i : placeOf (entry es n) ≡ some p = ap placeOf e in
-      let k = place-number es (valid-numbered w) n p i in
-      let h = first-at (leafHolding s u v) nil 0 es n (in-list es n p i) (place-holding s u v (entry es n) p x e a b) (λ j l t. holding-once n p i a b j t) in
-      (h ∙ zero-add n ∙ sym k, λ z. not-zero es (valid-numbered w) n p i (sym k ∙ z))
-
-  -- "the answer is the leaf's number"
-  pub lookup-leaf : T (cells (s .entries) (groundOf (gridOf s) u v)) → (p : Place) × T (leaf (gridOf s) (cells (s .entries)) p) × T (holds (gridOf s) p u v) × (lookup s u v ≡ number (s .entries) p) × (number (s .entries) p ≢ 0)
-  lookup-leaf t =
-      let (p, a, b) = tiling-some (w .mesh) u v t in
-      let (e, z) = leaf-number p a b in
-      (p, a, b, e, z)
-
-  -- 19, "no leaf holds the point", is given exactly where the point's level-0 place is no cell
-  pub lookup-refused : refusal (lookupChecks s u v) ≡ cond (cells (s .entries) (groundOf (gridOf s) u v)) 0 19
-  unfolding refusal lookupChecks
-  lookup-refused = go (cells (s .entries) (groundOf (gridOf s) u v)) refl
-    where
-      go : (b : Bool) → cells (s .entries) (groundOf (gridOf s) u v) ≡ b → _≡_ {A = ℕ} (cond (eqb (lookup s u v) 0) 19 0) (cond b 0 19)
-      go true e =
-          let (p, a, b, f, z) = lookup-leaf (is-yes (cells (s .entries) (groundOf (gridOf s) u v)) e) in
-          rw (no-is (eqb (lookup s u v) 0) (λ t. z (sym f ∙ eqb→eq (lookup s u v) 0 t)))
-      go false e = rw (lookup-none (T-not (cells (s .entries) (groundOf (gridOf s) u v)) (is-no (cells (s .entries) (groundOf (gridOf s) u v)) e)))
+-- 19, "no leaf holds the point", is given exactly where the point's level-0 place is no cell
+pub lookup-refused : {s : State} → Valid s → (u v : ℕ) → refusal (lookupChecks s u v) ≡ cond (cells (s .entries) (groundOf (gridOf s) u v)) 0 19
+unfolding refusal lookupChecks lookup
+lookup-refused {s} w u v = rw (leaf-at-zero w u v) (go (cells (s .entries) (groundOf (gridOf s) u v)))
+  where
+    go : (b : Bool) → _≡_ {A = ℕ} (cond (not b) 19 0) (cond b 0 19)
+    go true = refl
+    go false = refl
