@@ -747,8 +747,17 @@ pub fn lookup(h: &Header, t: &[i32], v: &[f64], capacity: u32, speed: u32, load:
         return nothing(refusal);
     }
     let d = ground_depth(h.columns, h.rows);
+    let again = || TRIES.iter().find_map(|&(left, down)| leaf_at(t, v, d, speed.checked_sub(left)?, load.checked_sub(down)?));
+    leaf_at(t, v, d, speed, load).or_else(again).unwrap_or(nothing(19))
+}
+
+/// Where a point that no leaf holds is tried again: so many units to the left, so many down.
+const TRIES: [(u32, u32); 3] = [(1, 0), (0, 1), (1, 1)];
+
+#[inline(always)]
+fn leaf_at(t: &[i32], v: &[f64], d: u32, speed: u32, load: u32) -> Option<Found> {
     if (speed | load) >> LAST_LEVEL >> d != 0 {
-        return nothing(19);
+        return None;
     }
     let toward = |n: usize, bit: u32| {
         let kid = [[SW, NW], [SE, NE]][(speed >> bit & 1) as usize][(load >> bit & 1) as usize];
@@ -761,13 +770,13 @@ pub fn lookup(h: &Header, t: &[i32], v: &[f64], capacity: u32, speed: u32, load:
         n = toward(n, bit);
     }
     if row(t, n)[FLAGS] & COMPLETE == 0 {
-        return nothing(19);
+        return None;
     }
     while row(t, n)[NE] != 0 {
         bit -= 1;
         n = toward(n, bit);
     }
-    Found { refusal: 0, number: n as u32, status: row(t, n)[STATUS] as u32, bits: v[n].to_bits() }
+    Some(Found { refusal: 0, number: n as u32, status: row(t, n)[STATUS] as u32, bits: v[n].to_bits() })
 }
 
 // ---- the page

@@ -114,7 +114,10 @@ pub const WORKLOADS: &[(&str, fn() -> Job)] = &[
     ("refine-fresh", || refinement(built(8, 8, 4095))),
     ("refine-full", || refinement(nearly_full())),
     ("build-32", build),
-    ("lookup", lookups),
+    ("lookup", || lookups(|speed, load| (speed, load))),
+    ("lookup-right", || lookups(|_, load| (EDGE, load))),
+    ("lookup-top", || lookups(|speed, _| (speed, EDGE))),
+    ("lookup-corner", || lookups(|_, _| (EDGE, EDGE))),
     ("page", || Job { start: leaves(486), work: Work::Page, per: Per::Call }),
     ("page-quarter", || Job { start: leaves(57), work: Work::Page, per: Per::Call }),
     ("scan", || Job { start: leaves(486), work: Work::Scan, per: Per::Call }),
@@ -471,9 +474,14 @@ fn build() -> Job {
     Job { start: built(8, 8, 4095), work: Work::Build(32, 32), per: Per::Call }
 }
 
-fn lookups() -> Job {
+/// The upper and right edge of 16 by 16 cells.
+const EDGE: u32 = 16 * 4096;
+
+/// Points in the area, moved to where they are looked up.
+fn lookups(moved: fn(u32, u32) -> (u32, u32)) -> Job {
     let start = leaves(486);
     let mut chance = Chance(11);
-    let points = (0..10_000).map(|_| (chance.below(16 * 4096) as u32, chance.below(16 * 4096) as u32)).collect();
+    let mut some = || chance.below(EDGE as usize) as u32;
+    let points = (0..10_000).map(|_| moved(some(), some())).collect();
     Job { start, work: Work::Lookups(points), per: Per::Call }
 }

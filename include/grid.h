@@ -27,7 +27,7 @@
  *   17  the order is no permutation of the four kid winds, the kind of scan is none of 1 to 6, from_level is below the start's level, or to_level
  *       is below from_level
  *   18  the output is too short
- *   19  no leaf holds the point
+ *   19  no leaf holds the point, nor the points it is tried again at
  *   21  the cell to be refined is above level 0, and one of the four places beside it on its level lies in the remaining area and is no cell
  *   22  beside one of the four kids to be removed, across an edge, lies a cell of their level that is none of them and has kids
  * (20 is the program's own.) Of a request the first of its list is given: refine 6, 7, 8, 9, 10, 21, 11; sentence 6, 7, 8, 12; remove 6, 7, 13, 14,
@@ -68,8 +68,9 @@ uint32_t grid_scan(const grid_header *header, const int32_t *table, size_t table
                    uint32_t start, const uint8_t *order, size_t order_len, uint32_t kind, int32_t from_level, int32_t to_level,
                    uint16_t *out, size_t out_len, uint32_t *count);
 
-/* The leaf that holds a point, given in 1/4096 of a level-0 cell. status: 0 blank, 1 measured, 2 carried down from the parent; value: +0 if blank.
- * Refuses 1, 2, 3, 19. */
+/* The leaf that holds a point, given in 1/4096 of a level-0 cell. A leaf holds its lower and left edges; a point that none holds is tried again one
+ * unit to the left, one unit down, then both, never below 0, so that the upper and right edges of the area belong to the leaves that end there.
+ * status: 0 blank, 1 measured, 2 carried down from the parent; value: +0 if blank. Refuses 1, 2, 3, 19. */
 uint32_t grid_lookup(const grid_header *header, const int32_t *table, size_t table_len, const double *values, size_t values_len, uint32_t capacity,
                      uint32_t speed, uint32_t load, uint32_t *number, uint32_t *status, double *value);
 

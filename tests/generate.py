@@ -663,7 +663,7 @@ def some_point(rng, grid):
         return rng.randrange(4096 * (columns + 1)), rng.randrange(4096 * (rows + 1))
     level, i, j = rng.choice(sorted(grid.cells))
     size = 4096 >> level
-    shift = (0, -1, 1, size // 2, size - 1, size)
+    shift = (0, -1, 1, size // 2, size - 1, size, size + 1)
     speed, load = i * size + rng.choice(shift), j * size + rng.choice(shift)
     return max(0, speed), max(0, load)
 

@@ -1,4 +1,4 @@
-"""A reference of the rules of 01, with 02's No. 1, written for reading and comparing.
+"""A reference of the rules of 01, with 02's No. 1 and 2, written for reading and comparing.
 
 The grid is held as sets: the cells are a set of (level, i, j), the numbers a
 dict from patch (level, i, j) to number.  The table is a picture of these and
@@ -685,10 +685,23 @@ def leaf_at(grid, speed, load):
     return None
 
 
+def tries(speed, load):
+    """02, No. 2: the point, then "one unit to the left, one unit down, then both, skipping a try
+    below 0"."""
+    points = (speed, load), (speed - 1, load), (speed, load - 1), (speed - 1, load - 1)
+    return [point for point in points if min(point) >= 0]
+
+
+def found_leaf(grid, speed, load):
+    """02, No. 2: "the first leaf found", or None."""
+    leaves = (leaf_at(grid, *point) for point in tries(speed, load))
+    return next((leaf for leaf in leaves if leaf is not None), None)
+
+
 def lookup(capacity, header, table, values, speed, load):
     """Refusal 19, or the leaf's number, status and value bits."""
     refusal, grid = admit(capacity, header, table, values)
-    leaf = None if refusal else leaf_at(grid, speed, load)
+    leaf = None if refusal else found_leaf(grid, speed, load)
     if leaf is None:
         answer = Found(refusal or 19, 0, *NO_VALUE)
     else:

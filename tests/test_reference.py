@@ -1,4 +1,4 @@
-"""Tests of the reference: P1 to P11 of 01, its refusals, No. 1 of 02, and the vectors.
+"""Tests of the reference: P1 to P11 of 01, its refusals, No. 1 and 2 of 02, and the vectors.
 
     python3 test_reference.py [folder of vectors]
 
@@ -7,6 +7,7 @@ Prints `N passed, M failed` and ends with 1 if anything failed.
 
 import collections
 import copy
+import json
 import pathlib
 import random
 import struct
@@ -146,7 +147,8 @@ def test_p9_to_p11():
     expect("P10", grid.call(r.tape, bytes([1, 0, 2, 1, 0, 2])), (1, 8, 3))
     grid = Lent(1, 1)
     expect("P11 inside", grid.call(r.lookup, 4095, 4095), (0, 2, 0, 0))
-    expect("P11 outside", grid.call(r.lookup, 4096, 0), (19, 0, 0, 0))
+    expect("P11 edge", grid.call(r.lookup, 4096, 0), (0, 2, 0, 0))
+    expect("P11 outside", grid.call(r.lookup, 4097, 0), (19, 0, 0, 0))
 
 
 # ------------------------------------------------------------ rules of 01
@@ -571,6 +573,47 @@ def test_21_is_a_green_wall():
                 expect(f"green wall of {cell}", green, not green)
 
 
+# ------------------------------------------------------------ No. 2: rated speed is on the map
+
+
+def test_tries():
+    both = [(4, 9), (3, 9), (4, 8), (3, 8)]
+    for point, wanted in (((4, 9), both), ((4, 0), [(4, 0), (3, 0)]), ((0, 9), [(0, 9), (0, 8)]), ((0, 0), [(0, 0)])):
+        expect(f"tries of {point}", r.tries(*point), wanted)
+
+
+def leaf_by_squares(grid, speed, load):
+    """The leaf that holds the point; or that ends there to the right, or at the top, or with both."""
+    inside, at_end = (lambda low, high, x: low <= x < high), (lambda low, high, x: x == high)
+    for along, up in (inside, inside), (at_end, inside), (inside, at_end), (at_end, at_end):
+        for leaf in filter(grid.is_leaf, grid.cells):
+            left, lower, right, upper = square(leaf)
+            if along(left, right, speed) and up(lower, upper, load):
+                return leaf
+    return None
+
+
+def test_found_by_squares():
+    for seed in range(40):
+        rng = random.Random(seed)
+        grid = generate.some_grid(rng)
+        for _ in range(60):
+            point = generate.some_point(rng, grid)
+            expect(f"leaf at {point} of {seed}", r.found_leaf(grid, *point), leaf_by_squares(grid, *point))
+
+
+def test_killed_corner():
+    grid = Lent(2, 2)
+    expect("kill", grid.call(r.kill, 9), 0)
+    for point, wanted in (((4096, 4096), 7), ((4096, 8191), 7), ((8191, 4096), 8), ((8192, 4096), 8), ((8192, 4095), 8), ((0, 8192), 7), ((4096, 8192), 7)):
+        expect(f"edge at {point}", grid.call(r.lookup, *point), (0, wanted, 0, 0))
+    for point in ((4097, 4097), (8193, 0), (0, 8193), (8192, 8192), (2**32 - 1, 0), (0, 2**32 - 1), (2**32 - 1, 2**32 - 1)):
+        expect(f"none at {point}", grid.call(r.lookup, *point), (19, 0, 0, 0))
+    grid = Lent(2, 2)
+    expect("kill", grid.call(r.kill, 7), 0)
+    expect("no try below 0", grid.call(r.lookup, 0, 4096), (0, 6, 0, 0))
+
+
 # ------------------------------------------------------------ random grids
 
 
@@ -690,10 +733,27 @@ def vectors(folder):
         expect(f"vector {given.name}", r.program(given.read_bytes()), wanted)
 
 
+def stored_calls(file):
+    """What is stored of builds, tapes, pages and lookups."""
+    for place, line in enumerate(file.read_text().splitlines()):
+        case = json.loads(line)
+        grid = Lent(case["columns"], case["rows"], case["capacity"])
+        answer = grid.call(r.tape, bytes.fromhex(case["tape"]))
+        expect(f"call {place}, tape", answer, (case["done"], case["refusal"], case["offset"]))
+        left = grid.header.mark, list(grid.table), list(grid.values)
+        expect(f"call {place}, left", left, (case["mark"], case["table"], [int(bits, 16) for bits in case["values"]]))
+        page = grid.call(r.page, bytes(20000))
+        expect(f"call {place}, page", page.output[: page.count].decode("ascii"), case["page"])
+        for speed, load, number, status, bits, refusal in case["lookups"]:
+            expect(f"call {place}, lookup {speed} {load}", grid.call(r.lookup, speed, load), (refusal, number, status, int(bits, 16)))
+
+
 def main():
     for test in [test for name, test in globals().items() if name.startswith("test_")]:
         test()
-    vectors(pathlib.Path(sys.argv[1]) if len(sys.argv) > 1 else VECTORS)
+    folder = pathlib.Path(sys.argv[1]) if len(sys.argv) > 1 else VECTORS
+    vectors(folder)
+    stored_calls(folder / "calls.jsonl")
     print(f"{OUTCOMES['passed']} passed, {OUTCOMES['failed']} failed")
     return 1 if OUTCOMES["failed"] else 0
 

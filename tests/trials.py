@@ -7,11 +7,13 @@ KIND is damaged, tapes, scans, lookups, pages or older.  crates/trials/src/main.
 what the program reads: it keeps the words, the values and twelve numbers from
 call to call, so that a case is given by what differs from the case before.  It
 writes a line for each call: the answer, then the header that the call left and
-the sums by place of all words and of all values.
+the sums by place of all words and of all values.  The calls of vectors/calls.jsonl
+have the answers stored there; only of their builds the reference tells the answer.
 """
 
 import copy
 import itertools
+import json
 import pathlib
 import random
 import sys
@@ -26,6 +28,7 @@ SCAN_ROOM, PAGE_ROOM = 256, 16384
 SWEPT = 64
 MOST_BYTES = 4096
 HEAD = 8
+HERE = pathlib.Path(__file__).parent
 
 MINUS_ZERO, NAN, INFINITE = 1 << 63, 0x7FF8000000000000, 0x7FF0000000000000
 
@@ -131,8 +134,10 @@ class Desk:
         return [lists[0], *left]
 
     def tape(self, lists, requests):
+        return self.taped(lists, requests, *r.tape(*lists, requests))
+
+    def taped(self, lists, requests, answer, *left):
         self.lend(lists)
-        answer, *left = r.tape(*lists, requests)
         self.leave(TAPE, requests, answer, left)
         return [lists[0], *left]
 
@@ -144,16 +149,21 @@ class Desk:
         self.leave(SCAN, order, [*answer[:2], mix(1, out)], left)
 
     def page(self, lists, length, filler):
+        self.paged(lists, length, filler, r.page(*lists, bytes([filler]) * length)[0])
+
+    def paged(self, lists, length, filler, answer):
         self.lend(lists, 0, 0, 0, 0, length, filler)
-        answer, *left = r.page(*lists, bytes([filler]) * length)
         out = bytes(answer.output) + bytes([filler]) * (PAGE_ROOM - length)
-        self.leave(PAGE, b"", [*answer[:2], mix(1, out)], left)
+        self.leave(PAGE, b"", [*answer[:2], mix(1, out)], lists[1:])
 
     def lookup(self, lists, speed, load):
+        self.looked(lists, speed, load, r.lookup(*lists, speed, load)[0])
+
+    def looked(self, lists, speed, load, answer):
         self.lend(lists, speed, load)
-        (refusal, number, status, bits), *left = r.lookup(*lists, speed, load)
+        refusal, number, status, bits = answer
         shown = [f"{bits:016x}"] if status else []
-        self.leave(LOOKUP, b"", [refusal, number, status, *shown], left)
+        self.leave(LOOKUP, b"", [refusal, number, status, *shown], lists[1:])
 
     def sweep(self, lists, speed, load, step):
         """Lookups of 64 times 64 points; the checks 1, 2 and 3 are the same for all."""
@@ -162,7 +172,7 @@ class Desk:
         total = 1
         for up, east in itertools.product(range(SWEPT), range(SWEPT)):
             x, y = (speed + east * step) % 2**32, (load + up * step) % 2**32
-            leaf = None if refusal else r.leaf_at(grid, x, y)
+            leaf = None if refusal else r.found_leaf(grid, x, y)
             if leaf is None:
                 total = mix(total, (refusal or 19, 0, 0))
                 continue
@@ -325,6 +335,41 @@ def scans(desk, rng, count):
         done += 60
 
 
+def corners_and_extremes():
+    """Of one coordinate: at, before and after the edges of two level-0 cells, and the last of 32 bits."""
+    near = [edge + by for edge in (0, 4096, 8192) for by in (-1, 0, 1) if edge + by >= 0]
+    return [*near, 2**31, 2**32 - 2, 2**32 - 1]
+
+
+def fixed_lookups(desk):
+    """On one cell, and on two by two with each of the four killed in turn, every pair of these."""
+    grids = [r.built(5, 1, 1)]
+    for number in (6, 7, 8, 9):
+        grid = r.built(14, 2, 2)
+        if r.step(grid, r.KILL, number, 0):
+            raise ValueError("a level-0 cell is not killed")
+        grids.append(grid)
+    for grid in grids:
+        lists = g.lend(grid)
+        for speed, load in itertools.product(corners_and_extremes(), repeat=2):
+            desk.lookup(lists, speed, load)
+
+
+def stored_calls(desk):
+    """Build, tape, page and lookups of each line of vectors/calls.jsonl, as they are stored there."""
+    for line in (HERE / "vectors" / "calls.jsonl").read_text().splitlines():
+        case = json.loads(line)
+        size, capacity = (case["columns"], case["rows"]), case["capacity"]
+        lists = desk.build([capacity, r.Header(5, 6, 7), [0] * (r.WORDS * (capacity + 1)), [0] * (capacity + 1)], *size)
+        taped = r.Taped(case["done"], case["refusal"], case["offset"])
+        left = r.Header(*size, case["mark"]), case["table"], [int(bits, 16) for bits in case["values"]]
+        lists = desk.taped(lists, bytes.fromhex(case["tape"]), taped, *left)
+        page = case["page"].encode("ascii")
+        desk.paged(lists, PAGE_ROOM, 46, r.Written(0, len(page), page.ljust(PAGE_ROOM, b".")))
+        for speed, load, number, status, bits, refusal in case["lookups"]:
+            desk.looked(lists, speed, load, r.Found(refusal, number, status, int(bits, 16)))
+
+
 def lookups(desk, rng, count):
     """Points of interest one by one, and every 64th of a unit cell or a finer square."""
     done = 0
@@ -396,16 +441,18 @@ def of_the_gate():
     damaged(desk, random.Random(1), 2000 - len(desk.lines), 50)
     tapes(desk, random.Random(2), 400)
     scans(desk, random.Random(3), 600)
+    fixed_lookups(desk)
     lookups(desk, random.Random(4), 220)
     pages(desk, random.Random(5), 60)
     fixed_older(desk)
     older(desk, random.Random(6), 160)
+    stored_calls(desk)
     return desk
 
 
 def main():
     if len(sys.argv) == 1:
-        folder = pathlib.Path(__file__).parent.parent / "crates" / "trials"
+        folder = HERE.parent / "crates" / "trials"
         files, desk = (folder / "stdin", folder / "stdout"), of_the_gate()
     else:
         kind, seed, count, *names = sys.argv[1:]

@@ -144,7 +144,21 @@ static void points(map *m) {
     build(m, 40, 1, 1);
     lookup(m, 4095, 4095);
     lookup(m, 4096, 0);
+    lookup(m, 4097, 0);
     TAPE(m, 1, 0, 2, 1, 0, 2);
+
+    puts("rated speed");
+    build(m, 40, 2, 2);
+    TAPE(m, 4, 0, 9);
+    lookup(m, 4096, 4096);
+    lookup(m, 8192, 4095);
+    lookup(m, 0, 8192);
+    lookup(m, 8192, 4096);
+    lookup(m, 4097, 4097);
+    lookup(m, UINT32_MAX, UINT32_MAX);
+    build(m, 40, 2, 2);
+    TAPE(m, 4, 0, 7);
+    lookup(m, 0, 4096);
 
     puts("values");
     build(m, 40, 1, 1);

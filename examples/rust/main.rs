@@ -203,7 +203,21 @@ fn points() -> Map {
     let mut m = Map::build(40, 1, 1);
     m.lookup(4095, 4095);
     m.lookup(4096, 0);
+    m.lookup(4097, 0);
     m.tape(&[1, 0, 2, 1, 0, 2]);
+
+    println!("rated speed");
+    let mut m = Map::build(40, 2, 2);
+    m.tape(&[4, 0, 9]);
+    m.lookup(4096, 4096);
+    m.lookup(8192, 4095);
+    m.lookup(0, 8192);
+    m.lookup(8192, 4096);
+    m.lookup(4097, 4097);
+    m.lookup(u32::MAX, u32::MAX);
+    let mut m = Map::build(40, 2, 2);
+    m.tape(&[4, 0, 7]);
+    m.lookup(0, 4096);
 
     println!("values");
     let mut m = Map::build(40, 1, 1);

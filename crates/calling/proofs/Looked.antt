@@ -1,22 +1,28 @@
 -- A lookup call that passes the first checks answers what the lookup by rows answers: in the picture of a valid state a row's status and the number
 -- beside it are its value.
 -- Assumes nothing.
-use Prim.Native.Nat.{ℕ}
-use mathlib.Core.Path.{_≡_, refl, ap, _∙_}
+use Prim.Native.Nat.{ℕ, zero, suc}
+use native.Mathlib.Omega.{arith}
+use mathlib.Core.Path.{_≡_, refl, ap, _∙_, subst}
 use mathlib.Core.Bool.{cond}
+use mathlib.Core.List.{[], _∷_}
 use lib.Dec.{eqb}
+use borrow.Author.Tests.{ne-eqb}
+use Rattle.mesh.specs.Tools.{any}
 use Rattle.mesh.specs.Place.{base}
 use Rattle.mesh.specs.State.{State, Value, blank, measured, carried, status, amount, valueOf, entry, gridOf, capacity}
 use Rattle.mesh.specs.Valid.{Valid}
 use Rattle.mesh.specs.Picture.{table, amounts}
-use Rattle.mesh.specs.Refusal.{refusal}
-use Rattle.mesh.specs.Lookup.{lookup, lookupChecks}
+use Rattle.mesh.specs.Refusal.{_if_, refusal}
+use Rattle.mesh.specs.Lookup.{tries, lookup, lookupChecks}
 use Rattle.mesh.specs.Call.{Lent, Found, lentChecks, stateOf, unless, lookupCall}
 use Rattle.walk.specs.Calls.{rowValue, rowLookupOut}
 use Rattle.pictures.proofs.Rows.{amounts-at}
 use Rattle.pictures.proofs.Pictured.{word-status}
-use Rattle.walking.proofs.Lookups.{row-lookup}
-use Rattle.calling.proofs.Called.{checks-after, by-picture}
+use Rattle.pictures.proofs.Soundness.{sound-state}
+use Rattle.walking.specs.Reach.{reaches}
+use Rattle.walking.proofs.Lookups.{row-lookup, lookup-refused}
+use Rattle.calling.proofs.Called.{lent-sound, checks-after, by-picture}
 
 -- a value is its status and its amount
 value-is : (x : Value) → cond (eqb (status x) 1) (measured (amount x)) (cond (eqb (status x) 2) (carried (amount x)) blank) ≡ x
@@ -27,6 +33,14 @@ value-is (carried x) = refl
 value-there : (s : State) (n : ℕ) → rowValue (table s) (amounts s) n ≡ valueOf (entry (s .entries) n)
 unfolding rowValue
 value-there s n = rw (word-status s n, amounts-at s n) (value-is (valueOf (entry (s .entries) n)))
+
+-- a leaf that is found is answered, and where none is, its number is 0
+found-or-none : (n : ℕ) (x : Value)
+    → let f : Found = unless (refusal ((19 if eqb n 0) ∷ [])) (λ k. record { why = k; leaf = 0; value = blank }) (record { why = 0; leaf = n; value = x }) in
+    (f .leaf ≡ n) × (f .why ≡ refusal ((19 if eqb n 0) ∷ []))
+unfolding refusal unless
+found-or-none zero x = (refl, refl)
+found-or-none (suc n) x = rw (ne-eqb (suc n) 0 (λ z. omega arith)) (refl, refl)
 
 module _ (u v : ℕ) where
   -- what a lookup answers by the state, past the first checks
@@ -43,3 +57,15 @@ module _ (u v : ℕ) where
   lookup-call cap l h =
       ap (answer (stateOf l)) (checks-after cap l h (lookupChecks (stateOf l) u v))
       ∙ by-picture cap l h (λ s. answer s (refusal (lookupChecks s u v))) (λ g t w c. rowLookupOut t w c (base (g .grid)) u v) lookup-picture
+
+  -- the leaf that the tries find first, and 19 exactly where none of them reaches the area
+  pub lookup-finds : (cap : ℕ) (l : Lent) → refusal (lentChecks cap l) ≡ 0
+      → let s = stateOf l in Valid s × (lookupCall cap l u v .leaf ≡ lookup s u v) × (lookupCall cap l u v .why ≡ cond (any (reaches s u v) tries) 0 19)
+  unfolding lookupCall lookupChecks
+  lookup-finds cap l h =
+      let s = stateOf l in
+      let o = lent-sound cap l h in
+      let w : Valid s = subst Valid (sound-state (l .header) (l .words) (l .values) o) (o .valid) in
+      let (leaf, why) = found-or-none (lookup s u v) (valueOf (entry (s .entries) (lookup s u v))) in
+      let after = checks-after cap l h (lookupChecks s u v) in
+      (w, rw after leaf, rw after (why ∙ lookup-refused w u v))

@@ -5,13 +5,13 @@ use native.Mathlib.Nat.{not-suc-le-zero, le-of-suc-le-suc, add-zero, zero-lt-suc
 use native.Mathlib.Omega.{arith}
 use mathlib.Core.Path.{_≡_, refl, ap, _∙_}
 use mathlib.Core.Logic.{_≢_, _⊎_, inl, inr}
-use mathlib.Core.Bool.{Bool, true, false, _||_, cond}
+use mathlib.Core.Bool.{Bool, true, false, not, _||_, cond}
 use mathlib.Core.List.{List, [], _∷_, _++_, map}
-use lib.Dec.{T}
+use lib.Dec.{T, eqb}
 use lib.ListN.{length, getD, set, length-set}
 use lib.Seq.{getD-set-same, set-set, set-getD}
-use Rattle.mesh.specs.Tools.{any, all, keep, count, first, every}
-use Rattle.geometry.proofs.Bools.{yes-is, is-yes, or-left, or-right, or-cases, and-both, and-left, and-right}
+use Rattle.mesh.specs.Tools.{any, all, keep, count, first, foremost, every}
+use Rattle.geometry.proofs.Bools.{yes-is, is-yes, or-left, or-right, or-cases, and-both, and-left, and-right, neither}
 
 -- ---- lists of tests
 
@@ -186,3 +186,23 @@ pub map-set : {A B : Type 0} (f : A → B) (xs : List A) (n : ℕ) (a : A) → m
 map-set f [] n a = refl
 map-set f (x ∷ xs) zero a = refl
 map-set f (x ∷ xs) (suc n) a = ap (λ l. f x ∷ l) (map-set f xs n a)
+
+-- ---- foremost
+
+-- numbers that are 0 exactly where a test fails
+module _ {A : Type 0} (f : A → ℕ) (b : A → Bool) (h : (x : A) → eqb (f x) 0 ≡ not (b x)) where
+  pub foremost-any : (xs : List A) → eqb (foremost (map f xs)) 0 ≡ not (any b xs)
+  foremost-any [] = refl
+  foremost-any (x ∷ xs) = rw (h x) (go (b x) (h x) (foremost-any xs))
+    where
+      go : (c : Bool) → eqb (f x) 0 ≡ not c → eqb (foremost (map f xs)) 0 ≡ not (any b xs)
+          → eqb (cond (not c) (foremost (map f xs)) (f x)) 0 ≡ not (c || any b xs)
+      go true e ih = e
+      go false e ih = ih
+
+  -- the first that passes
+  pub foremost-first : (xs ys : List A) (x : A) → any b xs ≡ false → T (b x) → foremost (map f (xs ++ x ∷ ys)) ≡ f x
+  foremost-first [] ys x n t = rw (h x, yes-is (b x) t)
+  foremost-first (y ∷ xs) ys x n t =
+      let (p, q) = neither (b y) (any b xs) n in
+      rw (h y, p) (foremost-first xs ys x q t)

@@ -4,22 +4,28 @@ use Prim.Native.Nat.{ℕ, _+_, _≤_}
 use native.Mathlib.Omega.{arith}
 use mathlib.Core.Path.{_≡_, refl, sym, ap, subst, _∙_}
 use mathlib.Core.Logic.{_≢_, _↔_}
+use mathlib.Core.Bool.{cond}
 use mathlib.Core.List.{List, [], _∷_}
 use lib.Dec.{T}
 use lib.ListN.{length, take}
 use lib.IntN.{ℤ}
 use lib.Ieee.{Float}
+use Rattle.mesh.specs.Tools.{any}
 use Rattle.mesh.specs.Place.{rectangle}
 use Rattle.mesh.specs.Picture.{Sound}
 use Rattle.mesh.specs.Tape.{run}
 use Rattle.mesh.specs.State.{blank}
+use Rattle.mesh.specs.Valid.{Valid}
+use Rattle.mesh.specs.Lookup.{tries, lookup}
 use Rattle.mesh.specs.Build.{full, built}
 use Rattle.mesh.specs.Call as Call
 use Rattle.mesh.specs.Call.{stateOf, picture, checkCall, buildCall, tapeCall, scanCall, lookupCall, pageCall}
 use Rattle.walk.specs.declared.calls.Found.{Found}
 use Rattle.walk.specs.Calls.{foundOf, valueOfReading}
 use Rattle.walking.specs.Points.{total}
+use Rattle.walking.specs.Reach.{reaches}
 use Rattle.pictures.proofs.Rows.{amounts-length}
+use Rattle.calling.proofs.Looked as calling
 use Rattle.laws.specs.Deeds.{deeds, after}
 use Rattle.laws.specs.Demand.{Demand3}
 use Rattle.laws.proofs.Refusals.{build-refused, tape-refused, scan-refused, lookup-refused-call, page-refused}
@@ -161,3 +167,13 @@ pub build-counts : {h h′ : Header} {t t′ : List ℤ} {v v′ : List Float} (
     → r .used ≡ total (rectangle columns rows) (full (rectangle columns rows))
 build-counts {h} {t = t} {v = v} cap columns rows r b ok =
     ap (λ (x : Call.Built). x .in-use) (b .is) ∙ laws.build-counts cap (lentOf h t v) (rectangle columns rows) (ap (λ (x : Call.Built). x .why) (sym (b .is)) ∙ ok)
+
+-- ---- 02, No. 2: "the first leaf found is the answer, 19 if none"
+
+-- on a table that the checker takes: the leaf that the tries find first, and 19 exactly where none of them reaches the area
+pub lookup-finds : (h : Header) (t : List ℤ) (v : List Float) (cap x y : ℕ) (r : Found) → foundOf r ≡ lookupCall cap (lentOf h t v) x y → checkCall cap (lentOf h t v) ≡ 0
+    → let s = stateOf (lentOf h t v) in Valid s × (r .leaf ≡ lookup s x y) × (r .why ≡ cond (any (reaches s x y) tries) 0 19)
+unfolding checkCall
+lookup-finds h t v cap x y r e ok =
+    let (valid, leaf, why) = calling.lookup-finds x y cap (lentOf h t v) ok in
+    (valid, ap (λ (z : Call.Found). z .leaf) e ∙ leaf, ap (λ (z : Call.Found). z .why) e ∙ why)

@@ -55,8 +55,9 @@ cellsAmong l ns = keep (λ n. eqb (wordAt l 12 n % 2) 1) ns
 abbrev pub outcome : Taped → ℕ × ℕ × ℕ
 outcome r = (r .done, r .why, r .offset)
 
-abbrev lookup : ℕ → ℕ → ℕ × ℕ
-lookup u v = let f = lookupCall 14 (build 1 1 14 .lent) u v in (f .leaf, f .why)
+-- the leaf's number, refusal
+abbrev lookup : ℕ → Lent → ℕ → ℕ → ℕ × ℕ
+lookup cap l u v = let f = lookupCall cap l u v in (f .leaf, f .why)
 
 -- one claim: what the rules give, and what 01 says that it is
 pub record Claim : Type 1 where
@@ -85,14 +86,14 @@ away = refine2 ++ (2 ∷ 0 ∷ 6 ∷ 2 ∷ 0 ∷ 7 ∷ 2 ∷ 0 ∷ 8 ∷ 2 ∷ 0
 abbrev refine4 : List ℕ
 refine4 = 1 ∷ 0 ∷ 4 ∷ []
 
+abbrev kill : ℕ → List ℕ
+kill n = 4 ∷ 0 ∷ n ∷ []
+
 abbrev killed : List ℕ
-killed = refine4 ++ (4 ∷ 0 ∷ 6 ∷ [])
+killed = refine4 ++ kill 6
 
 abbrev refine10 : List ℕ
 refine10 = killed ++ (1 ∷ 0 ∷ 10 ∷ [])
-
-abbrev kill6 : List ℕ
-kill6 = 4 ∷ 0 ∷ 6 ∷ []
 
 -- the cell 4 and its kid 11, which lies beside the cell 6
 abbrev refine11 : List ℕ
@@ -131,14 +132,15 @@ grids =
     -- P8: the words 3, 2, 4 and 1 are the kids SW, SE, NW and NE
     (map (λ w. wordAt (tape 2 1 24 refine10 .lent) w 10) (3 ∷ 2 ∷ 4 ∷ 1 ∷ []) is (3 ∷ 8 ∷ 9 ∷ 19 ∷ [])) ∷
     -- P9: the words 6 and 8 are the neighbours E and W
-    (usedIn (tape 3 1 16 kill6 .lent) is 11) ∷
-    (wordAt (tape 3 1 16 kill6 .lent) 6 6 is 8) ∷
-    (wordAt (tape 3 1 16 kill6 .lent) 8 8 is 6) ∷
+    (usedIn (tape 3 1 16 (kill 6) .lent) is 11) ∷
+    (wordAt (tape 3 1 16 (kill 6) .lent) 6 6 is 8) ∷
+    (wordAt (tape 3 1 16 (kill 6) .lent) 8 8 is 6) ∷
     -- P10
     (outcome (tape 1 1 14 (refine2 ++ refine2)) is (1, 8, 3)) ∷
     -- P11
-    (lookup 4095 4095 is (2, 0)) ∷
-    (lookup 4096 0 is (0, 19)) ∷
+    (lookup 14 (build 1 1 14 .lent) 4095 4095 is (2, 0)) ∷
+    (lookup 14 (build 1 1 14 .lent) 4096 0 is (2, 0)) ∷
+    (lookup 14 (build 1 1 14 .lent) 4097 0 is (0, 19)) ∷
     -- the page of 07 01 01
     (program (7 ∷ 1 ∷ 1 ∷ []) is (
     109 ∷ 97 ∷ 112 ∷ 32 ∷ 49 ∷ 32 ∷ 49 ∷ 32 ∷ 48 ∷ 10 ∷
@@ -149,11 +151,17 @@ grids =
     (scanCall 14 (tape 1 1 14 refine2 .lent) 1 (3 ∷ 4 ∷ 2 ∷ 1 ∷ []) 2 (pos 0) (pos 0) (7 ∷ 7 ∷ []) is record { why = 0; count = 1; out = 2 ∷ 7 ∷ [] }) ∷
     (map (λ n. wordAt (build 2 1 20 .lent) 10 n) (4 ∷ 6 ∷ []) is (0 ∷ 1 ∷ [])) ∷
     -- "touching at a corner only does not count": the middle of 3×3 once the cell at (2,2) is killed
-    (flagsAt (tape 3 3 21 (4 ∷ 0 ∷ 18 ∷ []) .lent) (9 ∷ []) is (7 ∷ [])) ∷
+    (flagsAt (tape 3 3 21 (kill 18) .lent) (9 ∷ []) is (7 ∷ [])) ∷
     -- No. 1: beside a coarser leaf 21, after 10 and before 11; beside a finer one 22
     (outcome (tape 2 1 20 (refine4 ++ refine11)) is (1, 21, 3)) ∷
     (outcome (tape 2 1 20 (refine4 ++ (2 ∷ 0 ∷ 11 ∷ []) ++ refine11)) is (2, 10, 6)) ∷
     (outcome (tape 2 1 33 doom6) is (7, 22, 21)) ∷
+    -- No. 2: on 2×2 without the cell at (1,1), which is 9, left before down, and none two units off; without the one at (0,1), which is 7, no try
+    -- below 0; on 1×1 both
+    (lookup 14 (tape 2 2 14 (kill 9) .lent) 4096 4096 is (7, 0)) ∷
+    (lookup 14 (tape 2 2 14 (kill 9) .lent) 4097 4097 is (0, 19)) ∷
+    (lookup 14 (tape 2 2 14 (kill 7) .lent) 0 4096 is (6, 0)) ∷
+    (lookup 14 (build 1 1 14 .lent) 4096 4096 is (2, 0)) ∷
     -- what these tapes leave is sound
     (map (checkCall 20) (tape 2 1 20 refine4 .lent ∷ tape 2 1 20 killed .lent ∷ []) is (0 ∷ 0 ∷ [])) ∷
     []

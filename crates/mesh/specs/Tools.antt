@@ -4,6 +4,7 @@ use Prim.Native.Nat.{ℕ, suc, _+_, _*_}
 use mathlib.Core.Bool.{Bool, true, false, _&&_, _||_, cond}
 use mathlib.Core.Option.{Option, none, some}
 use mathlib.Core.List.{List, [], _∷_, _++_}
+use lib.Dec.{eqb}
 
 module _ {A : Type 0} where
   -- some element passes; every element passes
@@ -49,6 +50,11 @@ module _ {A : Type 0} where
   abbrev pub isSome : Option A → Bool
   isSome none = false
   isSome (some x) = true
+
+-- the first number that is not 0; 0 if there is none
+abbrev pub foremost : List ℕ → ℕ
+foremost [] = 0
+foremost (n ∷ ns) = cond (eqb n 0) (foremost ns) n
 
 -- every test of a list passes
 abbrev pub every : List Bool → Bool

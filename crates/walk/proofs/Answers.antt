@@ -21,7 +21,7 @@ use Rattle.table.specs.Words.{wordOf, taken}
 use Rattle.table.proofs.Taken.{taken-within}
 use Rattle.geometry.proofs.Bools.{is-yes, and-right, neither}
 use Rattle.numbering.proofs.Checks.{passes, kept}
-use Rattle.walk.specs.Rows.{kidsWord, scans, rowWalk, rowAt}
+use Rattle.walk.specs.Rows.{kidsWord, scans, rowWalk, rowLookup}
 use Rattle.walk.specs.Written.{Wrote}
 use Rattle.walk.specs.Calls.{levelOf, startChecks, rowScan, rowScanOut, written, rowValue, rowLookupOut}
 use Rattle.walk.proofs.Orders.{permutation-length, permutation-words}
@@ -134,7 +134,7 @@ module _ (t : List ℤ) (v : List Float) (n : ℕ) {a : Bool} (e : a ≡ eqb (wo
   unfolding rowValue
   as-blank h i j = rw (← e, h, ← i, j)
 
-module _ (t : List ℤ) (v : List Float) (cap d x y n : ℕ) (e : n ≡ rowAt t cap d x y) where
+module _ (t : List ℤ) (v : List Float) (cap d x y n : ℕ) (e : n ≡ rowLookup t cap d x y) where
   abbrev answer : ℕ → ℕ → Value → Found
   answer why leaf a = record { why = why; leaf = leaf; value = a }
 

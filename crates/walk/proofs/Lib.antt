@@ -2,6 +2,7 @@
 pub mod Signs
 pub mod Writing
 pub mod Steps
+pub mod Tries
 pub mod Listing
 pub mod Orders
 pub mod Levels

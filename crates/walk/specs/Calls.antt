@@ -19,7 +19,7 @@ use Rattle.walk.specs.declared.calls.ScanOut.{ScanOut}
 use Rattle.walk.specs.declared.calls.Found.{Found as Answer}
 use Rattle.walk.specs.declared.calls.Reading.{Reading}
 use Rattle.walk.specs.declared.calls.Reading.the-variants.{Measured, Carried, Blank}
-use Rattle.walk.specs.Rows.{scans, rowWalk, rowAt}
+use Rattle.walk.specs.Rows.{scans, rowWalk, rowLookup}
 
 -- ---- scan
 
@@ -64,7 +64,7 @@ module _ (t : List ℤ) (v : List Float) where
 
   unfoldable pub rowLookupOut : ℕ → ℕ → ℕ → ℕ → Found
   rowLookupOut cap d x y =
-      let n = rowAt t cap d x y in
+      let n = rowLookup t cap d x y in
       unless (refusal ((19 if eqb n 0) ∷ [])) (λ k. record { why = k; leaf = 0; value = blank }) (record { why = 0; leaf = n; value = rowValue n })
 
 -- the answer, as the call's definition says it

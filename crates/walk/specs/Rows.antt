@@ -1,4 +1,4 @@
--- A scan and the way to a point as the code meets the rows: down kid by kid, one level less left at each step.
+-- Scan and lookup as the code meets the rows: down kid by kid, one level less left at each step.
 -- Assumes nothing.
 use Prim.Native.Nat.{ℕ, zero, suc, _+_, _-_, _*_, _/_, _%_, _^_}
 use mathlib.Core.Bool.{Bool, _&&_, _||_, cond}
@@ -9,6 +9,7 @@ use lib.IntN.{ℤ, pos}
 use lib.Signed.{leZ}
 use Rattle.mesh.specs.Tools.{flat}
 use Rattle.mesh.specs.Picture.{rowWords}
+use Rattle.mesh.specs.Lookup.{firstFound}
 use Rattle.table.specs.Words.{wordOf, linkOf, flagOf, depthOf}
 use Rattle.table.specs.Worked.{kidWord}
 
@@ -60,3 +61,7 @@ module _ (t : List ℤ) (cap d : ℕ) where
   -- from the root, which is as wide as 2 ^ (d + 12)
   unfoldable pub rowAt : ℕ → ℕ → ℕ
   rowAt u v = cond (ltb u (2 ^ (d + 12)) && ltb v (2 ^ (d + 12))) (rowFind u v (d + 12) 1) 0
+
+  -- "the first leaf found": that of the point, or else of the points it is tried again at
+  abbrev pub rowLookup : ℕ → ℕ → ℕ
+  rowLookup u v = firstFound rowAt u v

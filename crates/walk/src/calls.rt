@@ -12,7 +12,7 @@ ghost use Rattle.mesh.specs.Scan.{permutation};
 ghost use Rattle.walk.specs.Rows.{kidsWord, scans, rowWalk};
 ghost use Rattle.walk.specs.Plain.{Plain};
 ghost use Rattle.walk.specs.Calls.{startChecks, Few, rowScanOut, written, valueOfReading, rowValue, foundOf, rowLookupOut};
-use crate::leaf_at;
+use crate::lookup_row;
 use crate::scans::count_rows;
 use crate::scans::scan_rows;
 use table::values::value;
@@ -161,12 +161,12 @@ fn value_of(t: &[i32], v: &[f64], n: usize) -> Reading
     Reading::Blank
 }
 
-// The leaf that holds a point, and its value.
+// The leaf that a lookup finds, and its value.
 pub fn lookup_out(t: &[i32], v: &[f64], cap: usize, d: u32, x: u32, y: u32) -> Found
     requires { ⌜ Plain (now t) cap d × (cap < length (now v)) × (1 ≤ cap) × (d ≤ 19) ⌝ }
     ensures { λ r. ⌜ foundOf r ≡ rowLookupOut (now (t .entry)) (now (v .entry)) cap d x y ⌝ }
 {
-    let n = leaf_at(t, cap, d, x, y);
+    let n = lookup_row(t, cap, d, x, y);
     if n == 0 {
         return Found {
             why: 19,

@@ -9,7 +9,8 @@ ghost use lib.ListN.{length};
 ghost use Rattle.mesh.specs.Picture.{rowWords};
 ghost use Rattle.table.specs.Words.{linkOf};
 ghost use Rattle.table.specs.Worked.{kidWord};
-ghost use Rattle.walk.specs.Rows.{leafRow, rowFind, rowAt};
+ghost use Rattle.mesh.specs.Lookup.{tried};
+ghost use Rattle.walk.specs.Rows.{leafRow, rowFind, rowAt, rowLookup};
 ghost use Rattle.walk.specs.Plain.{Plain};
 use table::words::NE_KID;
 use table::words::flag;
@@ -62,4 +63,38 @@ pub fn leaf_at(t: &[i32], cap: usize, d: u32, u: u32, v: u32) -> usize
         return 0;
     }
     find_row(&t, cap, d, e, 1, u, v)
+}
+
+// The leaf so many units to the left and down of a point, or 0: a try below 0 is skipped.
+fn try_at(t: &[i32], cap: usize, d: u32, u: u32, v: u32, left: u32, down: u32) -> usize
+    requires { ⌜ Plain (now t) cap d × (1 ≤ cap) × (d ≤ 19) ⌝ }
+    ensures { λ r. ⌜ (r ≤ cap) × (r ≡ tried (rowAt (now (t .entry)) cap d) u v (left, down)) ⌝ }
+{
+    if u < left {
+        return 0;
+    }
+    if v < down {
+        return 0;
+    }
+    leaf_at(t, cap, d, u - left, v - down)
+}
+
+// The leaf that a lookup finds, or 0: where one holds the point nothing else is tried.
+pub fn lookup_row(t: &[i32], cap: usize, d: u32, u: u32, v: u32) -> usize
+    requires { ⌜ Plain (now t) cap d × (1 ≤ cap) × (d ≤ 19) ⌝ }
+    ensures { λ r. ⌜ (r ≤ cap) × (r ≡ rowLookup (now (t .entry)) cap d u v) ⌝ }
+{
+    let own = leaf_at(t, cap, d, u, v);
+    if own != 0 {
+        return own;
+    }
+    let left = try_at(t, cap, d, u, v, 1, 0);
+    if left != 0 {
+        return left;
+    }
+    let below = try_at(t, cap, d, u, v, 0, 1);
+    if below != 0 {
+        return below;
+    }
+    try_at(t, cap, d, u, v, 1, 1)
 }

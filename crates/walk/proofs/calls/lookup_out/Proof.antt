@@ -5,13 +5,13 @@ use Rattle.walk.proofs.Answers.{found-none, found-leaf}
 use Rattle.walk.proofs.calls.lookup_out.Statement.{statement}
 use Rattle.walk.proofs.calls.lookup_out.Tie as tie
 
-leaf-at-requires : tie.Need-leaf-at-requires
-leaf-at-requires c κs = search needs
+lookup-row-requires : tie.Need-lookup-row-requires
+lookup-row-requires c κs = search needs
 
 returns : tie.Need-returns
 returns c =
     let a = c .before .before .before .args in
-    found-none _ _ _ (a .d) (a .x) (a .y) _ (c .before .leaf-at .ensures .1) (c .if1 .taken)
+    found-none _ _ _ (a .d) (a .x) (a .y) _ (c .before .lookup-row .ensures .1) (c .if1 .taken)
 
 value-of-requires : tie.Need-value-of-requires
 value-of-requires c κs = search needs
@@ -22,8 +22,8 @@ cast-t11 c = search needs
 returns-2 : tie.Need-returns-2
 returns-2 c =
     let a = c .before .before .before .before .args in
-    found-leaf _ _ _ (a .d) (a .x) (a .y) _ (c .before .before .leaf-at .ensures .1) (c .before .if1 .left) _ (c .value-of .ensures)
+    found-leaf _ _ _ (a .d) (a .x) (a .y) _ (c .before .before .lookup-row .ensures .1) (c .before .if1 .left) _ (c .value-of .ensures)
 
 pub lookup-out-spec : {M : Type 1} → statement M
 lookup-out-spec =
-    tie.close (tie.spec leaf-at-requires returns value-of-requires cast-t11 returns-2)
+    tie.close (tie.spec lookup-row-requires returns value-of-requires cast-t11 returns-2)
