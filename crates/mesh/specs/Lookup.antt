@@ -17,6 +17,7 @@ tries = (0, 0) ∷ (1, 0) ∷ (0, 1) ∷ (1, 1) ∷ []
 abbrev pub tried : (ℕ → ℕ → ℕ) → ℕ → ℕ → ℕ × ℕ → ℕ
 tried there u v (left, down) = cond (leb left u && leb down v) (there (u - left) (v - down)) 0
 
+-- what the first of them finds that finds anything, 0 for none
 unfoldable pub firstFound : (ℕ → ℕ → ℕ) → ℕ → ℕ → ℕ
 firstFound there u v = foremost (map (tried there u v) tries)
 

@@ -51,7 +51,7 @@ pub fn find_row(t: &&[i32], cap: usize, d: u32, left: u32, n: usize, u: u32, v: 
 }
 
 // The leaf that holds a point, from the root on, or 0.
-pub fn leaf_at(t: &[i32], cap: usize, d: u32, u: u32, v: u32) -> usize
+fn leaf_at(t: &[i32], cap: usize, d: u32, u: u32, v: u32) -> usize
     requires { ⌜ Plain (now t) cap d × (1 ≤ cap) × (d ≤ 19) ⌝ }
     ensures { λ r. ⌜ (r ≤ cap) × (r ≡ rowAt (now (t .entry)) cap d u v) ⌝ }
 {
