@@ -7,13 +7,13 @@ Prints `N passed, M failed` and ends with 1 if anything failed.
 
 import collections
 import copy
-import json
 import pathlib
 import random
 import struct
 import sys
 import tempfile
 
+import calls
 import generate
 import reference as r
 
@@ -733,19 +733,15 @@ def vectors(folder):
         expect(f"vector {given.name}", r.program(given.read_bytes()), wanted)
 
 
-def stored_calls(file):
-    """What is stored of builds, tapes, pages and lookups."""
-    for place, line in enumerate(file.read_text().splitlines()):
-        case = json.loads(line)
-        grid = Lent(case["columns"], case["rows"], case["capacity"])
-        answer = grid.call(r.tape, bytes.fromhex(case["tape"]))
-        expect(f"call {place}, tape", answer, (case["done"], case["refusal"], case["offset"]))
-        left = grid.header.mark, list(grid.table), list(grid.values)
-        expect(f"call {place}, left", left, (case["mark"], case["table"], [int(bits, 16) for bits in case["values"]]))
+def stored_calls(folder):
+    for place, one in enumerate(calls.stored(folder)):
+        grid = Lent(*one.size, one.capacity)
+        expect(f"call {place}, tape", grid.call(r.tape, one.requests), one.taped)
+        expect(f"call {place}, left", (grid.header, list(grid.table), list(grid.values)), one.left)
         page = grid.call(r.page, bytes(20000))
-        expect(f"call {place}, page", page.output[: page.count].decode("ascii"), case["page"])
-        for speed, load, number, status, bits, refusal in case["lookups"]:
-            expect(f"call {place}, lookup {speed} {load}", grid.call(r.lookup, speed, load), (refusal, number, status, int(bits, 16)))
+        expect(f"call {place}, page", page.output[: page.count], one.page)
+        for point, found in one.lookups:
+            expect(f"call {place}, lookup {point}", grid.call(r.lookup, *point), found)
 
 
 def main():
@@ -753,7 +749,7 @@ def main():
         test()
     folder = pathlib.Path(sys.argv[1]) if len(sys.argv) > 1 else VECTORS
     vectors(folder)
-    stored_calls(folder / "calls.jsonl")
+    stored_calls(folder)
     print(f"{OUTCOMES['passed']} passed, {OUTCOMES['failed']} failed")
     return 1 if OUTCOMES["failed"] else 0
 

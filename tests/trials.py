@@ -13,11 +13,11 @@ have the answers stored there; only of their builds the reference tells the answ
 
 import copy
 import itertools
-import json
 import pathlib
 import random
 import sys
 
+import calls
 import generate as g
 import reference as r
 
@@ -357,17 +357,13 @@ def fixed_lookups(desk):
 
 def stored_calls(desk):
     """Build, tape, page and lookups of each line of vectors/calls.jsonl, as they are stored there."""
-    for line in (HERE / "vectors" / "calls.jsonl").read_text().splitlines():
-        case = json.loads(line)
-        size, capacity = (case["columns"], case["rows"]), case["capacity"]
-        lists = desk.build([capacity, r.Header(5, 6, 7), [0] * (r.WORDS * (capacity + 1)), [0] * (capacity + 1)], *size)
-        taped = r.Taped(case["done"], case["refusal"], case["offset"])
-        left = r.Header(*size, case["mark"]), case["table"], [int(bits, 16) for bits in case["values"]]
-        lists = desk.taped(lists, bytes.fromhex(case["tape"]), taped, *left)
-        page = case["page"].encode("ascii")
-        desk.paged(lists, PAGE_ROOM, 46, r.Written(0, len(page), page.ljust(PAGE_ROOM, b".")))
-        for speed, load, number, status, bits, refusal in case["lookups"]:
-            desk.looked(lists, speed, load, r.Found(refusal, number, status, int(bits, 16)))
+    for one in calls.stored(HERE / "vectors"):
+        rows = one.capacity + 1
+        lists = desk.build([one.capacity, r.Header(5, 6, 7), [0] * (r.WORDS * rows), [0] * rows], *one.size)
+        lists = desk.taped(lists, one.requests, one.taped, *one.left)
+        desk.paged(lists, PAGE_ROOM, 46, r.Written(0, len(one.page), one.page.ljust(PAGE_ROOM, b".")))
+        for point, found in one.lookups:
+            desk.looked(lists, *point, found)
 
 
 def lookups(desk, rng, count):

@@ -1,5 +1,5 @@
 -- A lookup call that passes the first checks answers what the lookup by rows answers: in the picture of a valid state a row's status and the number
--- beside it are its value.
+-- beside it are its value. It is refused exactly where no try reaches the area.
 -- Assumes nothing.
 use Prim.Native.Nat.{ℕ, zero, suc}
 use native.Mathlib.Omega.{arith}
@@ -34,10 +34,12 @@ value-there : (s : State) (n : ℕ) → rowValue (table s) (amounts s) n ≡ val
 unfolding rowValue
 value-there s n = rw (word-status s n, amounts-at s n) (value-is (valueOf (entry (s .entries) n)))
 
--- a leaf that is found is answered, and where none is, its number is 0
-found-or-none : (n : ℕ) (x : Value)
-    → let f : Found = unless (refusal ((19 if eqb n 0) ∷ [])) (λ k. record { why = k; leaf = 0; value = blank }) (record { why = 0; leaf = n; value = x }) in
-    (f .leaf ≡ n) × (f .why ≡ refusal ((19 if eqb n 0) ∷ []))
+-- what is answered if it is refused, and if the leaf n with the value x is found
+abbrev answered : ℕ → ℕ → Value → Found
+answered r n x = unless r (λ k. record { why = k; leaf = 0; value = blank }) (record { why = 0; leaf = n; value = x })
+
+-- where none is found the number is 0, so it is the answer's either way
+found-or-none : (n : ℕ) (x : Value) → let r = refusal ((19 if eqb n 0) ∷ []) in (answered r n x .leaf ≡ n) × (answered r n x .why ≡ r)
 unfolding refusal unless
 found-or-none zero x = (refl, refl)
 found-or-none (suc n) x = rw (ne-eqb (suc n) 0 (λ z. omega arith)) (refl, refl)
@@ -45,7 +47,7 @@ found-or-none (suc n) x = rw (ne-eqb (suc n) 0 (λ z. omega arith)) (refl, refl)
 module _ (u v : ℕ) where
   -- what a lookup answers by the state, past the first checks
   abbrev answer : State → ℕ → Found
-  answer s r = unless r (λ n. record { why = n; leaf = 0; value = blank }) (record { why = 0; leaf = lookup s u v; value = valueOf (entry (s .entries) (lookup s u v)) })
+  answer s r = answered r (lookup s u v) (valueOf (entry (s .entries) (lookup s u v)))
 
   lookup-picture : (s : State) → Valid s → answer s (refusal (lookupChecks s u v)) ≡ rowLookupOut (table s) (amounts s) (capacity s) (base (gridOf s)) u v
   unfolding lookupChecks rowLookupOut

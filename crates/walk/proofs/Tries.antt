@@ -1,6 +1,7 @@
 -- The tries of a lookup as the code meets them: one below 0 is skipped, and the first that finds a leaf is the last.
 -- Assumes nothing.
 use Prim.Native.Nat.{ℕ, zero, suc, _-_, _≤_, _<_}
+use native.Mathlib.Nat.{sub-zero}
 use native.Mathlib.Omega.{arith}
 use mathlib.Core.Path.{_≡_, refl, sym, _∙_}
 use mathlib.Core.Logic.{_≢_}
@@ -14,10 +15,7 @@ use Rattle.walk.specs.Rows.{rowAt, rowLookup}
 
 -- the first is the point itself
 pub tried-own : (there : ℕ → ℕ → ℕ) (u v : ℕ) → tried there u v (0, 0) ≡ there u v
-tried-own there u v =
-    let i : u - 0 ≡ u = omega arith in
-    let j : v - 0 ≡ v = omega arith in
-    rw (le-leb 0 u (omega arith), le-leb 0 v (omega arith), i, j)
+tried-own there u v = rw (le-leb 0 u (omega arith), le-leb 0 v (omega arith), sub-zero u, sub-zero v)
 
 module _ (t : List ℤ) (cap d u v : ℕ) where
   -- ---- one try

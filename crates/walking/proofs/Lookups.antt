@@ -2,6 +2,7 @@
 -- ends there; and 19 exactly where none of the tries reaches the area.
 -- Assumes nothing.
 use Prim.Native.Nat.{ℕ, _+_, _-_, _*_, _≤_, _<_}
+use native.Mathlib.Nat.{sub-zero}
 use native.Mathlib.Omega.{arith}
 use native.Mathlib.Decide.{decLt}
 use mathlib.Core.Path.{_≡_, refl, ap, _∙_, subst, fun-ext}
@@ -74,15 +75,13 @@ module _ {s : State} (w : Valid s) (u v : ℕ) where
   -- the point's own leaf is the answer
   pub lookup-inside : T (cells (s .entries) (groundOf (gridOf s) u v)) → lookup s u v ≡ leafAt s u v
   lookup-inside t =
-      let i : u - 0 ≡ u = omega arith in
-      let j : v - 0 ≡ v = omega arith in
-      let own : T (reaches s u v (0, 0)) = rw (le-leb 0 u (omega arith), le-leb 0 v (omega arith), i, j) t in
+      let own : T (reaches s u v (0, 0)) = rw (le-leb 0 u (omega arith), le-leb 0 v (omega arith), sub-zero u, sub-zero v) t in
       first-try [] _ (0, 0) refl refl own ∙ tried-own (leafAt s) u v
 
   -- ---- on its right and top edge
 
-  abbrev Leaf : Place → Type 0
-  Leaf p = T (leaf (gridOf s) (cells (s .entries)) p)
+  abbrev IsLeaf : Place → Type 0
+  IsLeaf p = T (leaf (gridOf s) (cells (s .entries)) p)
 
   -- none of these tries reaches the area
   abbrev Missed : List (ℕ × ℕ) → Type 0
@@ -90,7 +89,7 @@ module _ {s : State} (w : Valid s) (u v : ℕ) where
 
   -- the leaf that the first try to reach the area finds
   found : (left down : ℕ) (before after : List (ℕ × ℕ)) → tries ≡ before ++ (left, down) ∷ after → Missed before → T (reaches s u v (left, down))
-      → (p : Place) × Leaf p × (left ≤ u) × (down ≤ v) × T (holds (gridOf s) p (u - left) (v - down)) × (lookup s u v ≡ number (s .entries) p)
+      → (p : Place) × IsLeaf p × (left ≤ u) × (down ≤ v) × T (holds (gridOf s) p (u - left) (v - down)) × (lookup s u v ≡ number (s .entries) p)
   found left down before after h n t =
       let b = leb left u && leb down v in
       let c = cells (s .entries) (groundOf (gridOf s) (u - left) (v - down)) in
@@ -100,43 +99,39 @@ module _ {s : State} (w : Valid s) (u v : ℕ) where
       (p, a, leb→le left u (and-left (leb left u) (leb down v) k), leb→le down v (and-right (leb left u) (leb down v) k), x, first-try before after (left, down) h n t ∙ there ∙ e)
 
   -- where a leaf holds a try, it reaches the area
-  reached : (left down : ℕ) → left ≤ u → down ≤ v → (p : Place) → Leaf p → T (holds (gridOf s) p (u - left) (v - down)) → T (reaches s u v (left, down))
+  reached : (left down : ℕ) → left ≤ u → down ≤ v → (p : Place) → IsLeaf p → T (holds (gridOf s) p (u - left) (v - down)) → T (reaches s u v (left, down))
   reached left down l d p a h = rw (le-leb left u l, le-leb down v d) (tiling-none (w .mesh) (u - left) (v - down) p a h)
 
   -- a leaf that holds a try one unit to the left ends there, if the try without that unit does not reach the area; likewise one unit down
-  east-end : (p : Place) → Leaf p → (down : ℕ) → 1 ≤ u → down ≤ v → T (holds (gridOf s) p (u - 1) (v - down)) → reaches s u v (0, down) ≡ false → eastEdge (gridOf s) p ≡ u
+  east-end : (p : Place) → IsLeaf p → (down : ℕ) → 1 ≤ u → down ≤ v → T (holds (gridOf s) p (u - 1) (v - down)) → reaches s u v (0, down) ≡ false → eastEdge (gridOf s) p ≡ u
   east-end p a down l d h m =
       let (x, y) = holding (gridOf s) p (u - 1) (v - down) h in
-      let i : u - 0 ≡ u = omega arith in
-      last-unit _ _ u l x (λ k. subst T m (reached 0 down (omega arith) d p a (rw i (held (gridOf s) p u (v - down) k y))))
+      last-unit _ _ u l x (λ k. subst T m (reached 0 down (omega arith) d p a (rw (sub-zero u) (held (gridOf s) p u (v - down) k y))))
 
-  north-end : (p : Place) → Leaf p → (left : ℕ) → left ≤ u → 1 ≤ v → T (holds (gridOf s) p (u - left) (v - 1)) → reaches s u v (left, 0) ≡ false → northEdge (gridOf s) p ≡ v
+  north-end : (p : Place) → IsLeaf p → (left : ℕ) → left ≤ u → 1 ≤ v → T (holds (gridOf s) p (u - left) (v - 1)) → reaches s u v (left, 0) ≡ false → northEdge (gridOf s) p ≡ v
   north-end p a left l d h m =
       let (x, y) = holding (gridOf s) p (u - left) (v - 1) h in
-      let i : v - 0 ≡ v = omega arith in
-      last-unit _ _ v d y (λ k. subst T m (reached left 0 l (omega arith) p a (rw i (held (gridOf s) p (u - left) v x k))))
+      last-unit _ _ v d y (λ k. subst T m (reached left 0 l (omega arith) p a (rw (sub-zero v) (held (gridOf s) p (u - left) v x k))))
 
   -- the area ends to the right: the leaf whose right edge the point lies on
   pub right-edge : Missed ((0, 0) ∷ []) → T (reaches s u v (1, 0))
-      → (p : Place) × Leaf p × (eastEdge (gridOf s) p ≡ u) × (southEdge (gridOf s) p ≤ v) × (v < northEdge (gridOf s) p) × (lookup s u v ≡ number (s .entries) p)
+      → (p : Place) × IsLeaf p × (eastEdge (gridOf s) p ≡ u) × (southEdge (gridOf s) p ≤ v) × (v < northEdge (gridOf s) p) × (lookup s u v ≡ number (s .entries) p)
   right-edge m t =
       let (p, a, l, d, h, e) = found 1 0 ((0, 0) ∷ []) _ refl m t in
-      let i : v - 0 ≡ v = omega arith in
-      let (x, y) = holding (gridOf s) p (u - 1) v (rw i at h) in
+      let (x, y) = holding (gridOf s) p (u - 1) v (rw (sub-zero v) at h) in
       (p, a, east-end p a 0 l d h (neither _ _ m .0), y .0, y .1, e)
 
   -- it ends at the top, and not to the right: the leaf whose upper edge the point lies on
   pub top-edge : Missed ((0, 0) ∷ (1, 0) ∷ []) → T (reaches s u v (0, 1))
-      → (p : Place) × Leaf p × (westEdge (gridOf s) p ≤ u) × (u < eastEdge (gridOf s) p) × (northEdge (gridOf s) p ≡ v) × (lookup s u v ≡ number (s .entries) p)
+      → (p : Place) × IsLeaf p × (westEdge (gridOf s) p ≤ u) × (u < eastEdge (gridOf s) p) × (northEdge (gridOf s) p ≡ v) × (lookup s u v ≡ number (s .entries) p)
   top-edge m t =
       let (p, a, l, d, h, e) = found 0 1 ((0, 0) ∷ (1, 0) ∷ []) _ refl m t in
-      let i : u - 0 ≡ u = omega arith in
-      let (x, y) = holding (gridOf s) p u (v - 1) (rw i at h) in
+      let (x, y) = holding (gridOf s) p u (v - 1) (rw (sub-zero u) at h) in
       (p, a, x .0, x .1, north-end p a 0 l d h (neither _ _ m .0), e)
 
   -- it has its upper right corner here: the leaf whose upper right corner that is
   pub top-right-corner : Missed ((0, 0) ∷ (1, 0) ∷ (0, 1) ∷ []) → T (reaches s u v (1, 1))
-      → (p : Place) × Leaf p × (eastEdge (gridOf s) p ≡ u) × (northEdge (gridOf s) p ≡ v) × (lookup s u v ≡ number (s .entries) p)
+      → (p : Place) × IsLeaf p × (eastEdge (gridOf s) p ≡ u) × (northEdge (gridOf s) p ≡ v) × (lookup s u v ≡ number (s .entries) p)
   top-right-corner m t =
       let (p, a, l, d, h, e) = found 1 1 ((0, 0) ∷ (1, 0) ∷ (0, 1) ∷ []) _ refl m t in
       let n = neither _ _ (neither (reaches s u v (0, 0)) _ m .1) in
