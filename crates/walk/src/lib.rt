@@ -10,7 +10,7 @@ ghost use Rattle.mesh.specs.Picture.{rowWords};
 ghost use Rattle.table.specs.Words.{linkOf};
 ghost use Rattle.table.specs.Worked.{kidWord};
 ghost use Rattle.mesh.specs.Lookup.{tried};
-ghost use Rattle.walk.specs.Rows.{leafRow, rowFind, rowAt, rowLookup};
+ghost use Rattle.walk.specs.Rows.{leafRow, rowAt, rowLookup};
 ghost use Rattle.walk.specs.Plain.{Plain};
 use table::words::NE_KID;
 use table::words::flag;
@@ -33,24 +33,7 @@ fn toward(t: &[i32], cap: usize, d: u32, n: usize, l: u32, u: u32, v: u32) -> us
     plain::link(t, cap, d, n, kid_word((u >> l) % 2, (v >> l) % 2))
 }
 
-// The leaf that holds a point, so many levels down from the row n, or 0: row 0 is no leaf, and no way leads out of it. The table is lent twice, so
-// that a call passes one word on, and the compiler makes the calls a loop.
-pub fn find_row(t: &&[i32], cap: usize, d: u32, left: u32, n: usize, u: u32, v: u32) -> usize
-    requires { ⌜ Plain (now (now t)) cap d × (n ≤ cap) × (left ≤ 32) ⌝ }
-    ensures { λ r. ⌜ (r ≤ cap) × (r ≡ rowFind (now (now (t .entry))) cap d u v left n) ⌝ }
-{
-    if plain::leaf(*t, cap, d, n) {
-        return n;
-    }
-    if left == 0 {
-        return 0;
-    }
-    let l = left - 1;
-    let k = toward(*t, cap, d, n, l, u, v);
-    find_row(t, cap, d, l, k, u, v)
-}
-
-// The leaf that holds a point, from the root on, or 0.
+// The leaf that holds a point, or 0: down from the root, each kid by the next digits of the two coordinates. From row 0 every way leads to row 0.
 fn leaf_at(t: &[i32], cap: usize, d: u32, u: u32, v: u32) -> usize
     requires { ⌜ Plain (now t) cap d × (1 ≤ cap) × (d ≤ 19) ⌝ }
     ensures { λ r. ⌜ (r ≤ cap) × (r ≡ rowAt (now (t .entry)) cap d u v) ⌝ }
@@ -62,7 +45,16 @@ fn leaf_at(t: &[i32], cap: usize, d: u32, u: u32, v: u32) -> usize
     if v >> e != 0 {
         return 0;
     }
-    find_row(&t, cap, d, e, 1, u, v)
+    let mut l = e;
+    let mut n = 1;
+    while !plain::leaf(t, cap, d, n) {
+        if l == 0 {
+            return 0;
+        }
+        l -= 1;
+        n = toward(t, cap, d, n, l, u, v);
+    }
+    n
 }
 
 // The leaf so many units to the left and down of a point, or 0: a try below 0 is skipped.

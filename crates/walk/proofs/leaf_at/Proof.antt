@@ -1,33 +1,95 @@
--- `walk::leaf_at` meets its contract: a point whose coordinate has digits left lies outside the root's square.
+-- `walk::leaf_at` meets its contract. A point whose coordinate has digits left lies outside the root's square. The invariant: what the way down from
+-- the row n finds with l digits left is what the way from the root finds.
 -- Assumes nothing.
+use Prim.Native.Nat.{_+_, _-_, _/_, _%_, _^_, _≤_}
+use native.Mathlib.Omega.{arith}
+use mathlib.Core.Path.{_≡_, refl, sym, _∙_}
+use borrow.Author.Tests.{not-true, not-false}
 use borrow.Author.Needs.{needs}
-use Rattle.walk.proofs.Steps.{row-at-east, row-at-north, row-at-inside}
+use Rattle.walk.specs.Rows.{rowFind, rowAt}
+use Rattle.walk.proofs.Steps.{nil-on, find-leaf, find-last, find-on, row-at-east, row-at-north, row-at-inside}
 use Rattle.walk.proofs.leaf_at.Statement.{statement}
 use Rattle.walk.proofs.leaf_at.Tie as tie
 
-add-e : tie.Need-add-e
+abbrev Inv-loop : tie.InvT-loop
+Inv-loop t cap d u v e l₀ n₀ l n = (l ≤ d + 12) × (n ≤ cap) × (rowFind t cap d u v l n ≡ rowAt t cap d u v)
+
+abbrev μ-loop : tie.MeasureT-loop
+μ-loop t cap d u v e l₀ n₀ l n = l
+
+add-e : tie.Need-add-e Inv-loop μ-loop
 add-e c = search needs
 
-shr-if1 : tie.Need-shr-if1
+shr-if1 : tie.Need-shr-if1 Inv-loop μ-loop
 shr-if1 c = search needs
 
-returns : tie.Need-returns
+returns : tie.Need-returns Inv-loop μ-loop
 returns c = (search needs, row-at-east _ _ (c .before .args .d) (c .before .args .u) _ (c .if1 .taken))
 
-shr-if2 : tie.Need-shr-if2
+shr-if2 : tie.Need-shr-if2 Inv-loop μ-loop
 shr-if2 c = search needs
 
-returns-2 : tie.Need-returns-2
+returns-2 : tie.Need-returns-2 Inv-loop μ-loop
 returns-2 c = (search needs, row-at-north _ _ (c .before .before .args .d) (c .before .before .args .u) (c .before .before .args .v) (c .before .if1 .left) (c .if2 .taken))
 
-find-row-requires : tie.Need-find-row-requires
-find-row-requires c κs = search needs
+loop-holds : tie.Need-loop-holds Inv-loop μ-loop
+loop-holds c =
+    let a = c .before .before .args in
+    (search needs, search needs, row-at-inside _ _ (a .d) (a .u) (a .v) (c .before .if1 .left) (c .if2 .left) refl)
 
-returns-3 : tie.Need-returns-3
+leaf-requires : tie.Need-leaf-requires Inv-loop μ-loop
+leaf-requires c κs = search needs
+
+returns-3 : tie.Need-returns-3 Inv-loop μ-loop
 returns-3 c =
-    let a = c .before .before .before .before .args in
-    (search needs, row-at-inside _ _ (a .d) (a .u) (a .v) (c .before .before .before .if1 .left) (c .before .before .if2 .left) (c .find-row .ensures .1))
+    let leaf = c .before .before .leaf in
+    let at = c .before .before .before .loop in
+    (omega arith, find-last _ _ _ _ _ (at .l) (at .n) (sym (leaf .ensures) ∙ not-true (leaf .result) (c .before .if3 .taken)) (c .if4 .taken) ∙ at .inv .2)
+
+sub-l : tie.Need-sub-l Inv-loop μ-loop
+sub-l c = search needs
+
+toward-requires : tie.Need-toward-requires Inv-loop μ-loop
+toward-requires c κs = search needs
+
+loop-less : tie.Need-loop-less Inv-loop μ-loop
+loop-less c = search needs
+
+loop-again : tie.Need-loop-again Inv-loop μ-loop
+loop-again c =
+    let in-loop = c .before .before in
+    let leaf = in-loop .before .leaf in
+    let at = in-loop .before .before .loop in
+    let start = in-loop .before .before .before .before .before in
+    let a = start .args in
+    let l = at .l - 1 in
+    let k = c .toward in
+    let nil = nil-on _ _ (start .pre .0 .nil) (a .u / 2 ^ l % 2) (a .v / 2 ^ l % 2) (at .n) (k .result) (omega arith) (k .ensures .1) in
+    let on = find-on _ _ _ _ _ (at .l) (at .n) _ _ (sym (leaf .ensures) ∙ not-true (leaf .result) (in-loop .if3 .taken)) nil (c .before .if4 .left) (k .ensures .1) refl in
+    (search needs, k .ensures .0, on ∙ at .inv .2)
+
+returns-4 : tie.Need-returns-4 Inv-loop μ-loop
+returns-4 c =
+    let leaf = c .before .leaf in
+    let at = c .before .before .loop in
+    (at .inv .1, find-leaf _ _ _ _ _ (at .l) (at .n) (sym (leaf .ensures) ∙ not-false (leaf .result) (c .if3 .left)) ∙ at .inv .2)
 
 pub leaf-at-spec : {M : Type 1} → statement M
 leaf-at-spec =
-    tie.close (tie.spec add-e shr-if1 returns shr-if2 returns-2 find-row-requires returns-3)
+    tie.close
+    (tie.spec
+    Inv-loop
+    μ-loop
+    add-e
+    shr-if1
+    returns
+    shr-if2
+    returns-2
+    loop-holds
+    leaf-requires
+    returns-3
+    sub-l
+    toward-requires
+    loop-less
+    loop-again
+    returns-4)
