@@ -3,12 +3,14 @@
 //!     bench                         every workload with both: all that they answer and leave is compared, and both are timed, best of five
 //!     bench compare                 compared alone, not timed: under an emulator times say nothing
 //!     bench list                    a line for each workload: its name, its units, the calls that check the table it starts from
+//!     bench stack                   how much stack the proved calls take
 //!     bench NAME SIDE REPEATS       one workload alone, compared with nothing, for counting instructions. SIDE is proved or hand; proved-check or
 //!                                   hand-check: one check of the table that the workload starts from; none: the same with calls of nothing
 
 mod hand;
 mod nothing;
 mod proved;
+mod stack;
 mod work;
 
 use hand::{Found, Scan};
@@ -130,12 +132,13 @@ fn main() {
                 println!("{} {} {}", name, job.units(), job.checks());
             }
         }
+        ["stack"] => stack::print(),
         [name, side, repeats] => {
             let (_, make) = WORKLOADS.iter().find(|(known, _)| *known == name).expect("a workload");
             let mut job = make();
             job.shorten();
             alone(&job, side, repeats.parse().expect("a number of repeats"));
         }
-        _ => panic!("bench [compare | list | NAME SIDE REPEATS]"),
+        _ => panic!("bench [compare | list | stack | NAME SIDE REPEATS]"),
     }
 }

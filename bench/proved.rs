@@ -3,7 +3,7 @@
 use crate::hand::{Found, Header, Scan};
 
 extern "C" {
-    fn grid_build(
+    pub fn grid_build(
         h: *mut Header,
         t: *mut i32,
         t_len: usize,
@@ -14,7 +14,7 @@ extern "C" {
         rows: u32,
         in_use: *mut u32,
     ) -> u32;
-    fn grid_tape(
+    pub fn grid_tape(
         h: *mut Header,
         t: *mut i32,
         t_len: usize,
@@ -26,8 +26,8 @@ extern "C" {
         done: *mut usize,
         offset: *mut usize,
     ) -> u32;
-    fn grid_check(h: *const Header, t: *const i32, t_len: usize, v: *const f64, v_len: usize, capacity: u32) -> u32;
-    fn grid_scan(
+    pub fn grid_check(h: *const Header, t: *const i32, t_len: usize, v: *const f64, v_len: usize, capacity: u32) -> u32;
+    pub fn grid_scan(
         h: *const Header,
         t: *const i32,
         t_len: usize,
@@ -44,7 +44,7 @@ extern "C" {
         out_len: usize,
         count: *mut u32,
     ) -> u32;
-    fn grid_lookup(
+    pub fn grid_lookup(
         h: *const Header,
         t: *const i32,
         t_len: usize,
@@ -57,7 +57,7 @@ extern "C" {
         status: *mut u32,
         value: *mut f64,
     ) -> u32;
-    fn grid_page(
+    pub fn grid_page(
         h: *const Header,
         t: *const i32,
         t_len: usize,

@@ -319,6 +319,16 @@ fn deep() -> Lists {
     lists
 }
 
+/// One cell, refined so many times at its lower left corner.
+pub fn refined(times: usize) -> Lists {
+    let mut lists = built(1, 1, 200);
+    for _ in 0..times {
+        let leaf = hand::lookup(&lists.header, &lists.table, &lists.values, lists.capacity(), 0, 0).number;
+        assert!(Maker::new(&mut lists, 1).ask(1, leaf as usize, None));
+    }
+    lists
+}
+
 /// A table of 4,095 in which 9 to 12 numbers are free, the last ones: it was only ever refined.
 fn nearly_full() -> Lists {
     let mut lists = built(16, 16, 4095);

@@ -70,7 +70,8 @@ uint32_t grid_scan(const grid_header *header, const int32_t *table, size_t table
 
 /* The leaf that holds a point, given in 1/4096 of a level-0 cell. A leaf holds its lower and left edges; a point that none holds is tried again one
  * unit to the left, one unit down, then both, never below 0, so that the upper and right edges of the area belong to the leaves that end there.
- * status: 0 blank, 1 measured, 2 carried down from the parent; value: +0 if blank. Refuses 1, 2, 3, 19. */
+ * status: 0 blank, 1 measured, 2 carried down from the parent; value: +0 if blank. The stack that a lookup takes does not grow with the levels.
+ * Refuses 1, 2, 3, 19. */
 uint32_t grid_lookup(const grid_header *header, const int32_t *table, size_t table_len, const double *values, size_t values_len, uint32_t capacity,
                      uint32_t speed, uint32_t load, uint32_t *number, uint32_t *status, double *value);
 
