@@ -3,7 +3,7 @@
 use crate::hand::{Found, Header, Scan};
 
 extern "C" {
-    pub fn grid_build(
+    fn grid_build(
         h: *mut Header,
         t: *mut i32,
         t_len: usize,
@@ -14,7 +14,7 @@ extern "C" {
         rows: u32,
         in_use: *mut u32,
     ) -> u32;
-    pub fn grid_tape(
+    fn grid_tape(
         h: *mut Header,
         t: *mut i32,
         t_len: usize,

@@ -144,29 +144,21 @@ same-below t cap d kind o l n e = ap (λ z. rowsBelow t cap d (scans t cap d z k
 
 -- ---- the way down to a leaf
 
--- no way leads out of row 0
-pub nil-on : (t : List ℤ) (cap : ℕ) → ((w : ℕ) → w < 5 → wordOf t 0 w ≡ 0) → (l m n k : ℕ) → m < 2 → k ≡ linkOf t cap n (kidWord l m) → n ≡ 0 → k ≡ 0
-unfolding linkOf
-nil-on t cap h l m n k b e z =
-    let i : k ≡ linkOf t cap 0 (kidWord l m) = rw z at e in
-    let j : wordOf t 0 (kidWord l m) ≡ 0 = h (kidWord l m) (go (eqb l 1)) in
-    i ∙ rw (j, le-leb 0 cap (omega arith))
-  where
-    go : (a : Bool) → cond a (2 - m) (3 + m) < 5
-    go true = omega arith
-    go false = omega arith
-
 zero-both : (b : Bool) → _≡_ {A = ℕ} 0 (cond b 0 0)
 zero-both true = refl
 zero-both false = refl
 
 module _ (t : List ℤ) (cap d u v : ℕ) where
+  -- the word of the kid that the point lies in, by its digits at the place l
+  abbrev wordAt : ℕ → ℕ
+  wordAt l = kidWord (u / 2 ^ l % 2) (v / 2 ^ l % 2)
+
   pub find-leaf : (l n : ℕ) → leafRow t cap d n ≡ true → n ≡ rowFind t cap d u v l n
   unfolding rowFind
   find-leaf zero n e = rw e
   find-leaf (suc l) n e = rw e
 
-  find-nil : (l : ℕ) → 0 ≡ rowFind t cap d u v l 0
+  pub find-nil : (l : ℕ) → 0 ≡ rowFind t cap d u v l 0
   unfolding rowFind
   find-nil zero = zero-both (leafRow t cap d 0)
   find-nil (suc l) = zero-both (leafRow t cap d 0)
@@ -175,19 +167,29 @@ module _ (t : List ℤ) (cap d u v : ℕ) where
   unfolding rowFind
   find-last l n e z = rw (z, e)
 
-  -- a step down; from row 0 it leads to row 0
-  pub find-on : (l n k r : ℕ) → leafRow t cap d n ≡ false → (n ≡ 0 → k ≡ 0) → l ≢ 0
-      → k ≡ linkOf t cap n (kidWord (u / 2 ^ (l - 1) % 2) (v / 2 ^ (l - 1) % 2)) → r ≡ rowFind t cap d u v (l - 1) k → r ≡ rowFind t cap d u v l n
-  unfolding rowFind
-  find-on l n k r e z y h i = case (ℕ-discrete n 0)
-    where
-      go : n ≢ 0 → (m : ℕ) → l ≡ m → r ≡ rowFind t cap d u v (m - 1) (linkOf t cap n (kidWord (u / 2 ^ (m - 1) % 2) (v / 2 ^ (m - 1) % 2))) → r ≡ rowFind t cap d u v m n
-      go x zero p j = absurd (y p)
-      go x (suc m) p j = let q : suc m - 1 ≡ m = omega arith in rw (e, ne-eqb n 0 x) (rw q at j)
+  -- where row 0 has no kids, a step down finds what was to be found: from row 0 it leads to row 0
+  module _ (nil : (w : ℕ) → w < 5 → wordOf t 0 w ≡ 0) where
+    nil-on : (l : ℕ) → linkOf t cap 0 (wordAt l) ≡ 0
+    unfolding linkOf
+    nil-on l = rw (nil (wordAt l) (go (eqb (u / 2 ^ l % 2) 1)), le-leb 0 cap (omega arith))
+      where
+        go : (a : Bool) → cond a (2 - v / 2 ^ l % 2) (3 + v / 2 ^ l % 2) < 5
+        go true = omega arith
+        go false = omega arith
 
-      case : Dec (n ≡ 0) → r ≡ rowFind t cap d u v l n
-      case (yes x) = i ∙ ap (rowFind t cap d u v (l - 1)) (z x) ∙ sym (find-nil (l - 1)) ∙ find-nil l ∙ ap (rowFind t cap d u v l) (sym x)
-      case (no x) = go x l refl (i ∙ ap (rowFind t cap d u v (l - 1)) h)
+    pub find-on : (l n k : ℕ) → leafRow t cap d n ≡ false → l ≢ 0 → k ≡ linkOf t cap n (wordAt (l - 1)) → rowFind t cap d u v (l - 1) k ≡ rowFind t cap d u v l n
+    unfolding rowFind
+    find-on zero n k e z h = absurd (z refl)
+    find-on (suc l) n k e z h = go (ℕ-discrete n 0)
+      where
+        q : suc l - 1 ≡ l
+        q = omega arith
+
+        go : Dec (n ≡ 0) → rowFind t cap d u v (suc l - 1) k ≡ rowFind t cap d u v (suc l) n
+        go (yes x) =
+            let k-nil : k ≡ 0 = h ∙ ap (λ (m : ℕ). linkOf t cap m (wordAt (suc l - 1))) x ∙ nil-on (suc l - 1) in
+            rw (k-nil, x) (sym (find-nil (suc l - 1)) ∙ find-nil (suc l))
+        go (no x) = rw (e, ne-eqb n 0 x, h, q)
 
 -- ---- from the root
 

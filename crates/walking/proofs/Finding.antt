@@ -20,7 +20,7 @@ use Rattle.mesh.specs.Picture.{table}
 use Rattle.mesh.specs.Holding.{holds, leafAt}
 use Rattle.table.specs.Words.{linkOf}
 use Rattle.table.specs.Worked.{kidWord}
-use Rattle.walk.specs.Rows.{leafRow, rowFind, rowAt}
+use Rattle.walk.specs.Rows.{rowFind, rowAt}
 use Rattle.geometry.proofs.Bools.{is-yes}
 use Rattle.geometry.proofs.Places.{place-path}
 use Rattle.geometry.proofs.Kids.{leaf-cell}
@@ -29,14 +29,10 @@ use Rattle.geometry.proofs.Base.{depth-zero-root}
 use Rattle.geometry.proofs.Digits.{kidBy, parent-by}
 use Rattle.geometry.proofs.Points.{spot, spot-depth, spot-holds, holds-spot, spot-parent}
 use Rattle.numbering.proofs.Numbers.{valid-numbered, place-number, numbered-not-zero}
-use Rattle.walk.proofs.Steps.{no-digits}
+use Rattle.walk.proofs.Steps.{find-nil, no-digits}
 use Rattle.pictures.proofs.Linked.{kid-link}
 use Rattle.walking.proofs.Leaves.{leaf-at-place, leaf-number}
 use Rattle.walking.proofs.Rowing.{leaf-row}
-
-either-way : {A : Type 0} {a : A} (b : Bool) → cond b a a ≡ a
-either-way true = refl
-either-way false = refl
 
 module _ (s : State) (v : Valid s) (x y : ℕ) where
   abbrev g : Grid
@@ -78,12 +74,6 @@ module _ (s : State) (v : Valid s) (x y : ℕ) where
       spot-above (q .depth - e) e (q .depth) (omega arith) (v .mesh .high q k) t
 
   -- ---- down the rows
-
-  -- row 0 finds nothing
-  find-nil : (d l : ℕ) → rowFind (table s) (capacity s) d x y l 0 ≡ 0
-  unfolding rowFind
-  find-nil d zero = either-way (leafRow (table s) (capacity s) d 0)
-  find-nil d (suc l) = either-way (leafRow (table s) (capacity s) d 0)
 
   spot-indices : (e l : ℕ) → base g + 12 - e ≡ l → (at-depth e .col ≡ x / 2 ^ l) × (at-depth e .row ≡ y / 2 ^ l)
   unfolding spot
@@ -128,7 +118,7 @@ module _ (s : State) (v : Valid s) (x y : ℕ) where
           on : Dec (number es (at-depth (suc e)) ≡ 0) → rowFind (table s) (capacity s) (base g) x y l (number es (at-depth (suc e))) ≡ leafAt s x y
           on (no k) = ih (λ q f. found-below e i q f (low q f)) k
           on (yes k) =
-              rw (k, find-nil (base g) l)
+              rw (k, ← find-nil (table s) (capacity s) (base g) x y l)
               (sym (none-found (λ q f. numbered-not-zero es (valid-numbered v) (at-depth (suc e)) (v .every (at-depth (suc e)) (leaf-above q f (suc e) (found-below e i q f (low q f)))) k)))
 
   -- ---- from the root

@@ -1,13 +1,13 @@
 -- `walk::leaf_at` meets its contract. A point whose coordinate has digits left lies outside the root's square. The invariant: what the way down from
 -- the row n finds with l digits left is what the way from the root finds.
 -- Assumes nothing.
-use Prim.Native.Nat.{_+_, _-_, _/_, _%_, _^_, _≤_}
+use Prim.Native.Nat.{_+_, _≤_}
 use native.Mathlib.Omega.{arith}
 use mathlib.Core.Path.{_≡_, refl, sym, _∙_}
 use borrow.Author.Tests.{not-true, not-false}
 use borrow.Author.Needs.{needs}
 use Rattle.walk.specs.Rows.{rowFind, rowAt}
-use Rattle.walk.proofs.Steps.{nil-on, find-leaf, find-last, find-on, row-at-east, row-at-north, row-at-inside}
+use Rattle.walk.proofs.Steps.{find-leaf, find-last, find-on, row-at-east, row-at-north, row-at-inside}
 use Rattle.walk.proofs.leaf_at.Statement.{statement}
 use Rattle.walk.proofs.leaf_at.Tie as tie
 
@@ -60,13 +60,9 @@ loop-again c =
     let in-loop = c .before .before in
     let leaf = in-loop .before .leaf in
     let at = in-loop .before .before .loop in
-    let start = in-loop .before .before .before .before .before in
-    let a = start .args in
-    let l = at .l - 1 in
-    let k = c .toward in
-    let nil = nil-on _ _ (start .pre .0 .nil) (a .u / 2 ^ l % 2) (a .v / 2 ^ l % 2) (at .n) (k .result) (omega arith) (k .ensures .1) in
-    let on = find-on _ _ _ _ _ (at .l) (at .n) _ _ (sym (leaf .ensures) ∙ not-true (leaf .result) (in-loop .if3 .taken)) nil (c .before .if4 .left) (k .ensures .1) refl in
-    (search needs, k .ensures .0, on ∙ at .inv .2)
+    let p = in-loop .before .before .before .before .before .pre .0 in
+    let on = find-on _ _ _ _ _ (p .nil) (at .l) (at .n) _ (sym (leaf .ensures) ∙ not-true (leaf .result) (in-loop .if3 .taken)) (c .before .if4 .left) (c .toward .ensures .1) in
+    (search needs, c .toward .ensures .0, on ∙ at .inv .2)
 
 returns-4 : tie.Need-returns-4 Inv-loop μ-loop
 returns-4 c =
