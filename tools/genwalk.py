@@ -14,7 +14,7 @@ with pi the parameter's value at entry (now (x .entry) of a slice, x of a number
 CORE takes the struct by value, has the same clauses at `header` for `now (header .entry)` and `r .header` for `now (header .exit)`, `r .answer` for r.
 A parameter is  mut:T  shr:T (slices)  ref:T (a &mut to one number, an output: its value at entry is no argument of REL)
 or a number type: u8 u16 u32 u64 usize i8 .. i64.   ANSWER may be an unsigned number type.
---struct-crate C: STRUCT is declared in the crate C.   T: u8 u16 u32 u64 usize i8 .. i64 f32 f64
+--struct-crate C: STRUCT is declared in the crate C, or C/M: in its module M.   T: u8 u16 u32 u64 usize i8 .. i64 f32 f64
 
 With --shared the struct is lent by & and CORE's answer is the entry's (COREANS is then the same name as ANSWER):
     pub fn ENTRY(header: &STRUCT, P1.., Pn) -> ANSWER
@@ -166,10 +166,12 @@ R=f"Rattle·{crate}·"
 w(f"use {f'Rattle.{lends}.specs' if lends else R+'specs.specs'}.{specmod}.{{{rel}{', '+asks if asks else ''}}}")
 for m,d in ((struct,'T'),)+(() if NUMANS else ((answer,'An'),))+(() if shared else ((coreans,'Co'),)):
     out_=scrate if m==struct and scrate else lends
+    out_,_,in_=(out_ or '').partition('/')
+    at_=f"{in_}.{m}" if in_ else m
     sp_,pf_=(f"Rattle.{out_}.specs",f"Rattle.{out_}.proofs") if out_ else (f"{R}specs.specs",f"{R}proofs.proofs")
-    if shared or lends or m!=answer: w(f"use {sp_}.declared.{m}.{{{m}}}")
-    w(f"use {pf_}.{m} as {d}")
-    w(f"use {pf_}.{m}.Laws as {d}′")
+    if shared or lends or m!=answer: w(f"use {sp_}.declared.{at_}.{{{m}}}")
+    w(f"use {pf_}.{at_} as {d}")
+    w(f"use {pf_}.{at_}.Laws as {d}′")
 core_=f"Rattle.{lends}.proofs.{core}" if lends else f"{R}proofs.proofs.{core}"
 w(f"""use {core_} as core
 use {core_}.Symbol as core-def

@@ -6,15 +6,15 @@ use mathlib.Core.Bool.{true, false, not, _&&_}
 use mathlib.Core.List.{List}
 use lib.Dec.{ltb}
 use lib.IntN.{ℤ}
-use Rattle.mesh.specs.Place.{rectangle}
+use Rattle.mesh.specs.Place.{Grid}
 use Rattle.table.specs.Words.{wordOf}
 use Rattle.editing.specs.Steps.{putWord}
 use Rattle.editing.specs.Built.{groundRow}
 use Rattle.build.proofs.Turns.{not-so, just-so}
 
-module _ (columns rows n : ℕ) {i j : ℕ} (t : List ℤ) (i-is : i ≡ wordOf t n 10) (j-is : j ≡ wordOf t n 11) where
-  pub row-out : not (ltb i columns && ltb j rows) ≡ true → t ≡ groundRow (rectangle columns rows) t n
-  row-out h = rw (← i-is, ← j-is, not-so (ltb i columns && ltb j rows) h)
+module _ (g : Grid) (n : ℕ) {i j : ℕ} (t : List ℤ) (i-is : i ≡ wordOf t n 10) (j-is : j ≡ wordOf t n 11) where
+  pub row-out : not (ltb i (g .columns) && ltb j (g .rows)) ≡ true → t ≡ groundRow g t n
+  row-out h = rw (← i-is, ← j-is, not-so (ltb i (g .columns) && ltb j (g .rows)) h)
 
-  pub row-in : {u : List ℤ} → not (ltb i columns && ltb j rows) ≡ false → u ≡ putWord t n 12 1 → u ≡ groundRow (rectangle columns rows) t n
-  row-in h e = rw (← i-is, ← j-is, just-so (ltb i columns && ltb j rows) h, e)
+  pub row-in : {u : List ℤ} → not (ltb i (g .columns) && ltb j (g .rows)) ≡ false → u ≡ putWord t n 12 1 → u ≡ groundRow g t n
+  row-in h e = rw (← i-is, ← j-is, just-so (ltb i (g .columns) && ltb j (g .rows)) h, e)

@@ -8,7 +8,7 @@ use mathlib.Core.Path.{_≡_, refl, sym, ap, ap₂, _∙_}
 use mathlib.Core.Bool.{_&&_}
 use lib.Dec.{leb, leb→le, le→leb}
 use lib.ListN.{length}
-use Rattle.mesh.specs.Place.{rectangle, base}
+use Rattle.mesh.specs.Place.{Grid, base}
 use Rattle.mesh.specs.Build.{numbered}
 use Rattle.geometry.proofs.Bools.{bool-ext}
 use Rattle.geometry.proofs.Base.{Rectangle}
@@ -23,8 +23,8 @@ halved-test i n k =
     (λ t. le→leb _ _ (le-div-iff-mul-le {k = 2 ^ n} {x = i} {y = k} (one-le-pow n 2 (omega arith)) .0 (leb→le _ _ t)))
     (λ t. le→leb _ _ (le-div-iff-mul-le {k = 2 ^ n} {x = i} {y = k} (one-le-pow n 2 (omega arith)) .1 (leb→le _ _ t)))
 
-pub full-test : (columns rows up i j : ℕ) → (leb i (columns / 2 ^ up) && leb j (rows / 2 ^ up)) ≡ inFull (rectangle columns rows) up i j
-full-test columns rows up i j = ap₂ _&&_ (halved-test i up columns) (halved-test j up rows)
+pub full-test : (g : Grid) (up i j : ℕ) → (leb i (g .columns / 2 ^ up) && leb j (g .rows / 2 ^ up)) ≡ inFull g up i j
+full-test g up i j = ap₂ _&&_ (halved-test i up (g .columns)) (halved-test j up (g .rows))
 
 -- ---- levels
 
@@ -35,16 +35,16 @@ side-le k n h = omega (arith, div-le-self k (2 ^ n))
 pub level-le : (a b : ℕ) → a ≤ 33 → b ≤ 33 → a * b ≤ 1089
 level-le a b h k = omega (arith, mul-le-mul {n₁ = a} {m₁ = b} {n₂ = 33} {m₂ = 33} h k)
 
-module _ (columns rows : ℕ) where
-  pub sizes-none : levelsSize (rectangle columns rows) 0 ≡ 0
+module _ (g : Grid) where
+  pub sizes-none : levelsSize g 0 ≡ 0
   unfolding levelsSize
   sizes-none = refl
 
-  pub sizes-more : (n x s : ℕ) → s ≡ levelsSize (rectangle columns rows) n → x ≡ levelSize (rectangle columns rows) n → s + x ≡ levelsSize (rectangle columns rows) (n + 1)
+  pub sizes-more : (n x s : ℕ) → s ≡ levelsSize g n → x ≡ levelSize g n → s + x ≡ levelsSize g (n + 1)
   unfolding levelsSize
   sizes-more n x s e h = rw add-one (ap₂ _+_ e h)
 
-  pub sizes-all : (d n s : ℕ) → Rectangle (rectangle columns rows) → d ≡ base (rectangle columns rows) → n ≡ d + 1 → s ≡ levelsSize (rectangle columns rows) n → s ≡ length (numbered (rectangle columns rows))
+  pub sizes-all : (d n s : ℕ) → Rectangle g → d ≡ base g → n ≡ d + 1 → s ≡ levelsSize g n → s ≡ length (numbered g)
   sizes-all d n s in-range e h k =
-      let m : n ≡ suc (base (rectangle columns rows)) = omega arith in
-      k ∙ ap (levelsSize (rectangle columns rows)) m ∙ sym (numbered-size (rectangle columns rows) in-range)
+      let m : n ≡ suc (base g) = omega arith in
+      k ∙ ap (levelsSize g) m ∙ sym (numbered-size g in-range)

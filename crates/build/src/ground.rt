@@ -2,24 +2,25 @@
 ghost use mathlib.Core.Path.{_≡_};
 ghost use Prim.Native.Nat.{_+_, _-_, _*_, _≤_};
 ghost use lib.ListN.{length};
-ghost use Rattle.mesh.specs.Place.{rectangle};
+ghost use Rattle.mesh.specs.Headers.{headerOf};
 ghost use Rattle.mesh.specs.Picture.{rowWords};
 ghost use Rattle.editing.specs.Anew.{wallRow, markRow};
 ghost use Rattle.editing.specs.Built.{eachRow, groundRow};
 ghost use Rattle.table.specs.Plain.{Plain};
+use mesh::header::Header;
 use steps::anew::mark_row;
 use steps::anew::wall_row;
 use table::words::word;
 use table::writes::put;
 
 // The row n is a cell, if the rectangle has it.
-fn put_cell(t: &mut [i32], columns: u32, rows: u32, n: usize)
+fn put_cell(t: &mut [i32], header: Header, n: usize)
     requires { ⌜ n * rowWords + rowWords ≤ length (now t) ⌝ }
-    ensures { λ _. ⌜ now (t .exit) ≡ groundRow (rectangle columns rows) (now (t .entry)) n ⌝ }
+    ensures { λ _. ⌜ now (t .exit) ≡ groundRow (headerOf header .grid) (now (t .entry)) n ⌝ }
 {
     let i = word(t, n, 10);
     let j = word(t, n, 11);
-    let inside = (i < columns) & (j < rows);
+    let inside = (i < header.columns) & (j < header.rows);
     if !inside {
         return;
     }
@@ -27,13 +28,13 @@ fn put_cell(t: &mut [i32], columns: u32, rows: u32, n: usize)
 }
 
 // The rows from a up to b that the rectangle has are cells.
-pub fn put_ground(t: &mut [i32], columns: u32, rows: u32, a: usize, b: usize)
+pub fn put_ground(t: &mut [i32], header: Header, a: usize, b: usize)
     requires { ⌜ (b * rowWords ≤ length (now t)) × (a ≤ b) ⌝ }
-    ensures { λ _. ⌜ now (t .exit) ≡ eachRow (groundRow (rectangle columns rows)) (b - a) a (now (t .entry)) ⌝ }
+    ensures { λ _. ⌜ now (t .exit) ≡ eachRow (groundRow (headerOf header .grid)) (b - a) a (now (t .entry)) ⌝ }
 {
     let mut n = a;
     while n < b {
-        put_cell(t, columns, rows, n);
+        put_cell(t, header, n);
         n += 1;
     }
 }

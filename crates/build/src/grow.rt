@@ -2,7 +2,8 @@
 ghost use mathlib.Core.Path.{_≡_};
 ghost use Prim.Native.Nat.{_+_, _-_, _*_, _<_, _≤_};
 ghost use lib.ListN.{length};
-ghost use Rattle.mesh.specs.Place.{rectangle, base};
+ghost use Rattle.mesh.specs.Place.{base};
+ghost use Rattle.mesh.specs.Headers.{headerOf};
 ghost use Rattle.mesh.specs.Winds.{kidCol, kidRow};
 ghost use Rattle.mesh.specs.Picture.{rowWords};
 ghost use Rattle.table.specs.Plain.{Plain};
@@ -13,39 +14,39 @@ use mesh::NE;
 use mesh::NW;
 use mesh::SE;
 use mesh::SW;
+use mesh::header::Header;
 use mesh::kid_digits;
 use steps::links::link_in;
 use table::words::word;
 
 // Whether a place is a patch of the full rectangle, so many levels below level 0.
-fn in_full(columns: u32, rows: u32, up: u32, i: u32, j: u32) -> bool
+fn in_full(header: Header, up: u32, i: u32, j: u32) -> bool
     requires { ⌜ up < 32 ⌝ }
-    ensures { λ r. ⌜ r ≡ inFull (rectangle columns rows) up i j ⌝ }
+    ensures { λ r. ⌜ r ≡ inFull (headerOf header .grid) up i j ⌝ }
 {
-    (i <= columns >> up) & (j <= rows >> up)
+    (i <= header.columns >> up) & (j <= header.rows >> up)
 }
 
 // The kid of the row p in the wind at place w of the table of winds, where the rectangle has it; the next number.
 fn grow_kid(
     t: &mut [i32],
     cap: usize,
-    columns: u32,
-    rows: u32,
+    header: Header,
     d: u32,
     up: u32,
     p: usize,
     w: usize,
     next: usize,
 ) -> usize
-    requires { ⌜ (cap * rowWords + rowWords ≤ length (now t)) × (cap ≤ 4095) × (d ≤ 32) × (w < 4) × Plain (now t) cap × Able (rectangle columns rows) cap d up p (kidCol w) (kidRow w) (growth (now t) next) ⌝ }
-    ensures { λ r. ⌜ growth (now (t .exit)) r ≡ grow (rectangle columns rows) cap d up p (kidCol w) (kidRow w) (growth (now (t .entry)) next) ⌝ }
+    requires { ⌜ (cap * rowWords + rowWords ≤ length (now t)) × (cap ≤ 4095) × (d ≤ 32) × (w < 4) × Plain (now t) cap × Able (headerOf header .grid) cap d up p (kidCol w) (kidRow w) (growth (now t) next) ⌝ }
+    ensures { λ r. ⌜ growth (now (t .exit)) r ≡ grow (headerOf header .grid) cap d up p (kidCol w) (kidRow w) (growth (now (t .entry)) next) ⌝ }
 {
     let e = kid_digits(w);
     let l = e.col;
     let m = e.row;
     let i = 2 * word(t, p, 10) + l;
     let j = 2 * word(t, p, 11) + m;
-    let there = in_full(columns, rows, up, i, j);
+    let there = in_full(header, up, i, j);
     if !there {
         return next;
     }
@@ -57,40 +58,38 @@ fn grow_kid(
 fn grow_kids(
     t: &mut [i32],
     cap: usize,
-    columns: u32,
-    rows: u32,
+    header: Header,
     d: u32,
     up: u32,
     p: usize,
     next: usize,
 ) -> usize
-    requires { ⌜ (cap * rowWords + rowWords ≤ length (now t)) × (cap ≤ 4095) × (d ≤ 32) × (d ≡ base (rectangle columns rows)) × KidsToGrow (rectangle columns rows) cap up p inTurn (growth (now t) next) ⌝ }
-    ensures { λ r. ⌜ growth (now (t .exit)) r ≡ growKids (rectangle columns rows) cap d up p (growth (now (t .entry)) next) ⌝ }
+    requires { ⌜ (cap * rowWords + rowWords ≤ length (now t)) × (cap ≤ 4095) × (d ≤ 32) × (d ≡ base (headerOf header .grid)) × KidsToGrow (headerOf header .grid) cap up p inTurn (growth (now t) next) ⌝ }
+    ensures { λ r. ⌜ growth (now (t .exit)) r ≡ growKids (headerOf header .grid) cap d up p (growth (now (t .entry)) next) ⌝ }
 {
-    let a = grow_kid(t, cap, columns, rows, d, up, p, SW, next);
-    let b = grow_kid(t, cap, columns, rows, d, up, p, NW, a);
-    let c = grow_kid(t, cap, columns, rows, d, up, p, SE, b);
-    grow_kid(t, cap, columns, rows, d, up, p, NE, c)
+    let a = grow_kid(t, cap, header, d, up, p, SW, next);
+    let b = grow_kid(t, cap, header, d, up, p, NW, a);
+    let c = grow_kid(t, cap, header, d, up, p, SE, b);
+    grow_kid(t, cap, header, d, up, p, NE, c)
 }
 
 // The kids of the rows from p up to the next number.
 fn grow_level(
     t: &mut [i32],
     cap: usize,
-    columns: u32,
-    rows: u32,
+    header: Header,
     d: u32,
     up: u32,
     p: usize,
     next: usize,
 ) -> usize
-    requires { ⌜ (cap * rowWords + rowWords ≤ length (now t)) × (cap ≤ 4095) × (d ≤ 32) × (d ≡ base (rectangle columns rows)) × (p ≤ next) × (next ≤ cap + 1) × LevelToGrow (rectangle columns rows) cap up (next - p) p (growth (now t) next) ⌝ }
-    ensures { λ r. ⌜ growth (now (t .exit)) r ≡ growLevel (rectangle columns rows) cap d up (next - p) p (growth (now (t .entry)) next) ⌝ }
+    requires { ⌜ (cap * rowWords + rowWords ≤ length (now t)) × (cap ≤ 4095) × (d ≤ 32) × (d ≡ base (headerOf header .grid)) × (p ≤ next) × (next ≤ cap + 1) × LevelToGrow (headerOf header .grid) cap up (next - p) p (growth (now t) next) ⌝ }
+    ensures { λ r. ⌜ growth (now (t .exit)) r ≡ growLevel (headerOf header .grid) cap d up (next - p) p (growth (now (t .entry)) next) ⌝ }
 {
     let mut q = p;
     let mut k = next;
     while q < next {
-        k = grow_kids(t, cap, columns, rows, d, up, q, k);
+        k = grow_kids(t, cap, header, d, up, q, k);
         q += 1;
     }
     k
@@ -103,16 +102,16 @@ pub struct Reach {
 }
 
 // Every level, from the root under number 1 on.
-pub fn grow_levels(t: &mut [i32], cap: usize, columns: u32, rows: u32, d: u32) -> Reach
-    requires { ⌜ (cap * rowWords + rowWords ≤ length (now t)) × (cap ≤ 4095) × (d ≤ 32) × (d ≡ base (rectangle columns rows)) × LevelsToGrow (rectangle columns rows) cap d 1 (growth (now t) 2) ⌝ }
-    ensures { λ r. ⌜ Reached (rectangle columns rows) cap d (growth (now (t .entry)) 2) (growth (now (t .exit)) (r .next)) (r .ground) ⌝ }
+pub fn grow_levels(t: &mut [i32], cap: usize, header: Header, d: u32) -> Reach
+    requires { ⌜ (cap * rowWords + rowWords ≤ length (now t)) × (cap ≤ 4095) × (d ≤ 32) × (d ≡ base (headerOf header .grid)) × LevelsToGrow (headerOf header .grid) cap d 1 (growth (now t) 2) ⌝ }
+    ensures { λ r. ⌜ Reached (headerOf header .grid) cap d (growth (now (t .entry)) 2) (growth (now (t .exit)) (r .next)) (r .ground) ⌝ }
 {
     let mut up = d;
     let mut p: usize = 1;
     let mut k: usize = 2;
     while up > 0 {
         up -= 1;
-        let n = grow_level(t, cap, columns, rows, d, up, p, k);
+        let n = grow_level(t, cap, header, d, up, p, k);
         p = k;
         k = n;
     }

@@ -19,12 +19,12 @@ use Rattle.calling.proofs.Rowed.{row-few, row-page}
 
 -- the page call, by rows
 pub page-call : (cap : ℕ) (l : Lent) (out : List ℕ) → refusal (lentChecks cap l) ≡ 0
-    → pageCall cap l out ≡ rowOut (l .header .grid .columns) (l .header .grid .rows) (l .header .mark) (l .words) (l .values) cap (base (l .header .grid)) out
+    → pageCall cap l out ≡ rowOut (l .header) (l .words) (l .values) cap (base (l .header .grid)) out
 unfolding pageCall pageChecks rowOut
 page-call cap l out h =
     ap (λ (r : ℕ). wrote r (page (stateOf l)) out) (checks-after cap l h (pageChecks (stateOf l) (length out)))
     ∙ ap (λ (p : List ℕ). wrote (refusal (no18 (length out) p ∷ [])) p out)
-    (by-picture cap l h page (λ k t v c. rowPage (k .grid .columns) (k .grid .rows) (k .mark) t v c (base (k .grid))) (λ (s : State) x. sym (row-page s x)))
+    (by-picture cap l h page (λ k t v c. rowPage k t v c (base (k .grid))) (λ (s : State) x. sym (row-page s x)))
 
 -- and it finds no more leaves than there are numbers
 pub page-few : (cap : ℕ) (l : Lent) → refusal (lentChecks cap l) ≡ 0 → length (leavesFrom (l .words) cap (base (l .header .grid) + 12) 1) ≤ cap + 1

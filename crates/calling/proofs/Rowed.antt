@@ -106,11 +106,11 @@ module _ (s : State) (v : Valid s) where
   unfolding linesOf
   row-lines = rw row-leaves (ap flat (map-where (rowLine (table s) (amounts s)) (leafLine s) (leaves s) row-line))
 
-  row-body : bodyOf (g .columns) (g .rows) (s .header .mark) (table s) (amounts s) (leavesFrom (table s) (capacity s) (base g + 12) 1) ≡ body s
+  row-body : bodyOf (s .header) (table s) (amounts s) (leavesFrom (table s) (capacity s) (base g + 12) 1) ≡ body s
   unfolding bodyOf headLine body
   row-body = rw row-lines
 
   -- the page by rows is the page
-  pub row-page : rowPage (g .columns) (g .rows) (s .header .mark) (table s) (amounts s) (capacity s) (base g) ≡ page s
+  pub row-page : rowPage (s .header) (table s) (amounts s) (capacity s) (base g) ≡ page s
   unfolding rowPage pageOf footLine page
   row-page = rw (row-body, row-leaves)

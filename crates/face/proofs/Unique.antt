@@ -12,7 +12,7 @@ use contract.Monad.{fact}
 use denote.Ref.{RefT, at-last}
 use denote.Triple.Spec.{exits}
 use borrow.Fn.World.{World, Pr}
-use Rattle.grid.specs.declared.Header.{Header}
+use Rattle.mesh.specs.declared.header.Header.{Header}
 use Rattle.grid.proofs.Unique.{lent-same, both-told}
 use Rattle.face.specs.Outputs.{Builds, Tapes, Checks, Scans, Looks, Pages}
 use Rattle.face.proofs.grid_build as grid-build

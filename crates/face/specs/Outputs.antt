@@ -12,8 +12,8 @@ use lib.Ieee.{Float}
 use Rattle.mesh.specs.Place.{rectangle}
 use Rattle.mesh.specs.State as State
 use Rattle.mesh.specs.Call as Call
-use Rattle.grid.specs.declared.Header.{Header}
-use Rattle.grid.specs.Calls.{lentOf}
+use Rattle.mesh.specs.Headers.{lentOf}
+use Rattle.mesh.specs.declared.header.Header.{Header}
 
 -- an order of another length than four is no permutation; four zeros stand for it
 abbrev pub fourOf : List ℕ → List ℕ

@@ -4,7 +4,7 @@ ghost use mathlib.Core.Path.{_≡_};
 ghost use Rattle.mesh.specs.State.{status, amount};
 ghost use Rattle.walk.specs.Calls.{valueOfReading};
 ghost use Rattle.face.specs.Outputs.{fourOf, Builds, Tapes, Checks, Scans, Looks, Pages};
-use grid::Header;
+use mesh::header::Header;
 use walk::calls::Reading;
 
 // The header at exit, and the refusal or 0.

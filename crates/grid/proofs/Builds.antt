@@ -1,7 +1,7 @@
 -- A build: refused, nothing changes; accepted, what is lent is the picture of the built state.
 -- Assumes nothing.
 use Prim.Native.Nat.{ℕ, _+_, _*_, _≤_, _<_}
-use mathlib.Core.Path.{_≡_, sym, _∙_}
+use mathlib.Core.Path.{_≡_, sym, ap, _∙_, subst}
 use mathlib.Core.Logic.{_≢_}
 use mathlib.Core.List.{List, [], _∷_}
 use lib.Dec.{ltb}
@@ -15,13 +15,14 @@ use Rattle.mesh.specs.Picture.{rowWords}
 use Rattle.mesh.specs.Refusal.{_if_, refusal}
 use Rattle.mesh.specs.Build.{numbered, built}
 use Rattle.mesh.specs.Call.{Lent, picture, buildChecks, buildCall}
+use Rattle.mesh.specs.Headers.{headerOf, lentOf, freshHeader}
+use Rattle.mesh.specs.declared.header.Header.{Header}
 use Rattle.geometry.proofs.Base.{Rectangle}
 use Rattle.sound.proofs.Checking.{both-pass}
 use Rattle.build.specs.Steps.{Made}
 use Rattle.laws.proofs.Refusals.{unless-accepted, unless-refused}
 use Rattle.laws.proofs.Calls.{Buildable, build-checked}
-use Rattle.grid.specs.declared.Header.{Header}
-use Rattle.grid.specs.Calls.{lentOf, builtOf, Builds}
+use Rattle.grid.specs.Calls.{builtOf, Builds}
 use Rattle.grid.proofs.First.{lengths}
 
 -- ---- the refusal
@@ -41,23 +42,31 @@ module _ (cap : ℕ) (l : Lent) (g : Grid) (size : length (l .words) ≡ rowWord
 
 -- ---- the call
 
-module _ (h : Header) (t : List ℤ) (v : List Float) (cap columns rows : ℕ) (n : ℕ) (is : n ≡ refusal (buildChecks cap (lentOf h t v) (rectangle columns rows))) where
+module _ (h : Header) (t : List ℤ) (v : List Float) (cap columns rows : ℕ) {new : Header} (new-is : new ≡ freshHeader columns rows) (n : ℕ) (is : n ≡ refusal (buildChecks cap (lentOf h t v) (headerOf new .grid))) where
+  grid-is : headerOf new .grid ≡ rectangle columns rows
+  grid-is = ap (λ (x : Header). headerOf x .grid) new-is
+
+  checked : n ≡ refusal (buildChecks cap (lentOf h t v) (rectangle columns rows))
+  checked = is ∙ ap (λ (g : Grid). refusal (buildChecks cap (lentOf h t v) g)) grid-is
+
   pub build-refused : n ≢ 0 → Builds h t v cap columns rows h t v (record { refusal = n; used = 0 })
   unfolding buildCall
-  build-refused some = record { is = sym (rw (sym is) (unless-refused _ _ n some)) }
+  build-refused some = record { is = sym (rw (sym checked) (unless-refused _ _ n some)) }
 
   module _ (none : n ≡ 0) where
     pub sized : (length t ≡ rowWords * (cap + 1)) × (length v ≡ cap + 1)
     unfolding buildChecks
     sized = lengths cap (lentOf h t v) _ (sym is ∙ none)
 
-    pub buildable : Buildable cap (rectangle columns rows)
-    buildable = build-checked cap (lentOf h t v) (rectangle columns rows) (sym is ∙ none)
+    pub buildable : Buildable cap (headerOf new .grid)
+    buildable = build-checked cap (lentOf h t v) (headerOf new .grid) (sym is ∙ none)
 
-    pub build-made : (t′ : List ℤ) (v′ : List Float) (k : ℕ) → Made (rectangle columns rows) cap t′ v′ k
-        → Builds h t v cap columns rows (record { columns = columns; rows = rows; mark = 0 }) t′ v′ (record { refusal = 0; used = k })
+    pub build-made : (t′ : List ℤ) (v′ : List Float) (k : ℕ) → Made (headerOf new .grid) cap t′ v′ k → Builds h t v cap columns rows new t′ v′ (record { refusal = 0; used = k })
     unfolding buildCall built
-    build-made t′ v′ k m = record { is = made ∙ sym (unless-accepted _ _ _ (sym is ∙ none)) }
+    build-made t′ v′ k m = record { is = made ∙ sym (unless-accepted _ _ _ (sym checked ∙ none)) }
       where
-        made : builtOf (record { refusal = 0; used = k }) (record { columns = columns; rows = rows; mark = 0 }) t′ v′ ≡ record { why = 0; in-use = State.inUse (built (rectangle columns rows) cap .entries); lent = picture (built (rectangle columns rows) cap) }
-        made = λ i. record { why = 0; in-use = m .in-use-is i; lent = record { header = record { grid = rectangle columns rows; mark = 0 }; words = m .words-are i; values = m .values-are i } }
+        its : Made (rectangle columns rows) cap t′ v′ k
+        its = subst (λ (g : Grid). Made g cap t′ v′ k) grid-is m
+
+        made : builtOf (record { refusal = 0; used = k }) new t′ v′ ≡ record { why = 0; in-use = State.inUse (built (rectangle columns rows) cap .entries); lent = picture (built (rectangle columns rows) cap) }
+        made = λ i. record { why = 0; in-use = its .in-use-is i; lent = record { header = headerOf (new-is i); words = its .words-are i; values = its .values-are i } }

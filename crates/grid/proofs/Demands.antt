@@ -20,6 +20,8 @@ use Rattle.mesh.specs.Lookup.{tries, lookup}
 use Rattle.mesh.specs.Build.{full, built}
 use Rattle.mesh.specs.Call as Call
 use Rattle.mesh.specs.Call.{stateOf, picture, checkCall, buildCall, tapeCall, scanCall, lookupCall, pageCall}
+use Rattle.mesh.specs.Headers.{headerOf, lentOf}
+use Rattle.mesh.specs.declared.header.Header.{Header}
 use Rattle.walk.specs.declared.calls.Found.{Found}
 use Rattle.walk.specs.Calls.{foundOf, valueOfReading}
 use Rattle.walking.specs.Points.{total}
@@ -33,11 +35,10 @@ use Rattle.laws.proofs.Prefixes.{tape-prefix}
 use Rattle.laws.proofs.Answers.{among, ofTapes, check-answers, build-answers, tape-answers, scan-answers, lookup-answers, page-answers}
 use Rattle.laws.proofs.Calls.{tape-checked, afterCalls}
 use Rattle.laws.proofs.Demand as laws
-use Rattle.grid.specs.declared.Header.{Header}
 use Rattle.grid.specs.declared.Wrote.{Wrote}
 use Rattle.grid.specs.declared.Built.{Built}
 use Rattle.grid.specs.declared.Taped.{Taped}
-use Rattle.grid.specs.Calls.{headerOf, lentOf, wroteOf, Builds, Tapes}
+use Rattle.grid.specs.Calls.{wroteOf, Builds, Tapes}
 use Rattle.grid.proofs.First.{Sizes, sizes, check-sound, sound-check, ranOf, tape-ran}
 use Rattle.grid.proofs.Unique.{lent-same}
 

@@ -148,6 +148,6 @@ unfolding checkCall
 page-listed cap l d ok h e = rw e (omega (arith, page-few cap l ok))
 
 pub page-done : (cap : ℕ) (l : Lent) (out : List ℕ) (d : ℕ) (w : Wrote) → checkCall cap l ≡ 0 → d ≡ base (l .header .grid)
-    → w ≡ rowOut (l .header .grid .columns) (l .header .grid .rows) (l .header .mark) (l .words) (l .values) cap d out → w ≡ pageCall cap l out
+    → w ≡ rowOut (l .header) (l .words) (l .values) cap d out → w ≡ pageCall cap l out
 unfolding checkCall
-page-done cap l out d w ok e h = h ∙ ap (λ (d : ℕ). rowOut (l .header .grid .columns) (l .header .grid .rows) (l .header .mark) (l .words) (l .values) cap d out) e ∙ sym (page-call cap l out ok)
+page-done cap l out d w ok e h = h ∙ ap (λ (d : ℕ). rowOut (l .header) (l .words) (l .values) cap d out) e ∙ sym (page-call cap l out ok)

@@ -8,11 +8,12 @@ use lib.IntN.{ℤ}
 use lib.Ieee.{Float}
 use Rattle.mesh.specs.State.{Value, blank, measured, carried}
 use Rattle.mesh.specs.Call as Call
+use Rattle.mesh.specs.Headers.{lentOf}
+use Rattle.mesh.specs.declared.header.Header.{Header}
 use Rattle.walk.specs.declared.calls.Found.{Found}
 use Rattle.walk.specs.declared.calls.Reading.{Reading}
 use Rattle.walk.specs.declared.calls.Reading.the-variants.{Measured, Carried, Blank}
 use Rattle.walk.specs.Calls.{valueOfReading, foundOf}
-use Rattle.grid.specs.declared.Header.{Header}
 use Rattle.grid.specs.declared.Wrote.{Wrote}
 use Rattle.grid.specs.declared.Built.{Built}
 use Rattle.grid.specs.declared.Taped.{Taped}
@@ -32,7 +33,7 @@ use Rattle.grid.proofs.build_core.Reads as build-core
 use Rattle.grid.proofs.tape_core.Reads as tape-core
 use Rattle.grid.proofs.build as build
 use Rattle.grid.proofs.tape as tape
-use Rattle.grid.specs.Calls.{lentOf, wroteOf, Builds, Tapes}
+use Rattle.grid.specs.Calls.{wroteOf, Builds, Tapes}
 
 -- ---- what is lent
 

@@ -8,17 +8,11 @@ use lib.Ieee.{Float}
 use Rattle.mesh.specs.Place.{rectangle}
 use Rattle.mesh.specs.State as State
 use Rattle.mesh.specs.Call as Call
-use Rattle.grid.specs.declared.Header.{Header}
+use Rattle.mesh.specs.Headers.{lentOf}
+use Rattle.mesh.specs.declared.header.Header.{Header}
 use Rattle.grid.specs.declared.Wrote.{Wrote}
 use Rattle.grid.specs.declared.Built.{Built}
 use Rattle.grid.specs.declared.Taped.{Taped}
-
--- "columns, rows, and a 16-bit edit mark"
-abbrev pub headerOf : Header → State.Header
-headerOf h = record { grid = rectangle (h .columns) (h .rows); mark = h .mark }
-
-abbrev pub lentOf : Header → List ℤ → List Float → Call.Lent
-lentOf h t v = record { header = headerOf h; words = t; values = v }
 
 -- the answer, and what the output holds
 abbrev pub wroteOf : Wrote → List ℕ → Call.Wrote

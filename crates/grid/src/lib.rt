@@ -1,23 +1,18 @@
 // The public calls of the grid library. Every call takes any lists of any length and any header, and refuses by number; none has a `requires`.
 ghost use mathlib.Core.Path.{_≡_};
 ghost use Prim.Native.Nat.{_<_};
-ghost use Rattle.mesh.specs.Place.{rectangle};
 ghost use Rattle.mesh.specs.State as State;
 ghost use Rattle.mesh.specs.Refusal.{refusal};
 ghost use Rattle.mesh.specs.Call.{checkCall, scanCall, lookupCall, pageCall, buildChecks};
+ghost use Rattle.mesh.specs.Headers.{headerOf, lentOf};
 ghost use Rattle.walk.specs.Calls.{foundOf};
-ghost use Rattle.grid.specs.Calls.{lentOf, lists, wroteOf, Builds, Tapes};
+ghost use Rattle.grid.specs.Calls.{lists, wroteOf, Builds, Tapes};
+use mesh::header::Header;
+use mesh::header::fresh;
+use mesh::header::with_mark;
 use table::words::ROW_WORDS;
 use walk::calls::Found;
 use walk::calls::Reading;
-
-// Lent with the table: the rectangle of level-0 cells, and the edit mark.
-#[repr(C)]
-pub struct Header {
-    pub columns: u32,
-    pub rows: u32,
-    pub mark: u16,
-}
 
 // What a scan or a page answers: a refusal or 0, and how many places of the output it wrote.
 pub struct Wrote {
@@ -40,7 +35,7 @@ pub struct BuildOut {
 pub fn check(header: Header, table: &[i32], values: &[f64], capacity: u32) -> u32
     ensures { λ r. ⌜ r ≡ checkCall capacity (lentOf header (now (table .entry)) (now (values .entry))) ⌝ }
 {
-    sound::checks::check(header.columns, header.rows, table, values, capacity)
+    sound::checks::check(header, table, values, capacity)
 }
 
 // The numbers of the patches of a kind that a walk from a start meets, on levels from and to.
@@ -62,7 +57,7 @@ pub fn scan(
     if refusal != 0 {
         return Wrote { refusal, count: 0 };
     }
-    let d = mesh::ground_depth(header.columns, header.rows);
+    let d = mesh::ground_depth(header);
     let w = walk::calls::scan_out(
         table,
         capacity as usize,
@@ -92,7 +87,7 @@ pub fn lookup(header: Header, table: &[i32], values: &[f64], capacity: u32, x: u
             reading: Reading::Blank,
         };
     }
-    let d = mesh::ground_depth(header.columns, header.rows);
+    let d = mesh::ground_depth(header);
     walk::calls::lookup_out(table, values, capacity as usize, d, x, y)
 }
 
@@ -104,18 +99,8 @@ pub fn page(header: Header, table: &[i32], values: &[f64], capacity: u32, out: &
     if refusal != 0 {
         return Wrote { refusal, count: 0 };
     }
-    let d = mesh::ground_depth(header.columns, header.rows);
-    let mark = header.mark as u32;
-    let p = page::pages::write_page(
-        header.columns,
-        header.rows,
-        mark,
-        table,
-        values,
-        capacity as usize,
-        d,
-        out,
-    );
+    let d = mesh::ground_depth(header);
+    let p = page::pages::write_page(header, table, values, capacity as usize, d, out);
     Wrote {
         refusal: p.why,
         count: p.count,
@@ -123,8 +108,8 @@ pub fn page(header: Header, table: &[i32], values: &[f64], capacity: u32, out: &
 }
 
 // The refusal of a build, or 0: the old contents of the lists are not read.
-fn build_refusal(table: &[i32], values: &[f64], capacity: u32, columns: u32, rows: u32) -> u32
-    ensures { λ r. ⌜ ((h : State.Header) → r ≡ refusal (buildChecks capacity (lists h (now (table .entry)) (now (values .entry))) (rectangle columns rows))) ⌝ }
+fn build_refusal(table: &[i32], values: &[f64], capacity: u32, header: Header) -> u32
+    ensures { λ r. ⌜ ((h : State.Header) → r ≡ refusal (buildChecks capacity (lists h (now (table .entry)) (now (values .entry))) (headerOf header .grid))) ⌝ }
 {
     if capacity < 5 {
         return 1;
@@ -139,20 +124,20 @@ fn build_refusal(table: &[i32], values: &[f64], capacity: u32, columns: u32, row
     if values.len() != cap + 1 {
         return 1;
     }
-    if columns < 1 {
+    if header.columns < 1 {
         return 2;
     }
-    if 32 < columns {
+    if 32 < header.columns {
         return 2;
     }
-    if rows < 1 {
+    if header.rows < 1 {
         return 2;
     }
-    if 32 < rows {
+    if 32 < header.rows {
         return 2;
     }
-    let d = mesh::ground_depth(columns, rows);
-    if cap < build::count::patches_in(columns, rows, d) {
+    let d = mesh::ground_depth(header);
+    if cap < build::count::patches_in(header, d) {
         return 11;
     }
     0
@@ -169,20 +154,17 @@ pub fn build_core(
 ) -> BuildOut
     ensures { λ r. ⌜ Builds header (now (table .entry)) (now (values .entry)) capacity columns rows (r .header) (now (table .exit)) (now (values .exit)) (r .answer) ⌝ }
 {
-    let refusal = build_refusal(table, values, capacity, columns, rows);
+    let new = fresh(columns, rows);
+    let refusal = build_refusal(table, values, capacity, new);
     if refusal != 0 {
         return BuildOut {
             header,
             answer: Built { refusal, used: 0 },
         };
     }
-    let used = build::build_table(table, values, capacity as usize, columns, rows);
+    let used = build::build_table(table, values, capacity as usize, new);
     BuildOut {
-        header: Header {
-            columns,
-            rows,
-            mark: 0,
-        },
+        header: new,
         answer: Built { refusal: 0, used },
     }
 }
@@ -209,7 +191,7 @@ pub fn tape_core(
 ) -> TapeOut
     ensures { λ r. ⌜ Tapes header (now (table .entry)) (now (values .entry)) capacity (now (tape .entry)) (r .header) (now (table .exit)) (now (values .exit)) (r .answer) ⌝ }
 {
-    let c = sound::checks::check_first(header.columns, header.rows, table, values, capacity);
+    let c = sound::checks::check_first(header, table, values, capacity);
     if c.why != 0 {
         return TapeOut {
             header,
@@ -220,7 +202,7 @@ pub fn tape_core(
             },
         };
     }
-    let d = mesh::ground_depth(header.columns, header.rows);
+    let d = mesh::ground_depth(header);
     let r = tape::turns::run_tape(
         table,
         values,
@@ -230,12 +212,9 @@ pub fn tape_core(
         header.mark,
         tape,
     );
+    let left = with_mark(header, r.mark);
     TapeOut {
-        header: Header {
-            columns: header.columns,
-            rows: header.rows,
-            mark: r.mark,
-        },
+        header: left,
         answer: Taped {
             done: r.done,
             refusal: r.why,

@@ -18,5 +18,6 @@ pub mod Holding
 pub mod Lookup
 pub mod Page
 pub mod Call
+pub mod Headers
 pub mod Program
 pub mod Grids

@@ -1,8 +1,12 @@
 // The two tables of 01 that are code: the eight winds, and the depth of level 0 by leading zeros.
+pub mod header;
+
 ghost use mathlib.Core.Path.{_≡_};
 ghost use Prim.Native.Nat.{_<_};
-ghost use Rattle.mesh.specs.Place.{base, rectangle};
+ghost use Rattle.mesh.specs.Place.{base};
 ghost use Rattle.mesh.specs.Winds.{compassAt, digitsOf, KidWind};
+ghost use Rattle.mesh.specs.Headers.{headerOf};
+use crate::header::Header;
 
 // How far east and how far north a wind goes, each one too large, and the place of the opposite wind in the table.
 pub struct Compass {
@@ -125,12 +129,12 @@ pub fn kid_wind(l: u32, m: u32) -> usize
 }
 
 // The depth of level 0: the bit length of the larger of columns and rows.
-pub fn ground_depth(columns: u32, rows: u32) -> u32
-    ensures { λ r. ⌜ r ≡ base (rectangle columns rows) ⌝ }
+pub fn ground_depth(header: Header) -> u32
+    ensures { λ r. ⌜ r ≡ base (headerOf header .grid) ⌝ }
 {
-    if columns <= rows {
-        32 - u32::leading_zeros(rows)
+    if header.columns <= header.rows {
+        32 - u32::leading_zeros(header.rows)
     } else {
-        32 - u32::leading_zeros(columns)
+        32 - u32::leading_zeros(header.columns)
     }
 }

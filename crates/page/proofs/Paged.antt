@@ -12,6 +12,7 @@ use lib.Seq.{sets-eq}
 use lib.IntN.{ℤ}
 use lib.Ieee.{Float}
 use borrow.Author.Tests.{leb-true, leb-false, not-true, not-false, lt-ltb, le-ltb}
+use Rattle.mesh.specs.State.{Header}
 use Rattle.mesh.specs.Page.{decimal, total}
 use Rattle.mesh.specs.Call.{unless, over}
 use Rattle.mesh.specs.Refusal.{refusal}
@@ -20,21 +21,21 @@ use Rattle.page.specs.Rows.{headLine, footLine, linesOf, bodyOf, pageOf,
 use Rattle.page.proofs.Puts.{total-append, put-more, put-as, put-front}
 use Rattle.page.proofs.Worded.{head-size, foot-size, foot-short}
 
-module _ (columns rows mark : ℕ) (t : List ℤ) (v : List Float) (ns : List ℕ) where
+module _ (h : Header) (t : List ℤ) (v : List Float) (ns : List ℕ) where
   abbrev body : List ℕ
-  body = bodyOf columns rows mark t v ns
+  body = bodyOf h t v ns
 
   abbrev page : List ℕ
-  page = pageOf columns rows mark t v ns
+  page = pageOf h t v ns
 
   -- ---- how long it is
 
-  body-parts : length body ≡ length (headLine columns rows mark) + length (linesOf t v ns)
+  body-parts : length body ≡ length (headLine h) + length (linesOf t v ns)
   unfolding bodyOf
-  body-parts = length-append (headLine columns rows mark) (linesOf t v ns)
+  body-parts = length-append (headLine h) (linesOf t v ns)
 
-  pub body-size : length body ≡ length (decimal columns) + length (decimal rows) + length (decimal mark) + 7 + length (linesOf t v ns)
-  body-size = omega (arith, body-parts, head-size columns rows mark)
+  pub body-size : length body ≡ length (decimal (h .grid .columns)) + length (decimal (h .grid .rows)) + length (decimal (h .mark)) + 7 + length (linesOf t v ns)
+  body-size = omega (arith, body-parts, head-size h)
 
   page-parts : length page ≡ length body + length (footLine (length ns) (total body % 2 ^ 32))
   unfolding pageOf
@@ -42,37 +43,37 @@ module _ (columns rows mark : ℕ) (t : List ℤ) (v : List Float) (ns : List �
 
   -- by the sum as it was worked out
   pub page-size : (k s : ℕ) → k ≡ length ns → s ≡ total body % 2 ^ 32 → length page ≡ length body + length (decimal k) + length (decimal s) + 12
-  page-size k s e h = rw (e, h) (omega (arith, page-parts, foot-size (length ns) (total body % 2 ^ 32)))
+  page-size k s e f = rw (e, f) (omega (arith, page-parts, foot-size (length ns) (total body % 2 ^ 32)))
 
   pub page-lines : (k s : ℕ) → k ≡ length ns → s ≡ total body % 2 ^ 32
-      → length page ≡ length (headLine columns rows mark) + length (linesOf t v ns) + length (footLine k s)
-  page-lines k s e h = rw (e, h) (omega (arith, page-parts, body-parts))
+      → length page ≡ length (headLine h) + length (linesOf t v ns) + length (footLine k s)
+  page-lines k s e f = rw (e, f) (omega (arith, page-parts, body-parts))
 
   pub page-short : length page ≤ length body + 52
   page-short = omega (arith, page-parts, foot-short (length ns) (total body % 2 ^ 32))
 
-  pub page-long : length (headLine columns rows mark) + length (linesOf t v ns) ≤ length page
+  pub page-long : length (headLine h) + length (linesOf t v ns) ≤ length page
   page-long = omega (arith, page-parts, body-parts)
 
-  pub body-total : total body ≡ total (headLine columns rows mark) + total (linesOf t v ns)
+  pub body-total : total body ≡ total (headLine h) + total (linesOf t v ns)
   unfolding bodyOf
-  body-total = total-append (headLine columns rows mark) (linesOf t v ns)
+  body-total = total-append (headLine h) (linesOf t v ns)
 
   -- ---- line by line
 
-  pub body-put : {d e g : List ℕ} {p q : ℕ} → Put d 0 (headLine columns rows mark) e p → Put e p (linesOf t v ns) g q → Put d 0 body g q
+  pub body-put : {d e g : List ℕ} {p q : ℕ} → Put d 0 (headLine h) e p → Put e p (linesOf t v ns) g q → Put d 0 body g q
   unfolding bodyOf
   body-put w u = put-more w u
 
   -- the sum of what stands before the last line
-  pub body-sum : {d e g : List ℕ} {p q : ℕ} → Put d 0 (headLine columns rows mark) e p → Put e p (linesOf t v ns) g q → length page ≤ length d
+  pub body-sum : {d e g : List ℕ} {p q : ℕ} → Put d 0 (headLine h) e p → Put e p (linesOf t v ns) g q → length page ≤ length d
       → total (take q g) ≡ total body
-  body-sum w u h = ap total (put-front (body-put w u) (omega (arith, page-parts)))
+  body-sum w u f = ap total (put-front (body-put w u) (omega (arith, page-parts)))
 
   pub page-put : {d e g i : List ℕ} {p q r : ℕ} (k s : ℕ) → k ≡ length ns → s ≡ total body % 2 ^ 32
-      → Put d 0 (headLine columns rows mark) e p → Put e p (linesOf t v ns) g q → Put g q (footLine k s) i r → Put d 0 page i r
+      → Put d 0 (headLine h) e p → Put e p (linesOf t v ns) g q → Put g q (footLine k s) i r → Put d 0 page i r
   unfolding pageOf
-  page-put k s e h w u z = put-more (body-put w u) (put-as (rw (e, h)) z)
+  page-put k s e f w u z = put-more (body-put w u) (put-as (rw (e, f)) z)
 
 -- ---- the leaves as they were found
 

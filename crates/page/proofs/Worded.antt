@@ -11,7 +11,7 @@ use lib.ListN.{length, getD, take, drop, length-append, take-append-drop}
 use lib.Seq.{drop-cons}
 use lib.IntN.{ℤ}
 use lib.Ieee.{Float}
-use Rattle.mesh.specs.State.{plusZero}
+use Rattle.mesh.specs.State.{Header, plusZero}
 use Rattle.mesh.specs.Page.{decimal, hexIn, letter, line, space, lineFeed, total}
 use Rattle.geometry.proofs.Bools.{is-yes, and-left, and-right}
 use Rattle.table.specs.Words.{wordOf, linkOf}
@@ -42,10 +42,10 @@ unfolding rowLine
 leaf-line t v n k i j st x a b c e h =
     line-words (decimal n) (decimal k) (decimal i) (decimal j) (letter st ∷ []) (hexIn 16 (bitsOf x) []) ∙ rw (a, b, c, e, h)
 
-pub head-line : (columns rows mark : ℕ)
-    → (109 ∷ 97 ∷ 112 ∷ 32 ∷ []) ++ (decimal columns ++ (space ∷ [])) ++ (decimal rows ++ (space ∷ [])) ++ decimal mark ++ (lineFeed ∷ []) ≡ headLine columns rows mark
+pub head-line : (h : Header)
+    → (109 ∷ 97 ∷ 112 ∷ 32 ∷ []) ++ (decimal (h .grid .columns) ++ (space ∷ [])) ++ (decimal (h .grid .rows) ++ (space ∷ [])) ++ decimal (h .mark) ++ (lineFeed ∷ []) ≡ headLine h
 unfolding headLine line
-head-line columns rows mark = simp append-assoc
+head-line h = simp append-assoc
 
 pub foot-line : (leaves sum : ℕ)
     → (99 ∷ 101 ∷ 108 ∷ 108 ∷ 115 ∷ 32 ∷ []) ++ (decimal leaves ++ (space ∷ [])) ++ (115 ∷ 117 ∷ 109 ∷ 32 ∷ []) ++ decimal sum ++ (lineFeed ∷ []) ≡ footLine leaves sum
@@ -67,16 +67,16 @@ words-size t v n k i j a b c = rw (a, b, c) (line-size t v n)
 pub line-short : (t : List ℤ) (v : List Float) (n : ℕ) → length (rowLine t v n) ≤ 103
 line-short t v n = omega (arith, line-size t v n, decimal-long n, decimal-long (wordOf t n 9), decimal-long (wordOf t n 10), decimal-long (wordOf t n 11))
 
-pub head-size : (columns rows mark : ℕ) → length (headLine columns rows mark) ≡ length (decimal columns) + length (decimal rows) + length (decimal mark) + 7
+pub head-size : (h : Header) → length (headLine h) ≡ length (decimal (h .grid .columns)) + length (decimal (h .grid .rows)) + length (decimal (h .mark)) + 7
 unfolding headLine line
-head-size columns rows mark = simp length-append (omega arith)
+head-size h = simp length-append (omega arith)
 
 pub foot-size : (leaves sum : ℕ) → length (footLine leaves sum) ≡ length (decimal leaves) + length (decimal sum) + 12
 unfolding footLine line
 foot-size leaves sum = simp length-append (omega arith)
 
-pub head-short : (columns rows mark : ℕ) → length (headLine columns rows mark) ≤ 67
-head-short columns rows mark = omega (arith, head-size columns rows mark, decimal-long columns, decimal-long rows, decimal-long mark)
+pub head-short : (h : Header) → length (headLine h) ≤ 67
+head-short h = omega (arith, head-size h, decimal-long (h .grid .columns), decimal-long (h .grid .rows), decimal-long (h .mark))
 
 pub foot-short : (leaves sum : ℕ) → length (footLine leaves sum) ≤ 52
 foot-short leaves sum = omega (arith, foot-size leaves sum, decimal-long leaves, decimal-long sum)

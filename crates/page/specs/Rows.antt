@@ -8,7 +8,7 @@ use lib.ListN.{length, getD}
 use lib.IntN.{ℤ}
 use lib.Ieee.{Float, toBits, binary64}
 use Rattle.mesh.specs.Tools.{flat}
-use Rattle.mesh.specs.State.{plusZero}
+use Rattle.mesh.specs.State.{Header, plusZero}
 use Rattle.mesh.specs.Valid.{finite}
 use Rattle.mesh.specs.Picture.{rowWords}
 use Rattle.mesh.specs.Page.{decimal, hexIn, line, letter, total}
@@ -55,29 +55,29 @@ Listed t v cap ns =
     (cap * rowWords + rowWords ≤ length t) × (cap < length v) × (cap ≤ 4095) × (length ns ≤ 4096) × ((i : ℕ) → getD ns i 0 ≤ cap)
 
 -- "`map`, columns, rows, mark"
-unfoldable pub headLine : ℕ → ℕ → ℕ → List ℕ
-headLine columns rows mark = line ((109 ∷ 97 ∷ 112 ∷ []) ∷ decimal columns ∷ decimal rows ∷ decimal mark ∷ [])
+unfoldable pub headLine : Header → List ℕ
+headLine h = line ((109 ∷ 97 ∷ 112 ∷ []) ∷ decimal (h .grid .columns) ∷ decimal (h .grid .rows) ∷ decimal (h .mark) ∷ [])
 
 -- "last `cells`, count of leaves, `sum`, and the sum"
 unfoldable pub footLine : ℕ → ℕ → List ℕ
 footLine leaves sum = line ((99 ∷ 101 ∷ 108 ∷ 108 ∷ 115 ∷ []) ∷ decimal leaves ∷ (115 ∷ 117 ∷ 109 ∷ []) ∷ decimal sum ∷ [])
 
 -- all lines but the last, for the leaves ns
-unfoldable pub bodyOf : ℕ → ℕ → ℕ → List ℤ → List Float → List ℕ → List ℕ
-bodyOf columns rows mark t v ns = headLine columns rows mark ++ linesOf t v ns
+unfoldable pub bodyOf : Header → List ℤ → List Float → List ℕ → List ℕ
+bodyOf h t v ns = headLine h ++ linesOf t v ns
 
-unfoldable pub pageOf : ℕ → ℕ → ℕ → List ℤ → List Float → List ℕ → List ℕ
-pageOf columns rows mark t v ns =
-    let b = bodyOf columns rows mark t v ns in
+unfoldable pub pageOf : Header → List ℤ → List Float → List ℕ → List ℕ
+pageOf h t v ns =
+    let b = bodyOf h t v ns in
     b ++ footLine (length ns) (total b % 2 ^ 32)
 
 -- from the root down to level 12, with level 0 at depth d
-unfoldable pub rowPage : ℕ → ℕ → ℕ → List ℤ → List Float → ℕ → ℕ → List ℕ
-rowPage columns rows mark t v cap d = pageOf columns rows mark t v (leavesFrom t cap (d + 12) 1)
+unfoldable pub rowPage : Header → List ℤ → List Float → ℕ → ℕ → List ℕ
+rowPage h t v cap d = pageOf h t v (leavesFrom t cap (d + 12) 1)
 
 -- what a call answers that passes the first checks, for the page p
 abbrev pub pageOut : List ℕ → List ℕ → Wrote
 pageOut p out = wrote (refusal (no18 (length out) p ∷ [])) p out
 
-unfoldable pub rowOut : ℕ → ℕ → ℕ → List ℤ → List Float → ℕ → ℕ → List ℕ → Wrote
-rowOut columns rows mark t v cap d out = pageOut (rowPage columns rows mark t v cap d) out
+unfoldable pub rowOut : Header → List ℤ → List Float → ℕ → ℕ → List ℕ → Wrote
+rowOut h t v cap d out = pageOut (rowPage h t v cap d) out

@@ -5,6 +5,7 @@ ghost use lib.Dec.{leb};
 ghost use lib.ListN.{length};
 ghost use Rattle.mesh.specs.Picture.{rowWords};
 ghost use Rattle.mesh.specs.Page.{total};
+ghost use Rattle.mesh.specs.Headers.{headerOf};
 ghost use Rattle.page.specs.Puts.{Put, written};
 ghost use Rattle.page.specs.Rows.{Listed, headLine, footLine, leavesFrom, bodyOf, pageOf, pageOut, rowOut};
 use crate::find::find_leaves;
@@ -17,19 +18,20 @@ use crate::words::put_byte;
 use crate::words::put_decimal;
 use crate::words::put_number;
 use crate::words::put_text;
+use mesh::header::Header;
 
 // No last line is longer.
 const LONGEST_FOOT: usize = 52;
 
 // Puts the first line.
-fn put_head(out: &mut [u8], columns: u32, rows: u32, mark: u32) -> usize
-    requires { ⌜ length (headLine columns rows mark) ≤ length (now out) ⌝ }
-    ensures { λ r. ⌜ Put (now (out .entry)) 0 (headLine columns rows mark) (now (out .exit)) r ⌝ }
+fn put_head(out: &mut [u8], header: Header) -> usize
+    requires { ⌜ length (headLine (headerOf header)) ≤ length (now out) ⌝ }
+    ensures { λ r. ⌜ Put (now (out .entry)) 0 (headLine (headerOf header)) (now (out .exit)) r ⌝ }
 {
     let a = put_text(out, 0, b"map ");
-    let b = put_number(out, a, columns);
-    let c = put_number(out, b, rows);
-    let m = put_decimal(out, c, mark);
+    let b = put_number(out, a, header.columns);
+    let c = put_number(out, b, header.rows);
+    let m = put_decimal(out, c, header.mark as u32);
     put_byte(out, m, b'\n')
 }
 
@@ -46,77 +48,50 @@ fn put_foot(out: &mut [u8], at: usize, leaves: u32, sum: u32) -> usize
 }
 
 // The length of all lines but the last.
-fn body_size(
-    columns: u32,
-    rows: u32,
-    mark: u32,
-    t: &[i32],
-    v: &[f64],
-    cap: usize,
-    leaves: &[u16],
-) -> usize
+fn body_size(header: Header, t: &[i32], v: &[f64], cap: usize, leaves: &[u16]) -> usize
     requires { ⌜ Listed (now t) (now v) cap (now leaves) ⌝ }
-    ensures { λ r. ⌜ (r ≤ 258085) × (r ≡ length (bodyOf columns rows mark (now (t .entry)) (now (v .entry)) (now (leaves .entry)))) ⌝ }
+    ensures { λ r. ⌜ (r ≤ 258085) × (r ≡ length (bodyOf (headerOf header) (now (t .entry)) (now (v .entry)) (now (leaves .entry)))) ⌝ }
 {
-    let head = digits(columns) + digits(rows) + digits(mark) + 7;
+    let head = digits(header.columns) + digits(header.rows) + digits(header.mark as u32) + 7;
     head + lines_size(t, v, cap, leaves)
 }
 
 // The sum of the bytes of all lines but the last.
-fn body_sum(
-    columns: u32,
-    rows: u32,
-    mark: u32,
-    t: &[i32],
-    v: &[f64],
-    cap: usize,
-    leaves: &[u16],
-) -> u32
+fn body_sum(header: Header, t: &[i32], v: &[f64], cap: usize, leaves: &[u16]) -> u32
     requires { ⌜ Listed (now t) (now v) cap (now leaves) ⌝ }
-    ensures { λ r. ⌜ r ≡ total (bodyOf columns rows mark (now (t .entry)) (now (v .entry)) (now (leaves .entry))) % 2 ^ 32 ⌝ }
+    ensures { λ r. ⌜ r ≡ total (bodyOf (headerOf header) (now (t .entry)) (now (v .entry)) (now (leaves .entry))) % 2 ^ 32 ⌝ }
 {
     let mut line = [0u8; 67];
-    let k = put_head(&mut line, columns, rows, mark);
+    let k = put_head(&mut line, header);
     lines_sum(t, v, cap, leaves, sum_of(&line[..k]))
 }
 
 // Whether the page has room. Its sum has to be known only where the length of the last line decides.
-fn fits(
-    columns: u32,
-    rows: u32,
-    mark: u32,
-    t: &[i32],
-    v: &[f64],
-    cap: usize,
-    leaves: &[u16],
-    room: usize,
-) -> bool
+fn fits(header: Header, t: &[i32], v: &[f64], cap: usize, leaves: &[u16], room: usize) -> bool
     requires { ⌜ Listed (now t) (now v) cap (now leaves) ⌝ }
-    ensures { λ r. ⌜ r ≡ leb (length (pageOf columns rows mark (now (t .entry)) (now (v .entry)) (now (leaves .entry)))) room ⌝ }
+    ensures { λ r. ⌜ r ≡ leb (length (pageOf (headerOf header) (now (t .entry)) (now (v .entry)) (now (leaves .entry)))) room ⌝ }
 {
-    let size = body_size(columns, rows, mark, t, v, cap, leaves);
+    let size = body_size(header, t, v, cap, leaves);
     if size + LONGEST_FOOT <= room {
         return true;
     }
-    let sum = body_sum(columns, rows, mark, t, v, cap, leaves);
+    let sum = body_sum(header, t, v, cap, leaves);
     size + digits(leaves.len() as u32) + digits(sum) + 12 <= room
 }
 
 // Puts the page, and answers its length.
 fn put_page(
-    columns: u32,
-    rows: u32,
-    mark: u32,
+    header: Header,
     t: &[i32],
     v: &[f64],
     cap: usize,
     leaves: &[u16],
     out: &mut [u8],
 ) -> usize
-    requires { ⌜ Listed (now t) (now v) cap (now leaves) × (length (pageOf columns rows mark (now t) (now v) (now leaves)) ≤ length (now out)) ⌝ }
-    ensures { λ r. ⌜ Put (now (out .entry)) 0 (pageOf columns rows mark (now (t .entry)) (now (v .entry)) (now (leaves .entry))) (now (out .exit)) r ⌝ }
+    requires { ⌜ Listed (now t) (now v) cap (now leaves) × (length (pageOf (headerOf header) (now t) (now v) (now leaves)) ≤ length (now out)) ⌝ }
+    ensures { λ r. ⌜ Put (now (out .entry)) 0 (pageOf (headerOf header) (now (t .entry)) (now (v .entry)) (now (leaves .entry))) (now (out .exit)) r ⌝ }
 {
-    let a = put_head(out, columns, rows, mark);
+    let a = put_head(out, header);
     let b = put_lines(t, v, cap, leaves, out, a);
     let sum = sum_of(&out[..b]);
     put_foot(out, b, leaves.len() as u32, sum)
@@ -130,9 +105,7 @@ pub struct PageOut {
 
 // Writes the page of the leaves, if the output is long enough.
 fn write_leaves(
-    columns: u32,
-    rows: u32,
-    mark: u32,
+    header: Header,
     t: &[i32],
     v: &[f64],
     cap: usize,
@@ -140,20 +113,18 @@ fn write_leaves(
     out: &mut [u8],
 ) -> PageOut
     requires { ⌜ Listed (now t) (now v) cap (now leaves) ⌝ }
-    ensures { λ r. ⌜ written r (now (out .exit)) ≡ pageOut (pageOf columns rows mark (now (t .entry)) (now (v .entry)) (now (leaves .entry))) (now (out .entry)) ⌝ }
+    ensures { λ r. ⌜ written r (now (out .exit)) ≡ pageOut (pageOf (headerOf header) (now (t .entry)) (now (v .entry)) (now (leaves .entry))) (now (out .entry)) ⌝ }
 {
-    if !fits(columns, rows, mark, t, v, cap, leaves, out.len()) {
+    if !fits(header, t, v, cap, leaves, out.len()) {
         return PageOut { why: 18, count: 0 };
     }
-    let count = put_page(columns, rows, mark, t, v, cap, leaves, out);
+    let count = put_page(header, t, v, cap, leaves, out);
     PageOut { why: 0, count }
 }
 
 // Writes the page, if the output is long enough.
 pub fn write_page(
-    columns: u32,
-    rows: u32,
-    mark: u32,
+    header: Header,
     t: &[i32],
     v: &[f64],
     cap: usize,
@@ -161,9 +132,9 @@ pub fn write_page(
     out: &mut [u8],
 ) -> PageOut
     requires { ⌜ (cap * rowWords + rowWords ≤ length (now t)) × (1 ≤ cap) × (cap < length (now v)) × (cap ≤ 4095) × (length (leavesFrom (now t) cap (d + 12) 1) ≤ 4096) ⌝ }
-    ensures { λ r. ⌜ written r (now (out .exit)) ≡ rowOut columns rows mark (now (t .entry)) (now (v .entry)) cap d (now (out .entry)) ⌝ }
+    ensures { λ r. ⌜ written r (now (out .exit)) ≡ rowOut (headerOf header) (now (t .entry)) (now (v .entry)) cap d (now (out .entry)) ⌝ }
 {
     let mut found = [0u16; 4096];
     let m = find_leaves(t, cap, d as usize + 12, 1, &mut found, 0);
-    write_leaves(columns, rows, mark, t, v, cap, &found[..m], out)
+    write_leaves(header, t, v, cap, &found[..m], out)
 }

@@ -19,16 +19,17 @@ use Rattle.mesh.specs.Page.{page, pageChecks}
 use Rattle.mesh.specs.Call as Call
 use Rattle.mesh.specs.Call.{Lent, picture, stateOf, lentChecks, buildChecks, buildCall, tapeCall, wrote, pageCall}
 use Rattle.mesh.specs.Program.{gridIn, refusedLine, headChecks, tapePage, program, programCall}
+use Rattle.mesh.specs.Headers.{lentOf}
+use Rattle.mesh.specs.declared.header.Header.{Header}
 use Rattle.numbering.proofs.Checks.{past, kept}
 use Rattle.sound.proofs.Checking.{sized}
 use Rattle.laws.proofs.Prefixes.{run-offset}
 use Rattle.laws.proofs.Refusals.{unless-accepted, unless-refused, unless-names}
 use Rattle.laws.proofs.Calls.{picture-state, picture-accepted, tape-runs}
 use Rattle.calling.proofs.Called.{checks-after}
-use Rattle.grid.specs.declared.Header.{Header}
 use Rattle.grid.specs.declared.Built.{Built}
 use Rattle.grid.specs.declared.Taped.{Taped}
-use Rattle.grid.specs.Calls.{lentOf, tapedOf, Builds, Tapes}
+use Rattle.grid.specs.Calls.{tapedOf, Builds, Tapes}
 use Rattle.printing.specs.Head.{inputChecks, gridChecks, printed}
 use Rattle.printing.proofs.Head.{head-parts, head-sizes}
 use Rattle.printing.proofs.Ran.{started, ran, started-valid, ran-valid}

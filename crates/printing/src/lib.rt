@@ -8,8 +8,8 @@ ghost use Rattle.mesh.specs.Program.{refusedLine, programCall};
 ghost use Rattle.page.specs.Puts.{Put};
 ghost use Rattle.grid.specs.Calls.{wroteOf};
 ghost use Rattle.printing.specs.Head.{inputChecks, printed};
-use grid::Header;
 use grid::Wrote;
+use mesh::header::fresh;
 use page::words::digits;
 use page::words::put_byte;
 use page::words::put_decimal;
@@ -79,11 +79,7 @@ fn print_on(input: &[u8], table: &mut [i32], values: &mut [f64], out: &mut [u8])
     requires { ⌜ (refusal (inputChecks (now input)) ≡ 0) × (length (now table) ≡ rowWords * 1001) × (length (now values) ≡ 1001) ⌝ }
     ensures { λ r. ⌜ wroteOf r (now (out .exit)) ≡ programCall (now (input .entry)) (now (out .entry)) ⌝ }
 {
-    let header = Header {
-        columns: 0,
-        rows: 0,
-        mark: 0,
-    };
+    let header = fresh(0, 0);
     let columns = input[1] as u32;
     let rows = input[2] as u32;
     let b = grid::build_core(header, table, values, CAPACITY, columns, rows);

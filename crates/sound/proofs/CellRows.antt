@@ -131,7 +131,7 @@ module _ (g : Grid) (cap : ℕ) (t : List ℤ) (v : List Float) (n : ℕ) where
     unfolding cellOk
     cell-bare h = rw (corner-is, ← up, ← right) (some-none (eqb east 0) (eqb north 0) (eqb corner 0) _ h)
 
-    module _ (there : (eqb east 0 || eqb north 0 || eqb corner 0) ≡ false) {i : Bool} (inside : i ≡ insideOf t cap (g .columns) (g .rows) d n) where
+    module _ (there : (eqb east 0 || eqb north 0 || eqb corner 0) ≡ false) {i : Bool} (inside : i ≡ insideOf t cap g d n) where
       cell-rest : (i && ((kidCells t cap n true || kidCells t cap n false) && true)) ≡ cellOk g cap t v n
       unfolding cellOk
       cell-rest = rw (corner-is, ← up, ← right, ← ground, inside) (all-there (eqb east 0) (eqb north 0) (eqb corner 0) _ there)

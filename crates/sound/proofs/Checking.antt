@@ -16,14 +16,15 @@ use native.Mathlib.Decide.{decLt}
 use borrow.Author.Tests.{eq-eqb, ne-eqb}
 use Rattle.mesh.specs.Picture.{rowWords}
 use Rattle.mesh.specs.Refusal.{Check, refusal}
+use Rattle.mesh.specs.Headers.{headerOf, lentOf}
+use Rattle.mesh.specs.declared.header.Header.{Header}
 use Rattle.mesh.specs.Call.{Lent, outside, no1, no2, no3, lentChecks, checkCall}
-use Rattle.mesh.specs.Place.{Grid, base, rectangle}
+use Rattle.mesh.specs.Place.{Grid, base}
 use Rattle.geometry.proofs.Ranges.{below-outside, above-outside, within-outside}
 use Rattle.geometry.proofs.Base.{Rectangle}
 use Rattle.checking.specs.Rowwise.{rowwise}
 use Rattle.checking.proofs.Words.{Fits, FitsAt}
 use Rattle.checking.proofs.Agreeing.{rowwise-is-sound}
-use Rattle.sound.specs.Called.{lentOf}
 
 last : (a b c : Bool) → c ≡ true → (a || (b || c)) ≡ true
 last true b c e = refl
@@ -115,20 +116,20 @@ module _ (cap : ℕ) (l : Lent) (g : Grid) (cs : List Check) (size : length (l .
 
 -- ---- the checker
 
-module _ (columns rows mark cap : ℕ) (t : List ℤ) (v : List Float) (size : length t ≡ rowWords * (cap + 1)) (places : length v ≡ cap + 1) (low : 5 ≤ cap) (high : cap ≤ 4095)
-    (r : Rectangle (rectangle columns rows)) (f : Fits t) where
-  by-rows : (x : Bool) → x ≡ rowwise (rectangle columns rows) cap t v → refusal (no3 (lentOf columns rows mark t v) ∷ []) ≡ cond x 0 3
+module _ (h : Header) (cap : ℕ) (t : List ℤ) (v : List Float) (size : length t ≡ rowWords * (cap + 1)) (places : length v ≡ cap + 1) (low : 5 ≤ cap) (high : cap ≤ 4095)
+    (r : Rectangle (headerOf h .grid)) (f : Fits t) where
+  by-rows : (x : Bool) → x ≡ rowwise (headerOf h .grid) cap t v → refusal (no3 (lentOf h t v) ∷ []) ≡ cond x 0 3
   unfolding refusal
-  by-rows x h = rw (sym (rowwise-is-sound (lentOf columns rows mark t v .header) cap t v size places low high r f) ∙ sym h) (go x)
+  by-rows x e = rw (sym (rowwise-is-sound (lentOf h t v .header) cap t v size places low high r f) ∙ sym e) (go x)
     where
       go : (x : Bool) → cond (not x) 3 0 ≡ cond {A = ℕ} x 0 3
       go true = refl
       go false = refl
 
-  pub rows-pass : true ≡ rowwise (rectangle columns rows) cap t v → 0 ≡ checkCall cap (lentOf columns rows mark t v)
+  pub rows-pass : true ≡ rowwise (headerOf h .grid) cap t v → 0 ≡ checkCall cap (lentOf h t v)
   unfolding checkCall lentChecks
-  rows-pass h = sym (both-pass cap (lentOf columns rows mark t v) (rectangle columns rows) _ size places low high r ∙ by-rows true h)
+  rows-pass e = sym (both-pass cap (lentOf h t v) (headerOf h .grid) _ size places low high r ∙ by-rows true e)
 
-  pub rows-fail : false ≡ rowwise (rectangle columns rows) cap t v → 3 ≡ checkCall cap (lentOf columns rows mark t v)
+  pub rows-fail : false ≡ rowwise (headerOf h .grid) cap t v → 3 ≡ checkCall cap (lentOf h t v)
   unfolding checkCall lentChecks
-  rows-fail h = sym (both-pass cap (lentOf columns rows mark t v) (rectangle columns rows) _ size places low high r ∙ by-rows false h)
+  rows-fail e = sym (both-pass cap (lentOf h t v) (headerOf h .grid) _ size places low high r ∙ by-rows false e)

@@ -1,4 +1,4 @@
--- A table and values that are long enough for a capacity, with words that are read as they stand, and the depth of level 0 of a rectangle.
+-- A table and values that are long enough for a capacity, with words that are read as they stand, and the depth of level 0 of a grid.
 -- Assumes nothing.
 use Prim.Native.Nat.{ℕ, _+_, _*_, _≤_, _<_}
 use mathlib.Core.Path.{_≡_}
@@ -6,15 +6,15 @@ use mathlib.Core.List.{List}
 use lib.ListN.{length}
 use lib.IntN.{ℤ}
 use lib.Ieee.{Float}
-use Rattle.mesh.specs.Place.{base, rectangle}
+use Rattle.mesh.specs.Place.{Grid, base}
 use Rattle.mesh.specs.Picture.{rowWords}
 use Rattle.sound.specs.Plain.{Plain, Levelled}
 
-pub record Lent (t : List ℤ) (v : List Float) (cap columns rows d : ℕ) : Type 0 where
+pub record Lent (t : List ℤ) (v : List Float) (cap : ℕ) (g : Grid) (d : ℕ) : Type 0 where
   pub words : cap * rowWords + rowWords ≤ length t
   pub values : cap < length v
   pub small : cap ≤ 4095
-  pub depth : d ≡ base (rectangle columns rows)
+  pub depth : d ≡ base g
   pub shallow : d ≤ 32
   pub plain : Plain t cap
   pub levelled : Levelled t cap d

@@ -2,5 +2,4 @@
 pub mod Lent
 pub mod Plain
 pub mod Parts
-pub mod Called
 pub mod Firsts

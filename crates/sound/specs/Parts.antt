@@ -7,7 +7,7 @@ use lib.Dec.{eqb, ltb}
 use lib.IntN.{ℤ}
 use lib.Ieee.{Float}
 use Rattle.mesh.specs.Tools.{every}
-use Rattle.mesh.specs.Place.{rectangle, N, E, S, W}
+use Rattle.mesh.specs.Place.{Grid, rectangle, N, E, S, W}
 use Rattle.table.specs.Words.{wordOf, linkOf, flagOf, depthOf}
 use Rattle.table.specs.Sides.{sideBy}
 use Rattle.checking.specs.Rowwise.{below, kidlessTests, kidCellsAre, carriedTests}
@@ -22,8 +22,8 @@ module _ (t : List ℤ) (cap : ℕ) where
   noKids n = every (kidlessTests (rectangle 0 0) cap t [] n)
 
   -- a cell of level 0 lies in the rectangle, and any other in a cell of the level below
-  abbrev pub insideOf : ℕ → ℕ → ℕ → ℕ → Bool
-  insideOf columns rows d n = cond (eqb (depthOf t d n) d) (ltb (wordOf t n 10) columns && ltb (wordOf t n 11) rows) (flagOf t 0 (linkOf t cap n 0))
+  abbrev pub insideOf : Grid → ℕ → ℕ → Bool
+  insideOf g d n = cond (eqb (depthOf t d n) d) (ltb (wordOf t n 10) (g .columns) && ltb (wordOf t n 11) (g .rows)) (flagOf t 0 (linkOf t cap n 0))
 
   -- "its parent is not blank, and the value bits are the parent's"
   abbrev pub carried : List Float → ℕ → Bool

@@ -2,11 +2,12 @@
 ghost use mathlib.Core.Path.{_≡_};
 ghost use Prim.Native.Nat.{_≤_, _<_};
 ghost use lib.ListN.{length};
-ghost use Rattle.mesh.specs.Place.{rectangle};
+ghost use Rattle.mesh.specs.Headers.{headerOf};
 ghost use Rattle.checking.specs.Rowwise.{blankOk, heldOk, valueOk};
 ghost use Rattle.sound.specs.Lent.{Lent};
 ghost use Rattle.sound.specs.Parts.{carried};
 ghost use Rattle.sound.specs.Plain.{Plain};
+use mesh::header::Header;
 use table::plain::flag;
 use table::plain::link;
 use table::values::is_finite;
@@ -16,9 +17,9 @@ use table::values::value;
 use table::words::says;
 
 // A blank row has the value +0, and its parent is blank if it is a cell.
-pub fn blank_ok(t: &[i32], v: &[f64], cap: usize, columns: u32, rows: u32, d: u32, n: usize) -> bool
-    requires { ⌜ Lent (now t) (now v) cap columns rows d × (n ≤ cap) ⌝ }
-    ensures { λ r. ⌜ r ≡ blankOk (rectangle columns rows) cap (now (t .entry)) (now (v .entry)) n ⌝ }
+pub fn blank_ok(t: &[i32], v: &[f64], cap: usize, header: Header, d: u32, n: usize) -> bool
+    requires { ⌜ Lent (now t) (now v) cap (headerOf header .grid) d × (n ≤ cap) ⌝ }
+    ensures { λ r. ⌜ r ≡ blankOk (headerOf header .grid) cap (now (t .entry)) (now (v .entry)) n ⌝ }
 {
     if !is_plus_zero(value(v, n)) {
         return false;
@@ -37,9 +38,9 @@ fn carried_ok(t: &[i32], v: &[f64], cap: usize, n: usize) -> bool
 }
 
 // A row that is not blank is a cell with a finite value, measured or carried.
-pub fn held_ok(t: &[i32], v: &[f64], cap: usize, columns: u32, rows: u32, d: u32, n: usize) -> bool
-    requires { ⌜ Lent (now t) (now v) cap columns rows d × (n ≤ cap) ⌝ }
-    ensures { λ r. ⌜ r ≡ heldOk (rectangle columns rows) cap (now (t .entry)) (now (v .entry)) n ⌝ }
+pub fn held_ok(t: &[i32], v: &[f64], cap: usize, header: Header, d: u32, n: usize) -> bool
+    requires { ⌜ Lent (now t) (now v) cap (headerOf header .grid) d × (n ≤ cap) ⌝ }
+    ensures { λ r. ⌜ r ≡ heldOk (headerOf header .grid) cap (now (t .entry)) (now (v .entry)) n ⌝ }
 {
     if !(flag(t, cap, 0, n) & is_finite(value(v, n))) {
         return false;
@@ -50,12 +51,12 @@ pub fn held_ok(t: &[i32], v: &[f64], cap: usize, columns: u32, rows: u32, d: u32
     carried_ok(t, v, cap, n)
 }
 
-pub fn value_ok(t: &[i32], v: &[f64], cap: usize, columns: u32, rows: u32, d: u32, n: usize) -> bool
-    requires { ⌜ Lent (now t) (now v) cap columns rows d × (n ≤ cap) ⌝ }
-    ensures { λ r. ⌜ r ≡ valueOk (rectangle columns rows) cap (now (t .entry)) (now (v .entry)) n ⌝ }
+pub fn value_ok(t: &[i32], v: &[f64], cap: usize, header: Header, d: u32, n: usize) -> bool
+    requires { ⌜ Lent (now t) (now v) cap (headerOf header .grid) d × (n ≤ cap) ⌝ }
+    ensures { λ r. ⌜ r ≡ valueOk (headerOf header .grid) cap (now (t .entry)) (now (v .entry)) n ⌝ }
 {
     if says(t, n, 13, 0) {
-        return blank_ok(t, v, cap, columns, rows, d, n);
+        return blank_ok(t, v, cap, header, d, n);
     }
-    held_ok(t, v, cap, columns, rows, d, n)
+    held_ok(t, v, cap, header, d, n)
 }

@@ -1,13 +1,14 @@
 // The checker of lent lists: yes, or refusal 1, 2 or 3.
 ghost use mathlib.Core.Path.{_≡_};
-ghost use Prim.Native.Nat.{ℕ, _<_};
+ghost use Prim.Native.Nat.{_<_};
 ghost use lib.ListN.{length};
 ghost use Rattle.mesh.specs.Call.{checkCall};
+ghost use Rattle.mesh.specs.Headers.{lentOf};
 ghost use Rattle.stock.specs.Free.{NoneBelow};
 ghost use Rattle.checking.proofs.Words.{Fits, FitsAt};
-ghost use Rattle.sound.specs.Called.{lentOf};
 use crate::plain::plain;
 use crate::rowwise;
+use mesh::header::Header;
 use table::words::ROW_WORDS;
 
 // Reads every word, for what that shows: each is a signed number of 32 bits. Nothing comes of it, so no code is left of it either.
@@ -41,8 +42,8 @@ fn refused(why: u32) -> Checked
 }
 
 // Any lists of any length, any capacity and any header. The mark plays no part.
-pub fn check_first(columns: u32, rows: u32, t: &[i32], v: &[f64], capacity: u32) -> Checked
-    ensures { λ r. ⌜ ((mark : ℕ) → r .why ≡ checkCall capacity (lentOf columns rows mark (now (t .entry)) (now (v .entry)))) × (r .why ≡ 0 → NoneBelow capacity (now (t .entry)) (r .first)) ⌝ }
+pub fn check_first(header: Header, t: &[i32], v: &[f64], capacity: u32) -> Checked
+    ensures { λ r. ⌜ (r .why ≡ checkCall capacity (lentOf header (now (t .entry)) (now (v .entry)))) × (r .why ≡ 0 → NoneBelow capacity (now (t .entry)) (r .first)) ⌝ }
 {
     if capacity < 5 {
         return refused(1);
@@ -57,24 +58,24 @@ pub fn check_first(columns: u32, rows: u32, t: &[i32], v: &[f64], capacity: u32)
     if v.len() != cap + 1 {
         return refused(1);
     }
-    if columns < 1 {
+    if header.columns < 1 {
         return refused(2);
     }
-    if 32 < columns {
+    if 32 < header.columns {
         return refused(2);
     }
-    if rows < 1 {
+    if header.rows < 1 {
         return refused(2);
     }
-    if 32 < rows {
+    if 32 < header.rows {
         return refused(2);
     }
     words_fit(t);
-    let d = mesh::ground_depth(columns, rows);
+    let d = mesh::ground_depth(header);
     if !plain(t, cap, d) {
         return refused(3);
     }
-    let first = rowwise(t, v, cap, columns, rows, d);
+    let first = rowwise(t, v, cap, header, d);
     if first == 0 {
         return refused(3);
     }
@@ -82,9 +83,9 @@ pub fn check_first(columns: u32, rows: u32, t: &[i32], v: &[f64], capacity: u32)
 }
 
 // 0 for yes, or the refusal.
-pub fn check(columns: u32, rows: u32, t: &[i32], v: &[f64], capacity: u32) -> u32
-    ensures { λ r. ⌜ ((mark : ℕ) → r ≡ checkCall capacity (lentOf columns rows mark (now (t .entry)) (now (v .entry)))) ⌝ }
+pub fn check(header: Header, t: &[i32], v: &[f64], capacity: u32) -> u32
+    ensures { λ r. ⌜ r ≡ checkCall capacity (lentOf header (now (t .entry)) (now (v .entry))) ⌝ }
 {
-    let c = check_first(columns, rows, t, v, capacity);
+    let c = check_first(header, t, v, capacity);
     c.why
 }

@@ -3,11 +3,12 @@ ghost use mathlib.Core.Path.{_≡_};
 ghost use Prim.Native.Nat.{_+_, _*_, _≤_};
 ghost use lib.Dec.{eqb};
 ghost use lib.ListN.{length};
-ghost use Rattle.mesh.specs.Place.{rectangle};
+ghost use Rattle.mesh.specs.Headers.{headerOf};
 ghost use Rattle.mesh.specs.Picture.{rowWords};
 ghost use Rattle.table.specs.Words.{wordOf};
 ghost use Rattle.checking.specs.Rowwise.{below, emptyOk, zeroOk};
 ghost use Rattle.sound.specs.Lent.{Lent};
+use mesh::header::Header;
 use table::values::is_plus_zero;
 use table::values::value;
 use table::words::says;
@@ -32,18 +33,18 @@ fn unlinked(t: &[i32], n: usize) -> bool
 }
 
 // Whether the row n has nothing but flags.
-pub fn empty_ok(t: &[i32], v: &[f64], cap: usize, columns: u32, rows: u32, d: u32, n: usize) -> bool
-    requires { ⌜ Lent (now t) (now v) cap columns rows d × (n ≤ cap) ⌝ }
-    ensures { λ r. ⌜ r ≡ emptyOk (rectangle columns rows) cap (now (t .entry)) (now (v .entry)) n ⌝ }
+pub fn empty_ok(t: &[i32], v: &[f64], cap: usize, header: Header, d: u32, n: usize) -> bool
+    requires { ⌜ Lent (now t) (now v) cap (headerOf header .grid) d × (n ≤ cap) ⌝ }
+    ensures { λ r. ⌜ r ≡ emptyOk (headerOf header .grid) cap (now (t .entry)) (now (v .entry)) n ⌝ }
 {
     let blank = says(t, n, 13, 0) & is_plus_zero(value(v, n));
     unlinked(t, n) & blank
 }
 
 // Whether row 0 is the nil patch.
-pub fn zero_ok(t: &[i32], v: &[f64], cap: usize, columns: u32, rows: u32, d: u32) -> bool
-    requires { ⌜ Lent (now t) (now v) cap columns rows d ⌝ }
-    ensures { λ r. ⌜ r ≡ zeroOk (rectangle columns rows) cap (now (t .entry)) (now (v .entry)) ⌝ }
+pub fn zero_ok(t: &[i32], v: &[f64], cap: usize, header: Header, d: u32) -> bool
+    requires { ⌜ Lent (now t) (now v) cap (headerOf header .grid) d ⌝ }
+    ensures { λ r. ⌜ r ≡ zeroOk (headerOf header .grid) cap (now (t .entry)) (now (v .entry)) ⌝ }
 {
-    empty_ok(t, v, cap, columns, rows, d, 0) & says(t, 0, 12, 0)
+    empty_ok(t, v, cap, header, d, 0) & says(t, 0, 12, 0)
 }

@@ -2,7 +2,7 @@
 ghost use mathlib.Core.Path.{_≡_};
 ghost use mathlib.Core.Bool.{true, false, not, _||_};
 ghost use Prim.Native.Nat.{_≤_};
-ghost use Rattle.mesh.specs.Place.{rectangle};
+ghost use Rattle.mesh.specs.Headers.{headerOf};
 ghost use Rattle.checking.specs.Rowwise.{ghostOk, touchedOk, cellOk, sentenceOk, pointOk};
 ghost use Rattle.sound.specs.Lent.{Lent};
 ghost use Rattle.sound.specs.Parts.{kidCells, insideOf};
@@ -12,6 +12,7 @@ use crate::flags::cell_flags;
 use crate::plain::depth;
 use crate::plain::index;
 use crate::tree::no_kids;
+use mesh::header::Header;
 use table::plain::flag;
 use table::plain::link;
 use table::words::NE_KID;
@@ -21,25 +22,17 @@ use table::words::SW_KID;
 use table::words::says;
 
 // A ghost has flags 0 and a kid.
-pub fn ghost_ok(t: &[i32], v: &[f64], cap: usize, columns: u32, rows: u32, d: u32, n: usize) -> bool
-    requires { ⌜ Lent (now t) (now v) cap columns rows d × (n ≤ cap) ⌝ }
-    ensures { λ r. ⌜ r ≡ ghostOk (rectangle columns rows) cap (now (t .entry)) (now (v .entry)) n ⌝ }
+pub fn ghost_ok(t: &[i32], v: &[f64], cap: usize, header: Header, d: u32, n: usize) -> bool
+    requires { ⌜ Lent (now t) (now v) cap (headerOf header .grid) d × (n ≤ cap) ⌝ }
+    ensures { λ r. ⌜ r ≡ ghostOk (headerOf header .grid) cap (now (t .entry)) (now (v .entry)) n ⌝ }
 {
     says(t, n, 12, 0) & !no_kids(t, cap, n)
 }
 
 // A patch is touched by a cell.
-pub fn touched_ok(
-    t: &[i32],
-    v: &[f64],
-    cap: usize,
-    columns: u32,
-    rows: u32,
-    d: u32,
-    n: usize,
-) -> bool
-    requires { ⌜ Lent (now t) (now v) cap columns rows d × (n ≤ cap) ⌝ }
-    ensures { λ r. ⌜ r ≡ touchedOk (rectangle columns rows) cap (now (t .entry)) (now (v .entry)) n ⌝ }
+pub fn touched_ok(t: &[i32], v: &[f64], cap: usize, header: Header, d: u32, n: usize) -> bool
+    requires { ⌜ Lent (now t) (now v) cap (headerOf header .grid) d × (n ≤ cap) ⌝ }
+    ensures { λ r. ⌜ r ≡ touchedOk (headerOf header .grid) cap (now (t .entry)) (now (v .entry)) n ⌝ }
 {
     if flag(t, cap, 0, n) {
         return true;
@@ -76,20 +69,20 @@ fn kids_agree(t: &[i32], cap: usize, n: usize) -> bool
 }
 
 // Whether a cell lies in the rectangle, or in a cell of the level below.
-fn inside(t: &[i32], cap: usize, columns: u32, rows: u32, d: u32, n: usize) -> bool
+fn inside(t: &[i32], cap: usize, header: Header, d: u32, n: usize) -> bool
     requires { ⌜ Plain (now t) cap × Levelled (now t) cap d × (n ≤ cap) ⌝ }
-    ensures { λ r. ⌜ r ≡ insideOf (now (t .entry)) cap columns rows d n ⌝ }
+    ensures { λ r. ⌜ r ≡ insideOf (now (t .entry)) cap (headerOf header .grid) d n ⌝ }
 {
     if depth(t, cap, d, n) == d {
-        return (index(t, cap, n, 10) < columns) & (index(t, cap, n, 11) < rows);
+        return (index(t, cap, n, 10) < header.columns) & (index(t, cap, n, 11) < header.rows);
     }
     flag(t, cap, 0, link(t, cap, n, 0))
 }
 
 // A cell has its patches E, N and NE, and its kids are four cells or none.
-pub fn cell_ok(t: &[i32], v: &[f64], cap: usize, columns: u32, rows: u32, d: u32, n: usize) -> bool
-    requires { ⌜ Lent (now t) (now v) cap columns rows d × (n ≤ cap) ⌝ }
-    ensures { λ r. ⌜ r ≡ cellOk (rectangle columns rows) cap (now (t .entry)) (now (v .entry)) n ⌝ }
+pub fn cell_ok(t: &[i32], v: &[f64], cap: usize, header: Header, d: u32, n: usize) -> bool
+    requires { ⌜ Lent (now t) (now v) cap (headerOf header .grid) d × (n ≤ cap) ⌝ }
+    ensures { λ r. ⌜ r ≡ cellOk (headerOf header .grid) cap (now (t .entry)) (now (v .entry)) n ⌝ }
 {
     let north = link(t, cap, n, 5);
     let east = link(t, cap, n, 6);
@@ -97,24 +90,16 @@ pub fn cell_ok(t: &[i32], v: &[f64], cap: usize, columns: u32, rows: u32, d: u32
     if (east == 0) | (north == 0) | (corner == 0) {
         return false;
     }
-    if !inside(t, cap, columns, rows, d, n) {
+    if !inside(t, cap, header, d, n) {
         return false;
     }
     kids_agree(t, cap, n)
 }
 
 // A sentenced row is a leaf above level 0.
-pub fn sentence_ok(
-    t: &[i32],
-    v: &[f64],
-    cap: usize,
-    columns: u32,
-    rows: u32,
-    d: u32,
-    n: usize,
-) -> bool
-    requires { ⌜ Lent (now t) (now v) cap columns rows d × (n ≤ cap) ⌝ }
-    ensures { λ r. ⌜ r ≡ sentenceOk (rectangle columns rows) cap (now (t .entry)) (now (v .entry)) n ⌝ }
+pub fn sentence_ok(t: &[i32], v: &[f64], cap: usize, header: Header, d: u32, n: usize) -> bool
+    requires { ⌜ Lent (now t) (now v) cap (headerOf header .grid) d × (n ≤ cap) ⌝ }
+    ensures { λ r. ⌜ r ≡ sentenceOk (headerOf header .grid) cap (now (t .entry)) (now (v .entry)) n ⌝ }
 {
     flag(t, cap, 0, n) & !(depth(t, cap, d, n) == d) & kid_cells_are(t, cap, n, false)
 }
@@ -124,37 +109,36 @@ fn sentence_if(
     t: &[i32],
     v: &[f64],
     cap: usize,
-    columns: u32,
-    rows: u32,
+    header: Header,
     d: u32,
     n: usize,
     sentenced: bool,
 ) -> bool
-    requires { ⌜ Lent (now t) (now v) cap columns rows d × (n ≤ cap) ⌝ }
-    ensures { λ r. ⌜ r ≡ (not sentenced || sentenceOk (rectangle columns rows) cap (now (t .entry)) (now (v .entry)) n) ⌝ }
+    requires { ⌜ Lent (now t) (now v) cap (headerOf header .grid) d × (n ≤ cap) ⌝ }
+    ensures { λ r. ⌜ r ≡ (not sentenced || sentenceOk (headerOf header .grid) cap (now (t .entry)) (now (v .entry)) n) ⌝ }
 {
     if sentenced {
-        return sentence_ok(t, v, cap, columns, rows, d, n);
+        return sentence_ok(t, v, cap, header, d, n);
     }
     true
 }
 
 // A row from level 0 up.
-pub fn point_ok(t: &[i32], v: &[f64], cap: usize, columns: u32, rows: u32, d: u32, n: usize) -> bool
-    requires { ⌜ Lent (now t) (now v) cap columns rows d × (n ≤ cap) ⌝ }
-    ensures { λ r. ⌜ r ≡ pointOk (rectangle columns rows) cap (now (t .entry)) (now (v .entry)) n ⌝ }
+pub fn point_ok(t: &[i32], v: &[f64], cap: usize, header: Header, d: u32, n: usize) -> bool
+    requires { ⌜ Lent (now t) (now v) cap (headerOf header .grid) d × (n ≤ cap) ⌝ }
+    ensures { λ r. ⌜ r ≡ pointOk (headerOf header .grid) cap (now (t .entry)) (now (v .entry)) n ⌝ }
 {
     let sentenced = flag(t, cap, 12, n);
     if flag(t, cap, 0, n) {
-        if !cell_ok(t, v, cap, columns, rows, d, n) {
+        if !cell_ok(t, v, cap, header, d, n) {
             return false;
         }
-        if !sentence_if(t, v, cap, columns, rows, d, n, sentenced) {
+        if !sentence_if(t, v, cap, header, d, n, sentenced) {
             return false;
         }
         return says(t, n, 12, cell_flags(t, cap, d, n, sentenced));
     }
-    if !touched_ok(t, v, cap, columns, rows, d, n) {
+    if !touched_ok(t, v, cap, header, d, n) {
         return false;
     }
     if sentenced {

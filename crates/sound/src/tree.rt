@@ -4,7 +4,8 @@ ghost use mathlib.Core.Bool.{cond};
 ghost use Prim.Native.Nat.{_+_, _*_, _≤_, _<_};
 ghost use lib.Dec.{eqb};
 ghost use lib.ListN.{length, getD};
-ghost use Rattle.mesh.specs.Place.{rectangle, NE};
+ghost use Rattle.mesh.specs.Place.{NE};
+ghost use Rattle.mesh.specs.Headers.{headerOf};
 ghost use Rattle.mesh.specs.Winds.{winds, kidCol, kidRow};
 ghost use Rattle.mesh.specs.Picture.{rowWords};
 ghost use Rattle.table.specs.Words.{linkOf, depthOf};
@@ -15,6 +16,7 @@ ghost use Rattle.sound.specs.Parts.{linked, noKids, sidesBy};
 ghost use Rattle.sound.specs.Plain.{Plain, Levelled};
 use crate::plain::depth;
 use crate::plain::index;
+use mesh::header::Header;
 use table::plain::link;
 use table::words::NE_KID;
 use table::words::NW_KID;
@@ -42,9 +44,9 @@ pub fn linked_ok(t: &[i32], cap: usize, n: usize) -> bool
 }
 
 // The root has no parent.
-pub fn root_ok(t: &[i32], v: &[f64], cap: usize, columns: u32, rows: u32, d: u32, n: usize) -> bool
-    requires { ⌜ Lent (now t) (now v) cap columns rows d × (n ≤ cap) ⌝ }
-    ensures { λ r. ⌜ r ≡ rootOk (rectangle columns rows) cap (now (t .entry)) (now (v .entry)) n ⌝ }
+pub fn root_ok(t: &[i32], v: &[f64], cap: usize, header: Header, d: u32, n: usize) -> bool
+    requires { ⌜ Lent (now t) (now v) cap (headerOf header .grid) d × (n ≤ cap) ⌝ }
+    ensures { λ r. ⌜ r ≡ rootOk (headerOf header .grid) cap (now (t .entry)) (now (v .entry)) n ⌝ }
 {
     says(t, n, 0, 0) & (depth(t, cap, d, n) == 0) & says(t, n, 10, 0) & says(t, n, 11, 0)
 }
@@ -58,9 +60,9 @@ fn is_above(t: &[i32], cap: usize, d: u32, p: usize, n: usize) -> bool
 }
 
 // Any other row is a kid of its parent.
-pub fn child_ok(t: &[i32], v: &[f64], cap: usize, columns: u32, rows: u32, d: u32, n: usize) -> bool
-    requires { ⌜ Lent (now t) (now v) cap columns rows d × (n ≤ cap) ⌝ }
-    ensures { λ r. ⌜ r ≡ childOk (rectangle columns rows) cap (now (t .entry)) (now (v .entry)) n ⌝ }
+pub fn child_ok(t: &[i32], v: &[f64], cap: usize, header: Header, d: u32, n: usize) -> bool
+    requires { ⌜ Lent (now t) (now v) cap (headerOf header .grid) d × (n ≤ cap) ⌝ }
+    ensures { λ r. ⌜ r ≡ childOk (headerOf header .grid) cap (now (t .entry)) (now (v .entry)) n ⌝ }
 {
     let p = link(t, cap, n, 0);
     if p == 0 {
@@ -93,29 +95,20 @@ pub fn child_ok(t: &[i32], v: &[f64], cap: usize, columns: u32, rows: u32, d: u3
     says(t, p, NE_KID, n as u32)
 }
 
-pub fn place_ok(t: &[i32], v: &[f64], cap: usize, columns: u32, rows: u32, d: u32, n: usize) -> bool
-    requires { ⌜ Lent (now t) (now v) cap columns rows d × (n ≤ cap) ⌝ }
-    ensures { λ r. ⌜ r ≡ placeOk (rectangle columns rows) cap (now (t .entry)) (now (v .entry)) n ⌝ }
+pub fn place_ok(t: &[i32], v: &[f64], cap: usize, header: Header, d: u32, n: usize) -> bool
+    requires { ⌜ Lent (now t) (now v) cap (headerOf header .grid) d × (n ≤ cap) ⌝ }
+    ensures { λ r. ⌜ r ≡ placeOk (headerOf header .grid) cap (now (t .entry)) (now (v .entry)) n ⌝ }
 {
     if n == 1 {
-        return root_ok(t, v, cap, columns, rows, d, n);
+        return root_ok(t, v, cap, header, d, n);
     }
-    child_ok(t, v, cap, columns, rows, d, n)
+    child_ok(t, v, cap, header, d, n)
 }
 
 // The word of the kid in the wind at place w of the table of winds is 0, or names a row in use whose parent is the row n.
-pub fn kid_ok(
-    t: &[i32],
-    v: &[f64],
-    cap: usize,
-    columns: u32,
-    rows: u32,
-    d: u32,
-    n: usize,
-    w: usize,
-) -> bool
-    requires { ⌜ Lent (now t) (now v) cap columns rows d × (n ≤ cap) × (w < 4) ⌝ }
-    ensures { λ r. ⌜ r ≡ kidOk (rectangle columns rows) cap (now (t .entry)) (now (v .entry)) n (kidCol w) (kidRow w) ⌝ }
+pub fn kid_ok(t: &[i32], v: &[f64], cap: usize, header: Header, d: u32, n: usize, w: usize) -> bool
+    requires { ⌜ Lent (now t) (now v) cap (headerOf header .grid) d × (n ≤ cap) × (w < 4) ⌝ }
+    ensures { λ r. ⌜ r ≡ kidOk (headerOf header .grid) cap (now (t .entry)) (now (v .entry)) n (kidCol w) (kidRow w) ⌝ }
 {
     let k = link(t, cap, n, w + 1);
     if k == 0 {
@@ -139,23 +132,23 @@ pub fn no_kids(t: &[i32], cap: usize, n: usize) -> bool
         & (link(t, cap, n, NW_KID) == 0)
 }
 
-pub fn kids_ok(t: &[i32], v: &[f64], cap: usize, columns: u32, rows: u32, d: u32, n: usize) -> bool
-    requires { ⌜ Lent (now t) (now v) cap columns rows d × (n ≤ cap) ⌝ }
-    ensures { λ r. ⌜ r ≡ kidsOk (rectangle columns rows) cap (now (t .entry)) (now (v .entry)) n ⌝ }
+pub fn kids_ok(t: &[i32], v: &[f64], cap: usize, header: Header, d: u32, n: usize) -> bool
+    requires { ⌜ Lent (now t) (now v) cap (headerOf header .grid) d × (n ≤ cap) ⌝ }
+    ensures { λ r. ⌜ r ≡ kidsOk (headerOf header .grid) cap (now (t .entry)) (now (v .entry)) n ⌝ }
 {
     if no_kids(t, cap, n) {
         return true;
     }
-    if !kid_ok(t, v, cap, columns, rows, d, n, mesh::NE) {
+    if !kid_ok(t, v, cap, header, d, n, mesh::NE) {
         return false;
     }
-    if !kid_ok(t, v, cap, columns, rows, d, n, mesh::SE) {
+    if !kid_ok(t, v, cap, header, d, n, mesh::SE) {
         return false;
     }
-    if !kid_ok(t, v, cap, columns, rows, d, n, mesh::SW) {
+    if !kid_ok(t, v, cap, header, d, n, mesh::SW) {
         return false;
     }
-    kid_ok(t, v, cap, columns, rows, d, n, mesh::NW)
+    kid_ok(t, v, cap, header, d, n, mesh::NW)
 }
 
 // The row that a neighbour is a kid of: the parent p, or the parent's neighbour.
@@ -189,9 +182,9 @@ fn sides_by(t: &[i32], cap: usize, n: usize, p: usize, l: u32, m: u32) -> bool
         & says(t, n, 8, side_by(t, cap, p, l, m, 7) as u32)
 }
 
-pub fn sides_ok(t: &[i32], v: &[f64], cap: usize, columns: u32, rows: u32, d: u32, n: usize) -> bool
-    requires { ⌜ Lent (now t) (now v) cap columns rows d × (n ≤ cap) ⌝ }
-    ensures { λ r. ⌜ r ≡ sidesOk (rectangle columns rows) cap (now (t .entry)) (now (v .entry)) n ⌝ }
+pub fn sides_ok(t: &[i32], v: &[f64], cap: usize, header: Header, d: u32, n: usize) -> bool
+    requires { ⌜ Lent (now t) (now v) cap (headerOf header .grid) d × (n ≤ cap) ⌝ }
+    ensures { λ r. ⌜ r ≡ sidesOk (headerOf header .grid) cap (now (t .entry)) (now (v .entry)) n ⌝ }
 {
     // Digits that are written out make the choice of the parent's neighbours one of the compiler's.
     let p = link(t, cap, n, 0);

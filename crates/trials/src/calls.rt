@@ -10,7 +10,9 @@ use crate::lines::tell_lists;
 use crate::lines::tell_shorts;
 use crate::lines::tell_value;
 use crate::lists::word;
-use grid::Header;
+use mesh::header::Header;
+use mesh::header::fresh;
+use mesh::header::with_mark;
 use walk::calls::Reading;
 ghost use Prim.Native.Nat.{_≤_, _<_};
 ghost use lib.ListN.{length};
@@ -21,11 +23,7 @@ fn long(x: u32) -> usize {
 
 fn header(h: &[u32; 12]) -> Header {
     let mark = (h[2] % 65536) as u16;
-    Header {
-        columns: h[0],
-        rows: h[1],
-        mark,
-    }
+    with_mark(fresh(h[0], h[1]), mark)
 }
 
 fn level(x: u32) -> i32 {

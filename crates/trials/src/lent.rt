@@ -1,8 +1,8 @@
 // The entries that are lent the header, each on a header that stands here: what it leaves is handed back.
 ghost use Rattle.grid.specs.Calls.{Builds, Tapes};
 use grid::BuildOut;
-use grid::Header;
 use grid::TapeOut;
+use mesh::header::Header;
 
 pub fn build(
     mut header: Header,

@@ -1,6 +1,6 @@
 -- `build::build_table` meets its contract.
 -- Assumes nothing.
-use Rattle.mesh.specs.Place.{rectangle}
+use Rattle.mesh.specs.Headers.{headerOf}
 use Rattle.geometry.proofs.Base.{Rectangle}
 use Rattle.build.proofs.Whole.{depth-small, all-levels, ground-plain, made}
 use native.Mathlib.Omega.{arith}
@@ -15,14 +15,14 @@ root-table-requires : tie.Need-root-table-requires
 root-table-requires c κs =
     let p = c .before .before .before .pre in
     let ground = c .before .ground-depth .ensures in
-    let in-range : Rectangle (rectangle (c .before .before .before .args .columns) (c .before .before .before .args .rows)) = (p .4, p .5, p .6, p .7) in
+    let in-range : Rectangle (headerOf (c .before .before .before .args .header) .grid) = (p .4, p .5, p .6, p .7) in
     (omega arith, omega arith, omega arith, omega (arith, depth-small _ _ _ ground in-range (p .2) (p .3) (p .8)))
 
 grow-levels-requires : tie.Need-grow-levels-requires
 grow-levels-requires c κs =
     let p = c .before .before .before .before .before .before .pre in
     let ground = c .before .before .before .before .ground-depth .ensures in
-    let in-range : Rectangle (rectangle (c .before .before .before .before .before .before .args .columns) (c .before .before .before .before .before .before .args .rows)) = (p .4, p .5, p .6, p .7) in (
+    let in-range : Rectangle (headerOf (c .before .before .before .before .before .before .args .header) .grid) = (p .4, p .5, p .6, p .7) in (
       omega (arith, c .before .before .root-table .kept .0),
       omega arith,
       omega (arith, depth-small _ _ _ ground in-range (p .2) (p .3) (p .8)),
@@ -44,7 +44,7 @@ wall-rows-requires c κs =
     let start = a .before .before in
     let p = start .pre in
     let ground = a .ground-depth .ensures in
-    let in-range : Rectangle (rectangle (start .args .columns) (start .args .rows)) = (p .4, p .5, p .6, p .7) in
+    let in-range : Rectangle (headerOf (start .args .header) .grid) = (p .4, p .5, p .6, p .7) in
     let r = b₂ .grow-levels .ensures in (
       omega (arith, b₃ .root-table .kept .0, b₂ .grow-levels .kept .0, b₁ .put-ground .kept .0),
       omega arith,
@@ -92,7 +92,7 @@ returns c =
     let start = a .before .before in
     let p = start .pre in
     let ground = a .ground-depth .ensures in
-    let in-range : Rectangle (rectangle (start .args .columns) (start .args .rows)) = (p .4, p .5, p .6, p .7) in
+    let in-range : Rectangle (headerOf (start .args .header) .grid) = (p .4, p .5, p .6, p .7) in
     made _ _ _ ground in-range (p .2) (p .3) (p .8) _ _ _ _ _ (b₆ .root-table .ensures) (b₅ .grow-levels .ensures) (b₄ .put-ground .ensures) _ _ _ (b₃ .wall-rows .ensures .0) (b₂ .mark-rows .ensures) (b₁ .blank-values .ensures)
 
 pub build-table-spec : {M : Type 1} → statement M

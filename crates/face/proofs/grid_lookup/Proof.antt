@@ -40,9 +40,9 @@ use denote.Triple.Walked.{says, Stays, stay-none-ref, gave-ref, stay-none, stay-
 use denote.Exit.{yes}
 use denote.Signature.{plain}
 use Rattle.face.specs.Outputs.{Looks}
-use Rattle.grid.specs.declared.Header.{Header}
-use Rattle.grid.proofs.Header as T
-use Rattle.grid.proofs.Header.Laws as T′
+use Rattle.mesh.specs.declared.header.Header.{Header}
+use Rattle.mesh.proofs.header.Header as T
+use Rattle.mesh.proofs.header.Header.Laws as T′
 use Rattle.face.proofs.lookup_core as core
 use Rattle.face.proofs.lookup_core.Symbol as core-def
 use Rattle.face.proofs.lookup_core.Symbol.{name as #core}

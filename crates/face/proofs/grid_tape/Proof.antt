@@ -43,9 +43,9 @@ use denote.Triple.Walked.{says, Stays, stay-ref, gave-slice, gave-ref, stay-none
 use denote.Exit.{yes}
 use denote.Signature.{plain}
 use Rattle.face.specs.Outputs.{Tapes}
-use Rattle.grid.specs.declared.Header.{Header}
-use Rattle.grid.proofs.Header as T
-use Rattle.grid.proofs.Header.Laws as T′
+use Rattle.mesh.specs.declared.header.Header.{Header}
+use Rattle.mesh.proofs.header.Header as T
+use Rattle.mesh.proofs.header.Header.Laws as T′
 use Rattle.face.specs.declared.Left.{Left}
 use Rattle.face.proofs.Left as Co
 use Rattle.face.proofs.Left.Laws as Co′

@@ -43,9 +43,9 @@ use denote.Triple.Walked.{says, Stays, stay-ref, gave-slice, stay-none, walkOf, 
 use denote.Exit.{yes}
 use denote.Signature.{plain}
 use Rattle.grid.specs.Calls.{Builds}
-use Rattle.grid.specs.declared.Header.{Header}
-use Rattle.grid.proofs.Header as T
-use Rattle.grid.proofs.Header.Laws as T′
+use Rattle.mesh.specs.declared.header.Header.{Header}
+use Rattle.mesh.proofs.header.Header as T
+use Rattle.mesh.proofs.header.Header.Laws as T′
 use Rattle.grid.proofs.Built as An
 use Rattle.grid.proofs.Built.Laws as An′
 use Rattle.grid.specs.declared.BuildOut.{BuildOut}

@@ -10,50 +10,47 @@ use Rattle.grid.proofs.build_core.Lts as lts
 use Rattle.build.proofs.build_table.Reads as build-table-reads
 use Rattle.grid.proofs.build_refusal.Reads as build-refusal-reads
 
--- src/lib.rt:115:9
+fresh-requires : tie.Need-fresh-requires
+fresh-requires c κs = search needs
+
 build-refusal-requires : tie.Need-build-refusal-requires
 build-refusal-requires c κs = search needs
 
--- src/lib.rt:117:9
 same-length : tie.Need-same-length
 same-length c = search needs
 
--- src/lib.rt:117:9
 same-length-2 : tie.Need-same-length-2
 same-length-2 c = search needs
 
--- src/lib.rt:117:9
 returns : tie.Need-returns
-returns c = build-refused _ _ _ _ _ _ (c .before .build-refusal .result) (c .before .build-refusal .ensures _) (c .if1 .taken)
+returns c = build-refused _ _ _ _ _ _ (c .before .before .before .before .fresh .ensures) (c .before .build-refusal .result) (c .before .build-refusal .ensures _) (c .if1 .taken)
 
--- src/lib.rt:122:9
 build-table-requires : tie.Need-build-table-requires
 build-table-requires c κs =
-    let a = c .before .before .before .before .before .before .before .args in
+    let a = c .before .before .before .before .before .before .before .before .args in
+    let new = c .before .before .before .before .before .before .fresh .ensures in
     let none = c .before .before .if1 .left in
     let is = c .before .before .before .build-refusal .ensures _ in
-    let z = sized (a .header) (a .table .now) (a .values .now) (a .capacity) (a .columns) (a .rows) _ is none in
-    let b = buildable (a .header) (a .table .now) (a .values .now) (a .capacity) (a .columns) (a .rows) _ is none in
+    let z = sized (a .header) (a .table .now) (a .values .now) (a .capacity) (a .columns) (a .rows) new _ is none in
+    let b = buildable (a .header) (a .table .now) (a .values .now) (a .capacity) (a .columns) (a .rows) new _ is none in
     (omega (arith, z .0), z .1, b .sizes .0, b .sizes .1, b .rectangle .0, b .rectangle .1, b .rectangle .2, b .rectangle .3, b .room)
 
--- src/lib.rt:105:1
 same-length-3 : tie.Need-same-length-3
 same-length-3 c = search needs
 
--- src/lib.rt:105:1
 same-length-4 : tie.Need-same-length-4
 same-length-4 c = search needs
 
--- src/lib.rt:105:1
 returns-2 : tie.Need-returns-2
 returns-2 c =
-    let a = c .before .before .before .before .before .before .before .before .before .before .before .args in
-    build-made (a .header) (a .table .now) (a .values .now) (a .capacity) (a .columns) (a .rows) _ (c .before .before .before .before .before .before .before .build-refusal .ensures _) (c .before .before .before .before .before .before .if1 .left) _ _ _ (c .before .before .before .build-table .ensures)
+    let a = c .before .before .before .before .before .before .before .before .before .before .before .before .args in
+    build-made (a .header) (a .table .now) (a .values .now) (a .capacity) (a .columns) (a .rows) (c .before .before .before .before .before .before .before .before .before .before .fresh .ensures) _ (c .before .before .before .before .before .before .before .build-refusal .ensures _) (c .before .before .before .before .before .before .if1 .left) _ _ _ (c .before .before .before .build-table .ensures)
 
 pub build-core-spec : {M : Type 1} → statement M
 build-core-spec =
     tie.close
     (tie.spec
+    fresh-requires
     build-refusal-requires
     same-length
     same-length-2

@@ -3,8 +3,8 @@
 use borrow.Author.Needs.{needs}
 use native.Mathlib.Omega.{arith}
 use mathlib.Core.Path.{_≡_, sym}
-use Rattle.mesh.specs.Place.{rectangle}
 use Rattle.mesh.specs.Call.{buildChecks}
+use Rattle.mesh.specs.Headers.{headerOf}
 use Rattle.sound.proofs.Checking.{too-small, too-large, wrong-table, wrong-values, columns-below, columns-above, rows-below, rows-above}
 use Rattle.grid.specs.Calls.{lists}
 use Rattle.grid.proofs.Builds.{too-few, enough}
@@ -42,19 +42,19 @@ returns-4 c = λ h. wrong-values _ (lists h (c .before .before .before .before .
 
 returns-5 : tie.Need-returns-5
 unfolding buildChecks
-returns-5 c = λ h. columns-below _ (lists h (c .before .before .before .before .before .before .args .table .now) (c .before .before .before .before .before .before .args .values .now)) (rectangle (c .before .before .before .before .before .before .args .columns) (c .before .before .before .before .before .before .args .rows)) _ (omega arith) (omega arith) (omega arith) (omega arith) (c .if5 .taken)
+returns-5 c = λ h. columns-below _ (lists h (c .before .before .before .before .before .before .before .args .table .now) (c .before .before .before .before .before .before .before .args .values .now)) (headerOf (c .before .before .before .before .before .before .before .args .header) .grid) _ (omega arith) (omega arith) (omega arith) (omega arith) (c .if5 .taken)
 
 returns-6 : tie.Need-returns-6
 unfolding buildChecks
-returns-6 c = λ h. columns-above _ (lists h (c .before .before .before .before .before .before .before .args .table .now) (c .before .before .before .before .before .before .before .args .values .now)) (rectangle (c .before .before .before .before .before .before .before .args .columns) (c .before .before .before .before .before .before .before .args .rows)) _ (omega arith) (omega arith) (omega arith) (omega arith) (c .if6 .taken)
+returns-6 c = λ h. columns-above _ (lists h (c .before .before .before .before .before .before .before .before .before .args .table .now) (c .before .before .before .before .before .before .before .before .before .args .values .now)) (headerOf (c .before .before .before .before .before .before .before .before .before .args .header) .grid) _ (omega arith) (omega arith) (omega arith) (omega arith) (c .if6 .taken)
 
 returns-7 : tie.Need-returns-7
 unfolding buildChecks
-returns-7 c = λ h. rows-below _ (lists h (c .before .before .before .before .before .before .before .before .args .table .now) (c .before .before .before .before .before .before .before .before .args .values .now)) (rectangle (c .before .before .before .before .before .before .before .before .args .columns) (c .before .before .before .before .before .before .before .before .args .rows)) _ (omega arith) (omega arith) (omega arith) (omega arith) (c .if7 .taken)
+returns-7 c = λ h. rows-below _ (lists h (c .before .before .before .before .before .before .before .before .before .before .before .args .table .now) (c .before .before .before .before .before .before .before .before .before .before .before .args .values .now)) (headerOf (c .before .before .before .before .before .before .before .before .before .before .before .args .header) .grid) _ (omega arith) (omega arith) (omega arith) (omega arith) (c .if7 .taken)
 
 returns-8 : tie.Need-returns-8
 unfolding buildChecks
-returns-8 c = λ h. rows-above _ (lists h (c .before .before .before .before .before .before .before .before .before .args .table .now) (c .before .before .before .before .before .before .before .before .before .args .values .now)) (rectangle (c .before .before .before .before .before .before .before .before .before .args .columns) (c .before .before .before .before .before .before .before .before .before .args .rows)) _ (omega arith) (omega arith) (omega arith) (omega arith) (c .if8 .taken)
+returns-8 c = λ h. rows-above _ (lists h (c .before .before .before .before .before .before .before .before .before .before .before .before .before .args .table .now) (c .before .before .before .before .before .before .before .before .before .before .before .before .before .args .values .now)) (headerOf (c .before .before .before .before .before .before .before .before .before .before .before .before .before .args .header) .grid) _ (omega arith) (omega arith) (omega arith) (omega arith) (c .if8 .taken)
 
 ground-depth-requires : tie.Need-ground-depth-requires
 ground-depth-requires c κs = search needs
@@ -63,10 +63,10 @@ patches-in-requires : tie.Need-patches-in-requires
 patches-in-requires c κs = search needs
 
 returns-9 : tie.Need-returns-9
-returns-9 c = λ h. too-few _ (lists h (c .before .before .before .before .before .before .before .before .before .before .before .before .args .table .now) (c .before .before .before .before .before .before .before .before .before .before .before .before .args .values .now)) (rectangle (c .before .before .before .before .before .before .before .before .before .before .before .before .args .columns) (c .before .before .before .before .before .before .before .before .before .before .before .before .args .rows)) (omega arith) (omega arith) (omega arith) (omega arith) (omega arith, omega arith, omega arith, omega arith) (omega (arith, c .before .patches-in .ensures, c .if9 .taken))
+returns-9 c = λ h. too-few _ (lists h (c .before .before .before .before .before .before .before .before .before .before .before .before .before .before .before .before .args .table .now) (c .before .before .before .before .before .before .before .before .before .before .before .before .before .before .before .before .args .values .now)) (headerOf (c .before .before .before .before .before .before .before .before .before .before .before .before .before .before .before .before .args .header) .grid) (omega arith) (omega arith) (omega arith) (omega arith) (omega arith, omega arith, omega arith, omega arith) (omega (arith, c .before .patches-in .ensures, c .if9 .taken))
 
 returns-10 : tie.Need-returns-10
-returns-10 c = λ h. enough _ (lists h (c .before .before .before .before .before .before .before .before .before .before .before .before .args .table .now) (c .before .before .before .before .before .before .before .before .before .before .before .before .args .values .now)) (rectangle (c .before .before .before .before .before .before .before .before .before .before .before .before .args .columns) (c .before .before .before .before .before .before .before .before .before .before .before .before .args .rows)) (omega arith) (omega arith) (omega arith) (omega arith) (omega arith, omega arith, omega arith, omega arith) (omega (arith, c .before .patches-in .ensures, c .if9 .left))
+returns-10 c = λ h. enough _ (lists h (c .before .before .before .before .before .before .before .before .before .before .before .before .before .before .before .before .args .table .now) (c .before .before .before .before .before .before .before .before .before .before .before .before .before .before .before .before .args .values .now)) (headerOf (c .before .before .before .before .before .before .before .before .before .before .before .before .before .before .before .before .args .header) .grid) (omega arith) (omega arith) (omega arith) (omega arith) (omega arith, omega arith, omega arith, omega arith) (omega (arith, c .before .patches-in .ensures, c .if9 .left))
 
 pub build-refusal-spec : {M : Type 1} → statement M
 build-refusal-spec =

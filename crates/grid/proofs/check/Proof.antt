@@ -6,13 +6,11 @@ use Rattle.grid.proofs.check.Reads as reads
 use Rattle.grid.proofs.check.Lts as lts
 use Rattle.sound.proofs.checks.check.Reads as check-reads
 
--- src/lib.rt:23:5
 check-requires : tie.Need-check-requires
 check-requires c κs = search needs
 
--- src/lib.rt:20:1
 returns : tie.Need-returns
-returns c = c .check .ensures (c .before .before .args .header .mark)
+returns c = c .check .ensures
 
 pub check-spec : {M : Type 1} → statement M
 check-spec = tie.close (tie.spec check-requires returns)

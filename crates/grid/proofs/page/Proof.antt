@@ -3,7 +3,7 @@
 use borrow.Author.Needs.{needs}
 use native.Mathlib.Omega.{arith}
 use mathlib.Core.Path.{sym, _∙_}
-use Rattle.grid.specs.Calls.{lentOf}
+use Rattle.mesh.specs.Headers.{lentOf}
 use Rattle.grid.proofs.First.{sizes, page-first, page-listed, page-done}
 use Rattle.grid.proofs.page.Statement.{statement}
 use Rattle.grid.proofs.page.Tie as tie
@@ -17,22 +17,19 @@ returns c = page-first _ _ (c .before .check .result) (c .before .check .ensures
 ground-depth-requires : tie.Need-ground-depth-requires
 ground-depth-requires c κs = search needs
 
-cast-mark : tie.Need-cast-mark
-cast-mark c = search needs
-
 write-page-requires : tie.Need-write-page-requires
 write-page-requires c κs =
-    let ok = sym (c .before .before .before .before .check .ensures) ∙ c .before .before .before .if1 .left in
+    let ok = sym (c .before .before .before .check .ensures) ∙ c .before .before .if1 .left in
     let s = sizes _ _ ok in
-    (omega (arith, s .words), omega (arith, s .low), omega (arith, s .values), s .high, page-listed _ _ _ ok (s .high) (c .before .before .ground-depth .ensures))
+    (omega (arith, s .words), omega (arith, s .low), omega (arith, s .values), s .high, page-listed _ _ _ ok (s .high) (c .before .ground-depth .ensures))
 
 same-length : tie.Need-same-length
 same-length c = search needs
 
 returns-2 : tie.Need-returns-2
 returns-2 c =
-    let a = c .before .before .before .before .before .before .before .before .before .before .args in
-    page-done (a .capacity) (lentOf (a .header) (a .table .now) (a .values .now)) (a .out .now) _ _ (sym (c .before .before .before .before .before .before .before .check .ensures) ∙ c .before .before .before .before .before .before .if1 .left) (c .before .before .before .before .before .ground-depth .ensures) (c .before .before .write-page .ensures)
+    let a = c .before .before .before .before .before .before .before .before .before .args in
+    page-done (a .capacity) (lentOf (a .header) (a .table .now) (a .values .now)) (a .out .now) _ _ (sym (c .before .before .before .before .before .before .check .ensures) ∙ c .before .before .before .before .before .if1 .left) (c .before .before .before .before .ground-depth .ensures) (c .before .before .write-page .ensures)
 
 pub page-spec : {M : Type 1} → statement M
 page-spec =
@@ -41,7 +38,6 @@ page-spec =
     check-requires
     returns
     ground-depth-requires
-    cast-mark
     write-page-requires
     same-length
     returns-2)

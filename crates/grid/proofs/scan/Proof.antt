@@ -3,7 +3,6 @@
 use borrow.Author.Needs.{needs}
 use mathlib.Core.Path.{sym, _∙_}
 use mir.Facts.{toZ-ofZ}
-use Rattle.grid.specs.Calls.{lentOf}
 use Rattle.grid.proofs.First.{lent-plain, lent-few, scan-first, scan-done}
 use Rattle.grid.proofs.scan.Statement.{statement}
 use Rattle.grid.proofs.scan.Tie as tie
@@ -11,6 +10,7 @@ use Rattle.grid.proofs.scan.Reads as reads
 use Rattle.grid.proofs.scan.Lts as lts
 use Rattle.grid.proofs.check.Reads as check-reads
 use Rattle.mesh.proofs.ground_depth.Reads as ground-depth-reads
+use Rattle.mesh.specs.Headers.{lentOf}
 use Rattle.walk.proofs.calls.scan_out.Reads as scan-out-reads
 
 check-requires : tie.Need-check-requires

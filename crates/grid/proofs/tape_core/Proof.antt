@@ -21,7 +21,7 @@ same-length-2 : tie.Need-same-length-2
 same-length-2 c = search needs
 
 returns : tie.Need-returns
-returns c = tape-first _ _ _ _ _ (c .before .before .check-first .result .why) (c .before .before .check-first .ensures .0 (c .before .before .before .before .before .before .before .args .header .mark)) (c .if1 .taken)
+returns c = tape-first _ _ _ _ _ (c .before .before .check-first .result .why) (c .before .before .check-first .ensures .0) (c .if1 .taken)
 
 ground-depth-requires : tie.Need-ground-depth-requires
 ground-depth-requires c κs = search needs
@@ -29,7 +29,10 @@ ground-depth-requires c κs = search needs
 run-tape-requires : tie.Need-run-tape-requires
 run-tape-requires c κs =
     let a = c .before .before .before .before .before .before .before .before .before .before .args in
-    (tape-pictured (a .header) (a .table .now) (a .values .now) (a .capacity) (a .tape .now) (sym (c .before .before .before .before .before .check-first .ensures .0 (a .header .mark)) ∙ c .before .before .before .if1 .left) (c .before .before .ground-depth .ensures), c .before .before .before .before .before .check-first .ensures .1 (c .before .before .before .if1 .left))
+    (tape-pictured (a .header) (a .table .now) (a .values .now) (a .capacity) (a .tape .now) (sym (c .before .before .before .before .before .check-first .ensures .0) ∙ c .before .before .before .if1 .left) (c .before .before .ground-depth .ensures), c .before .before .before .before .before .check-first .ensures .1 (c .before .before .before .if1 .left))
+
+with-mark-requires : tie.Need-with-mark-requires
+with-mark-requires c κs = search needs
 
 same-length-3 : tie.Need-same-length-3
 same-length-3 c = search needs
@@ -39,8 +42,9 @@ same-length-4 c = search needs
 
 returns-2 : tie.Need-returns-2
 returns-2 c =
-    let a = c .before .before .before .before .before .before .before .before .before .before .before .before .before .before .args in
-    tape-done (a .header) (a .table .now) (a .values .now) (a .capacity) (a .tape .now) (sym (c .before .before .before .before .before .before .before .before .before .check-first .ensures .0 (a .header .mark)) ∙ c .before .before .before .before .before .before .before .if1 .left) (c .before .before .before .before .before .before .ground-depth .ensures) (c .before .before .before .run-tape .ensures)
+    let w = c .before in
+    let a = w .before .before .before .before .before .before .before .before .before .before .before .before .before .before .args in
+    tape-done (a .header) (a .table .now) (a .values .now) (a .capacity) (a .tape .now) (sym (w .before .before .before .before .before .before .before .before .before .check-first .ensures .0) ∙ w .before .before .before .before .before .before .before .if1 .left) (w .before .before .before .before .before .before .ground-depth .ensures) (c .with-mark .ensures) (w .before .before .before .run-tape .ensures)
 
 pub tape-core-spec : {M : Type 1} → statement M
 tape-core-spec =
@@ -52,6 +56,7 @@ tape-core-spec =
     returns
     ground-depth-requires
     run-tape-requires
+    with-mark-requires
     same-length-3
     same-length-4
     returns-2)

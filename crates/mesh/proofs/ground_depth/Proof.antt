@@ -17,13 +17,13 @@ sub-result-2 c = leading-le 32 _
 returns : tie.Need-returns
 unfolding base
 returns c =
-    let e : max (c .before .args .columns) (c .before .args .rows) ≡ c .before .args .rows = omega arith in
+    let e : max (c .before .before .before .args .header .columns) (c .before .before .before .args .header .rows) ≡ c .before .before .before .args .header .rows = omega arith in
     ap (λ (m : ℕ). 32 - leadingZeros 32 m) (sym e)
 
 returns-2 : tie.Need-returns-2
 unfolding base
 returns-2 c =
-    let e : max (c .before .args .columns) (c .before .args .rows) ≡ c .before .args .columns = omega arith in
+    let e : max (c .before .before .before .args .header .columns) (c .before .before .before .args .header .rows) ≡ c .before .before .before .args .header .columns = omega arith in
     ap (λ (m : ℕ). 32 - leadingZeros 32 m) (sym e)
 
 pub ground-depth-spec : {M : Type 1} → statement M

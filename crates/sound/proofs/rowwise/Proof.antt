@@ -4,7 +4,7 @@ use mathlib.Core.Path.{_≡_, refl, sym}
 use mathlib.Core.Bool.{true}
 use Prim.Native.Nat.{_-_, _≤_}
 use borrow.Author.Tests.{not-true, not-false}
-use Rattle.mesh.specs.Place.{rectangle}
+use Rattle.mesh.specs.Headers.{headerOf}
 use Rattle.checking.specs.Rowwise.{below}
 use Rattle.sound.proofs.Loop.{good, rows-more, no-zero, no-root, no-row, all-rows}
 use borrow.Author.Needs.{needs}
@@ -14,10 +14,10 @@ use Rattle.sound.proofs.rowwise.Statement.{statement}
 use Rattle.sound.proofs.rowwise.Tie as tie
 
 abbrev Inv-loop : tie.InvT-loop
-Inv-loop t v cap columns rows d first₀ k₀ first k = (k ≤ cap) × (below k (good (rectangle columns rows) cap t v) ≡ true) × Firsts cap t k first
+Inv-loop t v cap header d first₀ k₀ first k = (k ≤ cap) × (below k (good (headerOf header .grid) cap t v) ≡ true) × Firsts cap t k first
 
 abbrev μ-loop : tie.MeasureT-loop
-μ-loop t v cap columns rows d first₀ k₀ first k = cap - k
+μ-loop t v cap header d first₀ k₀ first k = cap - k
 
 zero-ok-requires : tie.Need-zero-ok-requires Inv-loop μ-loop
 zero-ok-requires c κs = search needs

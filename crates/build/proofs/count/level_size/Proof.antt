@@ -13,23 +13,33 @@ shr-a : tie.Need-shr-a
 shr-a c = search needs
 
 add-a : tie.Need-add-a
-add-a c = omega (arith, side-le (c .args .columns) (c .args .up) (omega arith))
+add-a c =
+    let a = c .before .args in
+    omega (arith, side-le (a .header .columns) (a .up) (omega arith))
 
 shr-b : tie.Need-shr-b
 shr-b c = search needs
 
 add-b : tie.Need-add-b
-add-b c = omega (arith, side-le (c .args .rows) (c .args .up) (omega arith))
+add-b c =
+    let a = c .before .before .args in
+    omega (arith, side-le (a .header .rows) (a .up) (omega arith))
 
 mul-result : tie.Need-mul-result
-mul-result c = omega (arith, level-le (c .args .columns / 2 ^ c .args .up + 1) (c .args .rows / 2 ^ c .args .up + 1) (omega (arith, side-le (c .args .columns) (c .args .up) (omega arith))) (omega (arith, side-le (c .args .rows) (c .args .up) (omega arith))))
+mul-result c =
+    let a = c .before .before .args in
+    omega (arith, level-le (a .header .columns / 2 ^ a .up + 1) (a .header .rows / 2 ^ a .up + 1) (omega (arith, side-le (a .header .columns) (a .up) (omega arith))) (omega (arith, side-le (a .header .rows) (a .up) (omega arith))))
 
 cast-result : tie.Need-cast-result
-cast-result c = omega (arith, level-le (c .args .columns / 2 ^ c .args .up + 1) (c .args .rows / 2 ^ c .args .up + 1) (omega (arith, side-le (c .args .columns) (c .args .up) (omega arith))) (omega (arith, side-le (c .args .rows) (c .args .up) (omega arith))))
+cast-result c =
+    let a = c .before .before .args in
+    omega (arith, level-le (a .header .columns / 2 ^ a .up + 1) (a .header .rows / 2 ^ a .up + 1) (omega (arith, side-le (a .header .columns) (a .up) (omega arith))) (omega (arith, side-le (a .header .rows) (a .up) (omega arith))))
 
 returns : tie.Need-returns
 unfolding levelSize
-returns c = (level-le _ _ (omega (arith, side-le (c .args .columns) (c .args .up) (omega arith))) (omega (arith, side-le (c .args .rows) (c .args .up) (omega arith))), refl)
+returns c =
+    let a = c .before .before .args in
+    (level-le _ _ (omega (arith, side-le (a .header .columns) (a .up) (omega arith))) (omega (arith, side-le (a .header .rows) (a .up) (omega arith))), refl)
 
 pub level-size-spec : {M : Type 1} → statement M
 level-size-spec = tie.close (tie.spec shr-a add-a shr-b add-b mul-result cast-result returns)

@@ -2,7 +2,7 @@
 -- Assumes nothing.
 use Prim.Native.Nat.{_+_, _*_, _-_, _≤_}
 use mathlib.Core.Path.{_≡_, sym}
-use Rattle.mesh.specs.Place.{rectangle}
+use Rattle.mesh.specs.Headers.{headerOf}
 use Rattle.geometry.proofs.Base.{base-range}
 use Rattle.numbering.proofs.Sizes.{levelsSize}
 use Rattle.build.proofs.Sizes.{sizes-none, sizes-more, sizes-all}
@@ -11,13 +11,13 @@ use Rattle.build.proofs.count.patches_in.Statement.{statement}
 use Rattle.build.proofs.count.patches_in.Tie as tie
 
 abbrev Inv-loop : tie.InvT-loop
-Inv-loop columns rows d sum₀ up₀ sum up = (d ≤ 6) × (up ≤ d + 1) × (sum ≤ 1089 * up) × (sum ≡ levelsSize (rectangle columns rows) up)
+Inv-loop header d sum₀ up₀ sum up = (d ≤ 6) × (up ≤ d + 1) × (sum ≤ 1089 * up) × (sum ≡ levelsSize (headerOf header .grid) up)
 
 abbrev μ-loop : tie.MeasureT-loop
-μ-loop columns rows d sum₀ up₀ sum up = d + 1 - up
+μ-loop header d sum₀ up₀ sum up = d + 1 - up
 
 loop-holds : tie.Need-loop-holds Inv-loop μ-loop
-loop-holds c = (omega (arith, base-range (rectangle (c .args .columns) (c .args .rows)) (c .pre .0, c .pre .1, c .pre .2, c .pre .3)), omega arith, omega arith, sym (sizes-none (c .args .columns) (c .args .rows)))
+loop-holds c = (omega (arith, base-range (headerOf (c .args .header) .grid) (c .pre .0, c .pre .1, c .pre .2, c .pre .3)), omega arith, omega arith, sym (sizes-none (headerOf (c .args .header) .grid)))
 
 level-size-requires : tie.Need-level-size-requires Inv-loop μ-loop
 level-size-requires c κs = (omega arith, omega arith, omega arith)
@@ -32,10 +32,10 @@ loop-less : tie.Need-loop-less Inv-loop μ-loop
 loop-less c = omega arith
 
 loop-again : tie.Need-loop-again Inv-loop μ-loop
-loop-again c = (omega arith, omega arith, omega arith, sizes-more (c .before .before .before .args .columns) (c .before .before .before .args .rows) (c .before .before .loop .up) _ (c .before .before .loop .sum) (c .before .before .loop .inv .3) (c .level-size .ensures .1))
+loop-again c = (omega arith, omega arith, omega arith, sizes-more (headerOf (c .before .before .before .args .header) .grid) (c .before .before .loop .up) _ (c .before .before .loop .sum) (c .before .before .loop .inv .3) (c .level-size .ensures .1))
 
 returns : tie.Need-returns Inv-loop μ-loop
-returns c = sizes-all (c .before .before .args .columns) (c .before .before .args .rows) (c .before .before .args .d) (c .before .loop .up) (c .before .loop .sum) (c .before .before .pre .0, c .before .before .pre .1, c .before .before .pre .2, c .before .before .pre .3) (c .before .before .pre .4) (omega arith) (c .before .loop .inv .3)
+returns c = sizes-all (headerOf (c .before .before .args .header) .grid) (c .before .before .args .d) (c .before .loop .up) (c .before .loop .sum) (c .before .before .pre .0, c .before .before .pre .1, c .before .before .pre .2, c .before .before .pre .3) (c .before .before .pre .4) (omega arith) (c .before .loop .inv .3)
 
 pub patches-in-spec : {M : Type 1} → statement M
 patches-in-spec =

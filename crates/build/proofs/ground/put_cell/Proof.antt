@@ -1,5 +1,6 @@
 -- `build::ground::put_cell` meets its contract.
 -- Assumes nothing.
+use Rattle.mesh.specs.Headers.{headerOf}
 use Rattle.build.proofs.Grounds.{row-out, row-in}
 use borrow.Author.Needs.{needs}
 use Rattle.build.proofs.ground.put_cell.Statement.{statement}
@@ -16,8 +17,9 @@ same-length c = search needs
 
 returns : tie.Need-returns
 returns c =
-    let a = c .before .before .before .before .before .args in
-    row-out (a .columns) (a .rows) (a .n) (a .t .now) (c .before .before .before .word .ensures) (c .before .word2 .ensures) (c .if1 .taken)
+    let w = c .before .before in
+    let a = w .before .before .before .before .before .args in
+    row-out (headerOf (a .header) .grid) (a .n) (a .t .now) (w .before .before .before .word .ensures) (w .before .word2 .ensures) (c .if1 .taken)
 
 put-requires : tie.Need-put-requires
 put-requires c κs = search needs
@@ -27,8 +29,9 @@ same-length-2 c = search needs
 
 returns-2 : tie.Need-returns-2
 returns-2 c =
-    let a = c .before .before .before .before .before .before .before .before .args in
-    row-in (a .columns) (a .rows) (a .n) (a .t .now) (c .before .before .before .before .before .before .word .ensures) (c .before .before .before .before .word2 .ensures) (c .before .before .before .if1 .left) (c .before .put .ensures)
+    let w = c .before .before .before .before .before in
+    let a = w .before .before .before .before .before .args in
+    row-in (headerOf (a .header) .grid) (a .n) (a .t .now) (w .before .before .before .word .ensures) (w .before .word2 .ensures) (c .before .before .before .if1 .left) (c .before .put .ensures)
 
 pub put-cell-spec : {M : Type 1} → statement M
 put-cell-spec =

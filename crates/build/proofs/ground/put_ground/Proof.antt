@@ -3,7 +3,7 @@
 use Prim.Native.Nat.{_-_, _≤_}
 use mathlib.Core.Path.{_≡_, refl, sym, _∙_}
 use lib.ListN.{length}
-use Rattle.mesh.specs.Place.{rectangle}
+use Rattle.mesh.specs.Headers.{headerOf}
 use Rattle.editing.specs.Built.{eachRow, groundRow}
 use Rattle.build.proofs.Turns.{rows-on, rows-done}
 use native.Mathlib.Omega.{arith}
@@ -11,10 +11,10 @@ use Rattle.build.proofs.ground.put_ground.Statement.{statement}
 use Rattle.build.proofs.ground.put_ground.Tie as tie
 
 abbrev Inv-loop : tie.InvT-loop
-Inv-loop t₀ columns rows a b n₀ t n = (a ≤ n) × (n ≤ b) × (length t ≡ length t₀) × (eachRow (groundRow (rectangle columns rows)) (b - a) a t₀ ≡ eachRow (groundRow (rectangle columns rows)) (b - n) n t)
+Inv-loop t₀ header a b n₀ t n = (a ≤ n) × (n ≤ b) × (length t ≡ length t₀) × (eachRow (groundRow (headerOf header .grid)) (b - a) a t₀ ≡ eachRow (groundRow (headerOf header .grid)) (b - n) n t)
 
 abbrev μ-loop : tie.MeasureT-loop
-μ-loop t₀ columns rows a b n₀ t n = b - n
+μ-loop t₀ header a b n₀ t n = b - n
 
 loop-holds : tie.Need-loop-holds Inv-loop μ-loop
 loop-holds c = (omega arith, omega arith, refl, refl)

@@ -3,7 +3,7 @@
 use Prim.Native.Nat.{_-_, _≤_}
 use mathlib.Core.Path.{_≡_, refl, sym, _∙_}
 use lib.ListN.{length}
-use Rattle.mesh.specs.Place.{rectangle}
+use Rattle.mesh.specs.Headers.{headerOf}
 use Rattle.editing.specs.Built.{growLevel}
 use Rattle.editing.proofs.Sprouts.{LevelToGrow}
 use Rattle.build.specs.Steps.{growth}
@@ -14,10 +14,10 @@ use Rattle.build.proofs.grow.grow_level.Statement.{statement}
 use Rattle.build.proofs.grow.grow_level.Tie as tie
 
 abbrev Inv-loop : tie.InvT-loop
-Inv-loop t₀ cap columns rows d up p next q₀ k₀ t q k = (p ≤ q) × (q ≤ next) × (length t ≡ length t₀) × (growLevel (rectangle columns rows) cap d up (next - p) p (growth t₀ next) ≡ growLevel (rectangle columns rows) cap d up (next - q) q (growth t k)) × LevelToGrow (rectangle columns rows) cap up (next - q) q (growth t k)
+Inv-loop t₀ cap header d up p next q₀ k₀ t q k = (p ≤ q) × (q ≤ next) × (length t ≡ length t₀) × (growLevel (headerOf header .grid) cap d up (next - p) p (growth t₀ next) ≡ growLevel (headerOf header .grid) cap d up (next - q) q (growth t k)) × LevelToGrow (headerOf header .grid) cap up (next - q) q (growth t k)
 
 abbrev μ-loop : tie.MeasureT-loop
-μ-loop t₀ cap columns rows d up p next q₀ k₀ t q k = next - q
+μ-loop t₀ cap header d up p next q₀ k₀ t q k = next - q
 
 loop-holds : tie.Need-loop-holds Inv-loop μ-loop
 loop-holds c = (omega arith, omega arith, refl, refl, c .pre .6)

@@ -3,7 +3,7 @@
 use Prim.Native.Nat.{_≤_}
 use mathlib.Core.Path.{_≡_, refl, _∙_}
 use lib.ListN.{length}
-use Rattle.mesh.specs.Place.{rectangle}
+use Rattle.mesh.specs.Headers.{headerOf}
 use Rattle.editing.specs.Built.{growLevels, groundFrom}
 use Rattle.editing.proofs.Sprouts.{LevelsToGrow, levels-bounds}
 use Rattle.build.specs.Steps.{growth}
@@ -13,10 +13,10 @@ use Rattle.build.proofs.grow.grow_levels.Statement.{statement}
 use Rattle.build.proofs.grow.grow_levels.Tie as tie
 
 abbrev Inv-loop : tie.InvT-loop
-Inv-loop t₀ cap columns rows d up₀ p₀ k₀ t up p k = (up ≤ d) × (length t ≡ length t₀) × (growLevels (rectangle columns rows) cap d d 1 (growth t₀ 2) ≡ growLevels (rectangle columns rows) cap d up p (growth t k)) × (groundFrom (rectangle columns rows) cap d d 1 (growth t₀ 2) ≡ groundFrom (rectangle columns rows) cap d up p (growth t k)) × LevelsToGrow (rectangle columns rows) cap up p (growth t k)
+Inv-loop t₀ cap header d up₀ p₀ k₀ t up p k = (up ≤ d) × (length t ≡ length t₀) × (growLevels (headerOf header .grid) cap d d 1 (growth t₀ 2) ≡ growLevels (headerOf header .grid) cap d up p (growth t k)) × (groundFrom (headerOf header .grid) cap d d 1 (growth t₀ 2) ≡ groundFrom (headerOf header .grid) cap d up p (growth t k)) × LevelsToGrow (headerOf header .grid) cap up p (growth t k)
 
 abbrev μ-loop : tie.MeasureT-loop
-μ-loop t₀ cap columns rows d up₀ p₀ k₀ t up p k = up
+μ-loop t₀ cap header d up₀ p₀ k₀ t up p k = up
 
 loop-holds : tie.Need-loop-holds Inv-loop μ-loop
 loop-holds c = (omega arith, refl, refl, refl, c .pre .4)

@@ -1,5 +1,6 @@
 -- `build::grow::in_full` meets its contract.
 -- Assumes nothing.
+use Rattle.mesh.specs.Headers.{headerOf}
 use Rattle.build.proofs.Sizes.{full-test}
 use borrow.Author.Needs.{needs}
 use Rattle.build.proofs.grow.in_full.Statement.{statement}
@@ -12,7 +13,9 @@ shr-result-2 : tie.Need-shr-result-2
 shr-result-2 c = search needs
 
 returns : tie.Need-returns
-returns c = full-test (c .args .columns) (c .args .rows) (c .args .up) (c .args .i) (c .args .j)
+returns c =
+    let a = c .before .before .args in
+    full-test (headerOf (a .header) .grid) (a .up) (a .i) (a .j)
 
 pub in-full-spec : {M : Type 1} → statement M
 in-full-spec = tie.close (tie.spec shr-result shr-result-2 returns)

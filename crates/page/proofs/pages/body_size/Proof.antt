@@ -2,6 +2,7 @@
 -- Assumes nothing.
 use native.Mathlib.Omega.{arith}
 use borrow.Author.Needs.{needs}
+use Rattle.mesh.specs.Headers.{headerOf}
 use Rattle.page.proofs.Paged.{body-size}
 use Rattle.page.proofs.pages.body_size.Tie as tie
 use Rattle.page.proofs.pages.body_size.Statement.{statement}
@@ -14,6 +15,9 @@ digits-requires-2 c κs = search needs
 
 add-head : tie.Need-add-head
 add-head c = search needs
+
+cast-digits : tie.Need-cast-digits
+cast-digits c = search needs
 
 digits-requires-3 : tie.Need-digits-requires-3
 digits-requires-3 c κs = search needs
@@ -28,12 +32,12 @@ lines-size-requires : tie.Need-lines-size-requires
 lines-size-requires c κs = search needs
 
 add-result : tie.Need-add-result
-add-result c = omega (arith, c .before .before .before .digits .ensures, c .before .before .digits2 .ensures, c .before .digits3 .ensures, c .lines-size .ensures)
+add-result c = omega (arith, c .before .before .before .before .digits .ensures, c .before .before .before .digits2 .ensures, c .before .digits3 .ensures, c .lines-size .ensures)
 
 returns : tie.Need-returns
 returns c =
-    let a = c .before .before .before .before .before .before .args in
-    omega (arith, c .before .before .before .digits .ensures, c .before .before .digits2 .ensures, c .before .digits3 .ensures, c .lines-size .ensures, body-size (a .columns) (a .rows) (a .mark) (a .t .now) (a .v .now) (a .leaves .now))
+    let a = c .before .before .before .before .before .before .before .args in
+    omega (arith, c .before .before .before .before .digits .ensures, c .before .before .before .digits2 .ensures, c .before .digits3 .ensures, c .lines-size .ensures, body-size (headerOf (a .header)) (a .t .now) (a .v .now) (a .leaves .now))
 
 pub body-size-spec : {M : Type 1} → statement M
 body-size-spec =
@@ -42,6 +46,7 @@ body-size-spec =
     digits-requires
     digits-requires-2
     add-head
+    cast-digits
     digits-requires-3
     add-head-2
     add-head-3

@@ -5,6 +5,7 @@ use mathlib.Core.Path.{refl, sym, ap}
 use lib.Dec.{leb}
 use borrow.Author.Needs.{needs}
 use borrow.Author.Tests.{le-leb}
+use Rattle.mesh.specs.Headers.{headerOf}
 use Rattle.page.proofs.Paged.{page-short, page-size}
 use Rattle.page.proofs.pages.fits.Tie as tie
 use Rattle.page.proofs.pages.fits.Statement.{statement}
@@ -18,7 +19,7 @@ add-if1 c = search needs
 returns : tie.Need-returns
 returns c =
     let a = c .before .before .before .before .args in
-    sym (le-leb _ (a .room) (omega (arith, c .before .body-size .ensures, page-short (a .columns) (a .rows) (a .mark) (a .t .now) (a .v .now) (a .leaves .now))))
+    sym (le-leb _ (a .room) (omega (arith, c .before .body-size .ensures, page-short (headerOf (a .header)) (a .t .now) (a .v .now) (a .leaves .now))))
 
 body-sum-requires : tie.Need-body-sum-requires
 body-sum-requires c κs = search needs
@@ -45,7 +46,7 @@ returns-2 : tie.Need-returns-2
 returns-2 c =
     let a = c .before .before .before .before .before .before .before .args in
     ap (λ n. leb n (a .room))
-    (omega (arith, c .before .before .before .before .body-size .ensures, c .before .digits .ensures, c .digits2 .ensures, page-size (a .columns) (a .rows) (a .mark) (a .t .now) (a .v .now) (a .leaves .now) _ _ refl (c .before .before .body-sum .ensures)))
+    (omega (arith, c .before .before .before .before .body-size .ensures, c .before .digits .ensures, c .digits2 .ensures, page-size (headerOf (a .header)) (a .t .now) (a .v .now) (a .leaves .now) _ _ refl (c .before .before .body-sum .ensures)))
 
 pub fits-spec : {M : Type 1} → statement M
 fits-spec =

@@ -2,6 +2,7 @@
 -- Assumes nothing.
 use native.Mathlib.Omega.{arith}
 use borrow.Author.Needs.{needs}
+use Rattle.mesh.specs.Headers.{headerOf}
 use Rattle.page.proofs.Puts.{put-more, put-as, text-put}
 use Rattle.page.proofs.Worded.{head-line, head-size, number-put}
 use Rattle.page.proofs.pages.put_head.Tie as tie
@@ -13,38 +14,42 @@ slice-aggregate-put-text c = search needs
 put-text-requires : tie.Need-put-text-requires
 put-text-requires c κs =
     let a = c .before .before .before .args in
-    omega (arith, c .before .before .before .pre, head-size (a .columns) (a .rows) (a .mark))
+    omega (arith, c .before .before .before .pre, head-size (headerOf (a .header)))
 
 put-number-requires : tie.Need-put-number-requires
 put-number-requires c κs =
     let a = c .before .before .before .before .before .before .before .args in
-    omega (arith, c .before .before .before .before .before .before .before .pre, text-put (c .before .before .before .put-text .ensures), head-size (a .columns) (a .rows) (a .mark))
+    omega (arith, c .before .before .before .before .before .before .before .pre, text-put (c .before .before .before .put-text .ensures), head-size (headerOf (a .header)))
 
 put-number-requires-2 : tie.Need-put-number-requires-2
 put-number-requires-2 c κs =
     let s = c .before .before .before .before .before .before .before in
     let a = s .before .before .before .before .args in
-    omega (arith, s .before .before .before .before .pre, text-put (s .put-text .ensures), number-put (a .columns) (c .before .before .before .put-number .ensures), head-size (a .columns) (a .rows) (a .mark))
+    omega (arith, s .before .before .before .before .pre, text-put (s .put-text .ensures), number-put (a .header .columns) (c .before .before .before .put-number .ensures), head-size (headerOf (a .header)))
+
+cast-put-decimal : tie.Need-cast-put-decimal
+cast-put-decimal c = search needs
 
 put-decimal-requires : tie.Need-put-decimal-requires
 put-decimal-requires c κs =
-    let s = c .before .before .before .before .before .before .before .before .before .before .before in
+    let k = c .before in
+    let s = k .before .before .before .before .before .before .before .before .before .before .before in
     let a = s .before .before .before .before .args in
-    omega (arith, s .before .before .before .before .pre, text-put (s .put-text .ensures), number-put (a .columns) (c .before .before .before .before .before .before .before .put-number .ensures), number-put (a .rows) (c .before .before .before .put-number2 .ensures), head-size (a .columns) (a .rows) (a .mark))
+    omega (arith, s .before .before .before .before .pre, text-put (s .put-text .ensures), number-put (a .header .columns) (k .before .before .before .before .before .before .before .put-number .ensures), number-put (a .header .rows) (k .before .before .before .put-number2 .ensures), head-size (headerOf (a .header)))
 
 put-byte-requires : tie.Need-put-byte-requires
 put-byte-requires c κs =
-    let s = c .before .before .before .before .before .before .before .before .before .before .before in
+    let s = c .before .before .before .before .before .before .before .before .before .before .before .before in
     let a = s .before .before .before .before .before .before .before .before .args in
-    omega (arith, s .before .before .before .before .before .before .before .before .pre, text-put (s .before .before .before .before .put-text .ensures), number-put (a .columns) (s .put-number .ensures), number-put (a .rows) (c .before .before .before .before .before .before .before .put-number2 .ensures), text-put (c .before .before .before .put-decimal .ensures), head-size (a .columns) (a .rows) (a .mark))
+    omega (arith, s .before .before .before .before .before .before .before .before .pre, text-put (s .before .before .before .before .put-text .ensures), number-put (a .header .columns) (s .put-number .ensures), number-put (a .header .rows) (c .before .before .before .before .before .before .before .before .put-number2 .ensures), text-put (c .before .before .before .put-decimal .ensures), head-size (headerOf (a .header)))
 
 same-length : tie.Need-same-length
 same-length c = search needs
 
 returns : tie.Need-returns
 returns c =
-    let s = c .before .before .before .before .before .before .before .before .before .before in
-    put-as (head-line _ _ _)
+    let s = c .before .before .before .before .before .before .before .before .before .before .before in
+    put-as (head-line _)
     (put-more (put-more (put-more (put-more (s .before .before .before .before .before .before .before .before .put-text .ensures) (s .before .before .before .before .put-number .ensures)) (s .put-number2 .ensures)) (c .before .before .before .before .before .before .put-decimal .ensures)) (c .before .before .put-byte .ensures))
 
 pub put-head-spec : {M : Type 1} → statement M
@@ -55,6 +60,7 @@ put-head-spec =
     put-text-requires
     put-number-requires
     put-number-requires-2
+    cast-put-decimal
     put-decimal-requires
     put-byte-requires
     same-length

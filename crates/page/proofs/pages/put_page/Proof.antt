@@ -5,6 +5,7 @@ use native.Mathlib.Omega.{arith}
 use mathlib.Core.Path.{refl, sym, ap, _∙_}
 use lib.Seq.{length-take-le}
 use borrow.Author.Needs.{needs}
+use Rattle.mesh.specs.Headers.{headerOf}
 use Rattle.page.proofs.Puts.{text-put}
 use Rattle.page.proofs.Paged.{page-long, page-lines, body-sum, page-put}
 use Rattle.page.proofs.pages.put_page.Tie as tie
@@ -13,25 +14,25 @@ use Rattle.page.proofs.pages.put_page.Statement.{statement}
 put-head-requires : tie.Need-put-head-requires
 put-head-requires c κs =
     let a = c .before .before .before .before .args in
-    omega (arith, c .before .before .before .before .pre .1, page-long (a .columns) (a .rows) (a .mark) (a .t .now) (a .v .now) (a .leaves .now))
+    omega (arith, c .before .before .before .before .pre .1, page-long (headerOf (a .header)) (a .t .now) (a .v .now) (a .leaves .now))
 
 put-lines-requires : tie.Need-put-lines-requires
 put-lines-requires c κs =
     let s = c .before .before .before .before .before .before .before .before in
     let a = s .args in
-    (s .pre .0, omega (arith, s .pre .1, text-put (c .before .before .before .put-head .ensures), page-long (a .columns) (a .rows) (a .mark) (a .t .now) (a .v .now) (a .leaves .now)))
+    (s .pre .0, omega (arith, s .pre .1, text-put (c .before .before .before .put-head .ensures), page-long (headerOf (a .header)) (a .t .now) (a .v .now) (a .leaves .now)))
 
 slice-reshare-prefix-sum-of : tie.Need-slice-reshare-prefix-sum-of
 slice-reshare-prefix-sum-of c =
     let s = c .before .before .before .before .before .before in
     let a = s .before .before .before .before .before .args in
-    omega (arith, s .before .before .before .before .before .pre .1, text-put (s .put-head .ensures), text-put (c .before .before .put-lines .ensures), page-long (a .columns) (a .rows) (a .mark) (a .t .now) (a .v .now) (a .leaves .now))
+    omega (arith, s .before .before .before .before .before .pre .1, text-put (s .put-head .ensures), text-put (c .before .before .put-lines .ensures), page-long (headerOf (a .header)) (a .t .now) (a .v .now) (a .leaves .now))
 
 slice-aggregate-sum-of : tie.Need-slice-aggregate-sum-of
 slice-aggregate-sum-of c =
     let s = c .before .before .before .before .before .before .before in
     let a = s .before .before .before .before .before .args in
-    sym (length-take-le _ _ (omega (arith, s .before .before .before .before .before .pre .1, text-put (s .put-head .ensures), text-put (c .before .before .before .put-lines .ensures), page-long (a .columns) (a .rows) (a .mark) (a .t .now) (a .v .now) (a .leaves .now))))
+    sym (length-take-le _ _ (omega (arith, s .before .before .before .before .before .pre .1, text-put (s .put-head .ensures), text-put (c .before .before .before .put-lines .ensures), page-long (headerOf (a .header)) (a .t .now) (a .v .now) (a .leaves .now))))
 
 sum-of-requires : tie.Need-sum-of-requires
 sum-of-requires c κs = search needs
@@ -43,7 +44,7 @@ put-foot-requires : tie.Need-put-foot-requires
 put-foot-requires c κs =
     let s = c .before .before .before .before .before .before .before .before .before in
     let a = s .before .before .before .before .before .args in
-    omega (arith, s .before .before .before .before .before .pre .1, text-put (s .put-head .ensures), text-put (c .before .before .before .before .before .put-lines .ensures), page-lines (a .columns) (a .rows) (a .mark) (a .t .now) (a .v .now) (a .leaves .now) _ _ refl (c .before .sum-of .ensures ∙ ap (λ z. z % 2 ^ 32) (body-sum (a .columns) (a .rows) (a .mark) (a .t .now) (a .v .now) (a .leaves .now) (s .put-head .ensures) (c .before .before .before .before .before .put-lines .ensures) (s .before .before .before .before .before .pre .1))))
+    omega (arith, s .before .before .before .before .before .pre .1, text-put (s .put-head .ensures), text-put (c .before .before .before .before .before .put-lines .ensures), page-lines (headerOf (a .header)) (a .t .now) (a .v .now) (a .leaves .now) _ _ refl (c .before .sum-of .ensures ∙ ap (λ z. z % 2 ^ 32) (body-sum (headerOf (a .header)) (a .t .now) (a .v .now) (a .leaves .now) (s .put-head .ensures) (c .before .before .before .before .before .put-lines .ensures) (s .before .before .before .before .before .pre .1))))
 
 same-length : tie.Need-same-length
 same-length c = search needs
@@ -52,7 +53,7 @@ returns : tie.Need-returns
 returns c =
     let s = c .before .before .before .before .before .before .before .before in
     let a = s .before .before .before .before .before .before .before .before .before .args in
-    page-put (a .columns) (a .rows) (a .mark) (a .t .now) (a .v .now) (a .leaves .now) _ _ refl (c .before .before .before .before .sum-of .ensures ∙ ap (λ z. z % 2 ^ 32) (body-sum (a .columns) (a .rows) (a .mark) (a .t .now) (a .v .now) (a .leaves .now) (s .before .before .before .before .put-head .ensures) (s .put-lines .ensures) (s .before .before .before .before .before .before .before .before .before .pre .1))) (s .before .before .before .before .put-head .ensures) (s .put-lines .ensures) (c .before .before .put-foot .ensures)
+    page-put (headerOf (a .header)) (a .t .now) (a .v .now) (a .leaves .now) _ _ refl (c .before .before .before .before .sum-of .ensures ∙ ap (λ z. z % 2 ^ 32) (body-sum (headerOf (a .header)) (a .t .now) (a .v .now) (a .leaves .now) (s .before .before .before .before .put-head .ensures) (s .put-lines .ensures) (s .before .before .before .before .before .before .before .before .before .pre .1))) (s .before .before .before .before .put-head .ensures) (s .put-lines .ensures) (c .before .before .put-foot .ensures)
 
 pub put-page-spec : {M : Type 1} → statement M
 put-page-spec =

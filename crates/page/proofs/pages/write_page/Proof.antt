@@ -4,6 +4,7 @@ use native.Mathlib.Omega.{arith}
 use mathlib.Core.Path.{sym, ap, _∙_}
 use lib.Seq.{length-take-le}
 use borrow.Author.Needs.{needs}
+use Rattle.mesh.specs.Headers.{headerOf}
 use Rattle.page.specs.Rows.{rowPage, rowOut, pageOf, pageOut}
 use Rattle.page.proofs.Puts.{text-put, put-front}
 use Rattle.page.proofs.Worded.{leaves-within}
@@ -38,7 +39,7 @@ unfolding rowOut rowPage
 returns c =
     let a = c .before .before .before .before .before .before .before .before .before .before .args in
     c .before .before .write-leaves .ensures
-    ∙ ap (λ ns. pageOut (pageOf (a .columns) (a .rows) (a .mark) (a .t .now) (a .v .now) ns) (a .out .now)) (put-front (c .before .before .before .before .before .before .find-leaves .ensures) (c .before .before .before .before .before .before .before .before .before .before .pre .4))
+    ∙ ap (λ ns. pageOut (pageOf (headerOf (a .header)) (a .t .now) (a .v .now) ns) (a .out .now)) (put-front (c .before .before .before .before .before .before .find-leaves .ensures) (c .before .before .before .before .before .before .before .before .before .before .pre .4))
 
 pub write-page-spec : {M : Type 1} → statement M
 write-page-spec =

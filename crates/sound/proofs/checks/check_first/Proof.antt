@@ -4,9 +4,8 @@ use borrow.Author.Needs.{needs}
 use borrow.Author.Tests.{not-true, not-false}
 use native.Mathlib.Omega.{arith}
 use mathlib.Core.Path.{sym, _∙_}
-use Rattle.mesh.specs.Place.{rectangle}
 use Rattle.mesh.specs.Call.{lentChecks, checkCall}
-use Rattle.sound.specs.Called.{lentOf}
+use Rattle.mesh.specs.Headers.{headerOf, lentOf}
 use Rattle.sound.proofs.PlainRows.{not-plain, plain-table, levelled-table}
 use Rattle.sound.proofs.Checking.{too-small, too-large, wrong-table, wrong-values, columns-below, columns-above, rows-below, rows-above, rows-pass, rows-fail, shallow}
 use Rattle.sound.proofs.checks.check_first.Statement.{statement}
@@ -17,14 +16,14 @@ refused-requires c κs = search needs
 
 returns : tie.Need-returns
 unfolding checkCall lentChecks
-returns c = (λ mark. c .refused .ensures .0 ∙ too-small _ (lentOf (c .before .before .before .args .columns) (c .before .before .before .args .rows) mark (c .before .before .before .args .t .now) (c .before .before .before .args .v .now)) _ (c .before .if1 .taken), λ z. absurd (omega arith))
+returns c = (c .refused .ensures .0 ∙ too-small _ (lentOf (c .before .before .before .args .header) (c .before .before .before .args .t .now) (c .before .before .before .args .v .now)) _ (c .before .if1 .taken), λ z. absurd (omega arith))
 
 refused-requires-2 : tie.Need-refused-requires-2
 refused-requires-2 c κs = search needs
 
 returns-2 : tie.Need-returns-2
 unfolding checkCall lentChecks
-returns-2 c = (λ mark. c .refused2 .ensures .0 ∙ too-large _ (lentOf (c .before .before .before .before .args .columns) (c .before .before .before .before .args .rows) mark (c .before .before .before .before .args .t .now) (c .before .before .before .before .args .v .now)) _ (c .before .if2 .taken), λ z. absurd (omega arith))
+returns-2 c = (c .refused2 .ensures .0 ∙ too-large _ (lentOf (c .before .before .before .before .args .header) (c .before .before .before .before .args .t .now) (c .before .before .before .before .args .v .now)) _ (c .before .if2 .taken), λ z. absurd (omega arith))
 
 add-if3 : tie.Need-add-if3
 add-if3 c = search needs
@@ -37,7 +36,7 @@ refused-requires-3 c κs = search needs
 
 returns-3 : tie.Need-returns-3
 unfolding checkCall lentChecks
-returns-3 c = (λ mark. c .refused3 .ensures .0 ∙ wrong-table _ (lentOf (c .before .before .before .before .before .args .columns) (c .before .before .before .before .before .args .rows) mark (c .before .before .before .before .before .args .t .now) (c .before .before .before .before .before .args .v .now)) _ (c .before .if3 .taken), λ z. absurd (omega arith))
+returns-3 c = (c .refused3 .ensures .0 ∙ wrong-table _ (lentOf (c .before .before .before .before .before .args .header) (c .before .before .before .before .before .args .t .now) (c .before .before .before .before .before .args .v .now)) _ (c .before .if3 .taken), λ z. absurd (omega arith))
 
 add-if4 : tie.Need-add-if4
 add-if4 c = search needs
@@ -47,35 +46,35 @@ refused-requires-4 c κs = search needs
 
 returns-4 : tie.Need-returns-4
 unfolding checkCall lentChecks
-returns-4 c = (λ mark. c .refused4 .ensures .0 ∙ wrong-values _ (lentOf (c .before .before .before .before .before .before .args .columns) (c .before .before .before .before .before .before .args .rows) mark (c .before .before .before .before .before .before .args .t .now) (c .before .before .before .before .before .before .args .v .now)) _ (c .before .if4 .taken), λ z. absurd (omega arith))
+returns-4 c = (c .refused4 .ensures .0 ∙ wrong-values _ (lentOf (c .before .before .before .before .before .before .args .header) (c .before .before .before .before .before .before .args .t .now) (c .before .before .before .before .before .before .args .v .now)) _ (c .before .if4 .taken), λ z. absurd (omega arith))
 
 refused-requires-5 : tie.Need-refused-requires-5
 refused-requires-5 c κs = search needs
 
 returns-5 : tie.Need-returns-5
 unfolding checkCall lentChecks
-returns-5 c = (λ mark. c .refused5 .ensures .0 ∙ columns-below _ (lentOf (c .before .before .before .before .before .before .before .args .columns) (c .before .before .before .before .before .before .before .args .rows) mark (c .before .before .before .before .before .before .before .args .t .now) (c .before .before .before .before .before .before .before .args .v .now)) (rectangle (c .before .before .before .before .before .before .before .args .columns) (c .before .before .before .before .before .before .before .args .rows)) _ (omega arith) (omega arith) (omega arith) (omega arith) (c .before .if5 .taken), λ z. absurd (omega arith))
+returns-5 c = (c .refused5 .ensures .0 ∙ columns-below _ (lentOf (c .before .before .before .before .before .before .before .before .args .header) (c .before .before .before .before .before .before .before .before .args .t .now) (c .before .before .before .before .before .before .before .before .args .v .now)) (headerOf (c .before .before .before .before .before .before .before .before .args .header) .grid) _ (omega arith) (omega arith) (omega arith) (omega arith) (c .before .if5 .taken), λ z. absurd (omega arith))
 
 refused-requires-6 : tie.Need-refused-requires-6
 refused-requires-6 c κs = search needs
 
 returns-6 : tie.Need-returns-6
 unfolding checkCall lentChecks
-returns-6 c = (λ mark. c .refused6 .ensures .0 ∙ columns-above _ (lentOf (c .before .before .before .before .before .before .before .before .args .columns) (c .before .before .before .before .before .before .before .before .args .rows) mark (c .before .before .before .before .before .before .before .before .args .t .now) (c .before .before .before .before .before .before .before .before .args .v .now)) (rectangle (c .before .before .before .before .before .before .before .before .args .columns) (c .before .before .before .before .before .before .before .before .args .rows)) _ (omega arith) (omega arith) (omega arith) (omega arith) (c .before .if6 .taken), λ z. absurd (omega arith))
+returns-6 c = (c .refused6 .ensures .0 ∙ columns-above _ (lentOf (c .before .before .before .before .before .before .before .before .before .before .args .header) (c .before .before .before .before .before .before .before .before .before .before .args .t .now) (c .before .before .before .before .before .before .before .before .before .before .args .v .now)) (headerOf (c .before .before .before .before .before .before .before .before .before .before .args .header) .grid) _ (omega arith) (omega arith) (omega arith) (omega arith) (c .before .if6 .taken), λ z. absurd (omega arith))
 
 refused-requires-7 : tie.Need-refused-requires-7
 refused-requires-7 c κs = search needs
 
 returns-7 : tie.Need-returns-7
 unfolding checkCall lentChecks
-returns-7 c = (λ mark. c .refused7 .ensures .0 ∙ rows-below _ (lentOf (c .before .before .before .before .before .before .before .before .before .args .columns) (c .before .before .before .before .before .before .before .before .before .args .rows) mark (c .before .before .before .before .before .before .before .before .before .args .t .now) (c .before .before .before .before .before .before .before .before .before .args .v .now)) (rectangle (c .before .before .before .before .before .before .before .before .before .args .columns) (c .before .before .before .before .before .before .before .before .before .args .rows)) _ (omega arith) (omega arith) (omega arith) (omega arith) (c .before .if7 .taken), λ z. absurd (omega arith))
+returns-7 c = (c .refused7 .ensures .0 ∙ rows-below _ (lentOf (c .before .before .before .before .before .before .before .before .before .before .before .before .args .header) (c .before .before .before .before .before .before .before .before .before .before .before .before .args .t .now) (c .before .before .before .before .before .before .before .before .before .before .before .before .args .v .now)) (headerOf (c .before .before .before .before .before .before .before .before .before .before .before .before .args .header) .grid) _ (omega arith) (omega arith) (omega arith) (omega arith) (c .before .if7 .taken), λ z. absurd (omega arith))
 
 refused-requires-8 : tie.Need-refused-requires-8
 refused-requires-8 c κs = search needs
 
 returns-8 : tie.Need-returns-8
 unfolding checkCall lentChecks
-returns-8 c = (λ mark. c .refused8 .ensures .0 ∙ rows-above _ (lentOf (c .before .before .before .before .before .before .before .before .before .before .args .columns) (c .before .before .before .before .before .before .before .before .before .before .args .rows) mark (c .before .before .before .before .before .before .before .before .before .before .args .t .now) (c .before .before .before .before .before .before .before .before .before .before .args .v .now)) (rectangle (c .before .before .before .before .before .before .before .before .before .before .args .columns) (c .before .before .before .before .before .before .before .before .before .before .args .rows)) _ (omega arith) (omega arith) (omega arith) (omega arith) (c .before .if8 .taken), λ z. absurd (omega arith))
+returns-8 c = (c .refused8 .ensures .0 ∙ rows-above _ (lentOf (c .before .before .before .before .before .before .before .before .before .before .before .before .before .before .args .header) (c .before .before .before .before .before .before .before .before .before .before .before .before .before .before .args .t .now) (c .before .before .before .before .before .before .before .before .before .before .before .before .before .before .args .v .now)) (headerOf (c .before .before .before .before .before .before .before .before .before .before .before .before .before .before .args .header) .grid) _ (omega arith) (omega arith) (omega arith) (omega arith) (c .before .if8 .taken), λ z. absurd (omega arith))
 
 words-fit-requires : tie.Need-words-fit-requires
 words-fit-requires c κs = omega arith
@@ -90,7 +89,7 @@ refused-requires-9 : tie.Need-refused-requires-9
 refused-requires-9 c κs = search needs
 
 returns-9 : tie.Need-returns-9
-returns-9 c = (λ mark. c .refused9 .ensures .0 ∙ rows-fail _ _ mark _ _ _ (omega arith) (omega arith) (omega arith) (omega arith) (omega arith, omega arith, omega arith, omega arith) (c .before .before .before .before .words-fit .ensures) (not-plain _ _ _ _ (omega arith) (omega arith, omega arith, omega arith, omega arith) {b = c .before .before .plain .result} (rw (← c .before .before .before .ground-depth .ensures) (c .before .before .plain .ensures)) (not-true _ (c .before .if9 .taken))), λ z. absurd (omega arith))
+returns-9 c = (c .refused9 .ensures .0 ∙ rows-fail _ _ _ _ (omega arith) (omega arith) (omega arith) (omega arith) (omega arith, omega arith, omega arith, omega arith) (c .before .before .before .before .words-fit .ensures) (not-plain _ _ _ _ (omega arith) (omega arith, omega arith, omega arith, omega arith) {b = c .before .before .plain .result} (rw (← c .before .before .before .ground-depth .ensures) (c .before .before .plain .ensures)) (not-true _ (c .before .if9 .taken))), λ z. absurd (omega arith))
 
 rowwise-requires : tie.Need-rowwise-requires
 rowwise-requires c κs =
@@ -113,16 +112,14 @@ refused-requires-10 c κs = search needs
 
 returns-10 : tie.Need-returns-10
 returns-10 c = (
-  λ mark.
-      c .refused10 .ensures .0
-      ∙ rows-fail _ _ mark _ _ _ (omega arith) (omega arith) (omega arith) (omega arith) (omega arith, omega arith, omega arith, omega arith) (c .before .before .before .before .before .before .words-fit .ensures) (c .before .before .rowwise .ensures .no (c .before .if10 .taken)),
+  c .refused10 .ensures .0
+      ∙ rows-fail _ _ _ _ (omega arith) (omega arith) (omega arith) (omega arith) (omega arith, omega arith, omega arith, omega arith) (c .before .before .before .before .before .before .words-fit .ensures) (c .before .before .rowwise .ensures .no (c .before .if10 .taken)),
   λ z. absurd (omega arith),
 )
 
 returns-11 : tie.Need-returns-11
 returns-11 c = (
-  λ mark.
-      rows-pass _ _ mark _ _ _ (omega arith) (omega arith) (omega arith) (omega arith) (omega arith, omega arith, omega arith, omega arith) (c .before .before .before .before .before .words-fit .ensures) (c .before .rowwise .ensures .yes (c .if10 .left)),
+  rows-pass _ _ _ _ (omega arith) (omega arith) (omega arith) (omega arith) (omega arith, omega arith, omega arith, omega arith) (c .before .before .before .before .before .words-fit .ensures) (c .before .rowwise .ensures .yes (c .if10 .left)),
   λ z. c .before .rowwise .ensures .first (c .if10 .left),
 )
 

@@ -16,10 +16,11 @@ index-requires-2 c κs = search needs
 
 returns : tie.Need-returns
 returns c =
-    let p1 = c .before in
+    let p0 = c .before in
+    let p1 = p0 .before .before in
     let p2 = p1 .before in
     let p3 = p2 .before in
-    rw (is-eq (p3 .depth .ensures .1) (p2 .if1 .taken), p1 .index .ensures, c .index2 .ensures)
+    rw (is-eq (p3 .depth .ensures .1) (p2 .if1 .taken), p1 .index .ensures, p0 .index2 .ensures)
 
 link-requires : tie.Need-link-requires
 link-requires c κs = search needs

@@ -45,9 +45,9 @@ use denote.Triple.Walked.{says, Stays, gave-slice, stay-none, stay-none-slice, w
 use denote.Exit.{yes}
 use denote.Signature.{plain}
 use Rattle.grid.specs.Calls.{Tapes}
-use Rattle.grid.specs.declared.Header.{Header}
-use Rattle.grid.proofs.Header as T
-use Rattle.grid.proofs.Header.Laws as T′
+use Rattle.mesh.specs.declared.header.Header.{Header}
+use Rattle.mesh.proofs.header.Header as T
+use Rattle.mesh.proofs.header.Header.Laws as T′
 use Rattle.grid.specs.declared.Taped.{Taped}
 use Rattle.grid.proofs.Taped as An
 use Rattle.grid.proofs.Taped.Laws as An′
