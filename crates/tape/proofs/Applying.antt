@@ -8,7 +8,7 @@ use mathlib.Core.List.{List}
 use lib.ListN.{set}
 use lib.IntN.{ℤ}
 use lib.Ieee.{Float}
-use Rattle.mesh.specs.Place.{rectangle, base}
+use Rattle.mesh.specs.Place.{Grid, base}
 use Rattle.mesh.specs.State.{State, isFree, entry}
 use Rattle.mesh.specs.Valid.{Valid}
 use Rattle.mesh.specs.Picture.{table, amounts}
@@ -32,15 +32,15 @@ use Rattle.tape.proofs.Deciding.{Decides, refine-decides, sentence-deci
 module _ (q : Request) (cap d : ℕ) (t : List ℤ) (v : List Float) where
   -- the words and the values are those of the effect
   abbrev Makes : List ℤ → List Float → Type 0
-  Makes t′ v′ = (s : State) (columns rows mark : ℕ) → Drawn s columns rows mark cap t v → base (rectangle columns rows) ≡ d → refusal (looseChecks s q) ≡ 0
+  Makes t′ v′ = (s : State) (g : Grid) (mark : ℕ) → Drawn s g mark cap t v → base g ≡ d → refusal (looseChecks s q) ≡ 0
       → (t′ ≡ table (effect s q)) × (v′ ≡ amounts (effect s q))
 
   accepted-applied : (t′ : List ℤ) (v′ : List Float) → Decides q cap d t v 0 → Makes t′ v′ → Applied q cap d t v t′ v′ 0
   accepted-applied t′ v′ x m = record {
     decided = x;
-    done = λ s columns rows mark p e h.
-        let ok : refusal (checks s q) ≡ 0 = sym (x s columns rows mark p e) in
-        let (a, c) = m s columns rows mark p e (loosely s q ok) in
+    done = λ s g mark p e h.
+        let ok : refusal (checks s q) ≡ 0 = sym (x s g mark p e) in
+        let (a, c) = m s g mark p e (loosely s q ok) in
         marked-drawn q p ok a c;
     refused = λ z. absurd (z refl);
   }
@@ -57,7 +57,7 @@ module _ (cap d n : ℕ) (t : List ℤ) (v : List Float) where
       none s p k l = let z : k ≡ 0 = omega arith in rw z (ap isFree (p .zeroth))
 
       makes : Makes (refine n) cap d t v t′ v′
-      makes s columns rows mark p e ok =
+      makes s g mark p e ok =
           let a : t′ ≡ table (effect s (refine n)) = y ∙ from-picture (λ t cap d. refineTable cap d n (lending t 1) .words ≡ table (effect s (refine n))) p e (refine-table s (p .valid) n ok 1 (omega arith) (none s (p .valid)) .0) in
           (a, w ∙ rw (a, p .is-values, ← p .is-capacity) (refine-values s (p .valid) n ok))
 
@@ -67,7 +67,7 @@ module _ (cap d n : ℕ) (t : List ℤ) (v : List Float) where
   sentence-applied t′ x z y = accepted-applied (sentence n) cap d t v t′ v (sentence-decides cap d n t v (sym z ∙ x)) makes
     where
       makes : Makes (sentence n) cap d t v t′ v
-      makes s columns rows mark p e ok = (y ∙ rw (p .is-table) (sentence-table s (p .valid) n ok), p .is-values ∙ sentence-amounts s (p .valid) n ok)
+      makes s g mark p e ok = (y ∙ rw (p .is-table) (sentence-table s (p .valid) n ok), p .is-values ∙ sentence-amounts s (p .valid) n ok)
 
   -- ---- set value
 
@@ -76,7 +76,7 @@ module _ (cap d n : ℕ) (t : List ℤ) (v : List Float) where
     set-applied t′ v′ r z y w = accepted-applied (setValue n x) cap d t v t′ v′ (set-decides cap d n t v x (sym z ∙ r)) makes
       where
         makes : Makes (setValue n x) cap d t v t′ v′
-        makes s columns rows mark p e ok = (y ∙ rw (p .is-table) (set-table s (p .valid) n x ok), w ∙ rw (p .is-values) (set-amounts s (p .valid) n x ok))
+        makes s g mark p e ok = (y ∙ rw (p .is-table) (set-table s (p .valid) n x ok), w ∙ rw (p .is-values) (set-amounts s (p .valid) n x ok))
 
   -- ---- remove and kill
 
@@ -85,7 +85,7 @@ module _ (cap d n : ℕ) (t : List ℤ) (v : List Float) where
   remove-applied t′ v′ x z y w = accepted-applied (remove n) cap d t v t′ v′ (remove-decides cap d n t v (sym z ∙ x)) makes
     where
       makes : Makes (remove n) cap d t v t′ v′
-      makes s columns rows mark p e ok = (
+      makes s g mark p e ok = (
         y ∙ from-picture (λ t cap d. removeTable t cap d n ≡ table (effect s (remove n))) p e (remove-table s (p .valid) n ok),
         w ∙ rw (p .is-values) (from-picture (λ t cap d. removeValues t cap n (amounts s) ≡ amounts (effect s (remove n))) p e (remove-values s (p .valid) n ok)),
       )
@@ -95,7 +95,7 @@ module _ (cap d n : ℕ) (t : List ℤ) (v : List Float) where
   kill-applied t′ v′ x z y w = accepted-applied (kill n) cap d t v t′ v′ (kill-decides cap d n t v (sym z ∙ x)) makes
     where
       makes : Makes (kill n) cap d t v t′ v′
-      makes s columns rows mark p e ok = (
+      makes s g mark p e ok = (
         y ∙ from-picture (λ t cap d. killTable t cap d n ≡ table (effect s (kill n))) p e (kill-table s (p .valid) n ok),
         w ∙ rw (p .is-values) (kill-values s (p .valid) n ok),
       )

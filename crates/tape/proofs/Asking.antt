@@ -33,8 +33,8 @@ same-checks s n x y e = rw e
 
 pub standing-applied : {cap d n w why : ℕ} {x : Float} {t t′ : List ℤ} {v v′ : List Float} → StandsFor w x → Applied (setValue n x) cap d t v t′ v′ why → Applied (setValue n (ofBits binary64 w)) cap d t v t′ v′ why
 standing-applied {cap} {d} {n} {w} {why} {x} {t} {t′} {v} {v′} f a = record {
-  decided = λ s columns rows mark p e. a .decided s columns rows mark p e ∙ ap refusal (same-checks s n x (ofBits binary64 w) (f .alike));
-  done = λ s columns rows mark p e h. rw (← f .is (finite-then s n x (p .valid) (sym (a .decided s columns rows mark p e) ∙ h))) (a .done s columns rows mark p e h);
+  decided = λ s g mark p e. a .decided s g mark p e ∙ ap refusal (same-checks s n x (ofBits binary64 w) (f .alike));
+  done = λ s g mark p e h. rw (← f .is (finite-then s n x (p .valid) (sym (a .decided s g mark p e) ∙ h))) (a .done s g mark p e h);
   refused = a .refused;
 }
 

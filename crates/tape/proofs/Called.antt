@@ -17,7 +17,7 @@ use Rattle.tape.specs.Drawn.{Drawn, Pictured}
 use Rattle.tape.specs.Ran.{Ran}
 
 module _ (cap : ℕ) (l : Lent) (o : Sound (l .header) (l .words) (l .values)) (long : length (l .values) ≡ cap + 1) where
-  sound-drawn : Drawn (o .state) (l .header .grid .columns) (l .header .grid .rows) (l .header .mark) cap (l .words) (l .values)
+  sound-drawn : Drawn (o .state) (l .header .grid) (l .header .mark) cap (l .words) (l .values)
   sound-drawn =
       let x : length (l .values) ≡ length (o .state .entries) = ap length (o .is-values) ∙ amounts-length (o .state) in
       record { valid = o .valid; is-header = sym (o .is-header); is-capacity = omega arith; is-table = o .is-table; is-values = o .is-values }
@@ -25,7 +25,7 @@ module _ (cap : ℕ) (l : Lent) (o : Sound (l .header) (l .words) (l .values)) (
   module _ {d : ℕ} (deep : d ≡ base (l .header .grid)) where
     -- a sound table is a picture
     pub pictured : Pictured (l .header .mark) cap d (l .words) (l .values)
-    pictured = record { state = o .state; columns = l .header .grid .columns; rows = l .header .grid .rows; drawn = sound-drawn; depth = sym deep }
+    pictured = record { state = o .state; grid = l .header .grid; drawn = sound-drawn; depth = sym deep }
 
     module _ {bytes : List ℕ} {t′ : List ℤ} {v′ : List Float} {done why offset mark′ : ℕ} (r : Ran bytes cap d (l .header .mark) (l .words) (l .values) t′ v′ done why offset mark′) where
       abbrev left : Lent
@@ -36,7 +36,7 @@ module _ (cap : ℕ) (l : Lent) (o : Sound (l .header) (l .words) (l .values)) (
 
       pub ran-call : record { done = done; why = why; offset = offset; lent = left } ≡ tapeCall cap l bytes
       ran-call =
-          let (a, b, c, e) = r .answer (o .state) (l .header .grid .columns) (l .header .grid .rows) sound-drawn (sym deep) in
+          let (a, b, c, e) = r .answer (o .state) (l .header .grid) sound-drawn (sym deep) in
           let after : left ≡ picture (run (o .state) bytes .state) = λ i. record { header = sym (e .is-header) i; words = e .is-table i; values = e .is-values i } in
           let ends : _≡_ {A = Taped} (record { done = done; why = why; offset = offset; lent = left })
           (let x = run (o .state) bytes in record { done = x .done; why = x .why; offset = x .offset; lent = picture (x .state) })

@@ -7,7 +7,7 @@ use mathlib.Core.List.{List}
 use lib.ListN.{drop}
 use lib.IntN.{ℤ}
 use lib.Ieee.{Float}
-use Rattle.mesh.specs.Place.{rectangle, base}
+use Rattle.mesh.specs.Place.{Grid, base}
 use Rattle.mesh.specs.State.{State}
 use Rattle.mesh.specs.Refusal.{refusal}
 use Rattle.mesh.specs.Request.{Request, refine, sentence, remove, kill, setValue, checks}
@@ -20,25 +20,25 @@ use Rattle.tape.proofs.Drawing.{from-picture}
 
 -- on every picture the refusal is the rules'
 abbrev pub Decides : Request → ℕ → ℕ → List ℤ → List Float → ℕ → Type 0
-Decides q cap d t v why = (s : State) (columns rows mark : ℕ) → Drawn s columns rows mark cap t v → base (rectangle columns rows) ≡ d → why ≡ refusal (checks s q)
+Decides q cap d t v why = (s : State) (g : Grid) (mark : ℕ) → Drawn s g mark cap t v → base g ≡ d → why ≡ refusal (checks s q)
 
 -- ---- the five kinds
 
 module _ (cap d n : ℕ) (t : List ℤ) (v : List Float) where
   pub refine-decides : {why : ℕ} → why ≡ refineRefusal t cap d n → Decides (refine n) cap d t v why
-  refine-decides x s columns rows mark p e = x ∙ from-picture (λ t cap d. refineRefusal t cap d n ≡ refusal (checks s (refine n))) p e (refine-refusal s (p .valid) n)
+  refine-decides x s g mark p e = x ∙ from-picture (λ t cap d. refineRefusal t cap d n ≡ refusal (checks s (refine n))) p e (refine-refusal s (p .valid) n)
 
   pub sentence-decides : {why : ℕ} → why ≡ sentenceRefusal t cap d n → Decides (sentence n) cap d t v why
-  sentence-decides x s columns rows mark p e = x ∙ from-picture (λ t cap d. sentenceRefusal t cap d n ≡ refusal (checks s (sentence n))) p e (sentence-refusal s (p .valid) n)
+  sentence-decides x s g mark p e = x ∙ from-picture (λ t cap d. sentenceRefusal t cap d n ≡ refusal (checks s (sentence n))) p e (sentence-refusal s (p .valid) n)
 
   pub remove-decides : {why : ℕ} → why ≡ removeRefusal t cap n → Decides (remove n) cap d t v why
-  remove-decides x s columns rows mark p e = x ∙ from-picture (λ t cap d. removeRefusal t cap n ≡ refusal (checks s (remove n))) p e (remove-refusal s (p .valid) n)
+  remove-decides x s g mark p e = x ∙ from-picture (λ t cap d. removeRefusal t cap n ≡ refusal (checks s (remove n))) p e (remove-refusal s (p .valid) n)
 
   pub kill-decides : {why : ℕ} → why ≡ killRefusal t cap d n → Decides (kill n) cap d t v why
-  kill-decides x s columns rows mark p e = x ∙ from-picture (λ t cap d. killRefusal t cap d n ≡ refusal (checks s (kill n))) p e (kill-refusal s (p .valid) n)
+  kill-decides x s g mark p e = x ∙ from-picture (λ t cap d. killRefusal t cap d n ≡ refusal (checks s (kill n))) p e (kill-refusal s (p .valid) n)
 
   pub set-decides : (x : Float) {why : ℕ} → why ≡ setRefusal t cap n x → Decides (setValue n x) cap d t v why
-  set-decides x y s columns rows mark p e = y ∙ from-picture (λ t cap d. setRefusal t cap n x ≡ refusal (checks s (setValue n x))) p e (set-refusal s (p .valid) n x)
+  set-decides x y s g mark p e = y ∙ from-picture (λ t cap d. setRefusal t cap n x ≡ refusal (checks s (setValue n x))) p e (set-refusal s (p .valid) n x)
 
 module _ (t : List ℤ) (cap d n : ℕ) where
   -- a request that is not refused names one of the rows
@@ -66,4 +66,4 @@ module _ (t : List ℤ) (cap n : ℕ) where
 -- ---- a refused request
 
 pub refused-applied : (q : Request) (cap d : ℕ) (t : List ℤ) (v : List Float) (why : ℕ) → Decides q cap d t v why → why ≢ 0 → Applied q cap d t v t v why
-refused-applied q cap d t v why x z = record { decided = x; done = λ s columns rows mark p e h. absurd (z h); refused = λ _. (refl, refl) }
+refused-applied q cap d t v why x z = record { decided = x; done = λ s g mark p e h. absurd (z h); refused = λ _. (refl, refl) }

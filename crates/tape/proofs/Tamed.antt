@@ -7,7 +7,7 @@ use mathlib.Core.List.{List}
 use lib.ListN.{length}
 use lib.IntN.{ℤ}
 use lib.Ieee.{Float}
-use Rattle.mesh.specs.Place.{rectangle, base}
+use Rattle.mesh.specs.Place.{Grid, base}
 use Rattle.mesh.specs.State.{State, gridOf, capacity}
 use Rattle.mesh.specs.Valid.{Valid}
 use Rattle.mesh.specs.Picture.{rowWords, table}
@@ -22,7 +22,7 @@ use Rattle.tape.proofs.Drawing.{drawn-depth, from-picture}
 picture-tame : (s : State) → Valid s → Tame (table s) (capacity s) (base (gridOf s))
 picture-tame s v = record { indices = picture-small v; flags = flags-small s; plain = record { links = λ n w h l. picture-links s n w l; flags = λ n h. omega (arith, flags-small s n) } }
 
-module _ {s : State} {columns rows mark cap d : ℕ} {t : List ℤ} {v : List Float} (p : Drawn s columns rows mark cap t v) (e : base (rectangle columns rows) ≡ d) where
+module _ {s : State} {g : Grid} {mark cap d : ℕ} {t : List ℤ} {v : List Float} (p : Drawn s g mark cap t v) (e : base g ≡ d) where
   pub drawn-tame : Tame t cap d
   drawn-tame = from-picture Tame p e (picture-tame s (p .valid))
 

@@ -44,7 +44,7 @@ module _ (bytes : List ℕ) (at k : ℕ) (inside : at < length bytes) (is : k �
     -- what stops before a request is decided
     turned-stop : (r : ℕ) → r ≢ 0 → ((s : State) → stepBy s (kind k) rest ≡ stop r) → Turned bytes at cap d t v t v r at
     turned-stop r z h = record {
-      stops = λ _ s columns rows mark p e. stopped s r (h s);
+      stops = λ _ s g mark p e. stopped s r (h s);
       same = λ _. (refl, refl);
       goes = λ e. absurd (z e);
       further = λ e. absurd (z e);
@@ -93,9 +93,9 @@ module _ (bytes : List ℕ) (at k : ℕ) (inside : at < length bytes) (is : k �
 
     pub turned-request : Turned bytes at cap d t v t′ v′ why (at + 1 + len)
     turned-request = record {
-      stops = λ z s columns rows mark p e. stopped s why (step-refused s (request-refused s q why (a .decided s columns rows mark p e) z));
+      stops = λ z s g mark p e. stopped s why (step-refused s (request-refused s q why (a .decided s g mark p e) z));
       same = λ z. (a .refused z .0, a .refused z .1);
-      goes = λ z s columns rows mark p e.
-          record { state = marked (effect s q); drawn = a .done s columns rows mark p e z; goes-on = on s (marked (effect s q)) (request-accepted s q (sym (a .decided s columns rows mark p e) ∙ z)) };
+      goes = λ z s g mark p e.
+          record { state = marked (effect s q); drawn = a .done s g mark p e z; goes-on = on s (marked (effect s q)) (request-accepted s q (sym (a .decided s g mark p e) ∙ z)) };
       further = λ z. (omega arith, omega (arith, whole));
     }

@@ -6,7 +6,7 @@ use mathlib.Core.Logic.{_≢_}
 use mathlib.Core.List.{List}
 use lib.IntN.{ℤ}
 use lib.Ieee.{Float}
-use Rattle.mesh.specs.Place.{rectangle, base}
+use Rattle.mesh.specs.Place.{Grid, base}
 use Rattle.mesh.specs.State.{State}
 use Rattle.mesh.specs.Refusal.{refusal}
 use Rattle.mesh.specs.Request.{Request, checks, effect, marked}
@@ -14,7 +14,7 @@ use Rattle.tape.specs.Drawn.{Drawn}
 
 -- t and v become t′ and v′, and why is the refusal, 0 for none
 pub record Applied (q : Request) (cap d : ℕ) (t : List ℤ) (v : List Float) (t′ : List ℤ) (v′ : List Float) (why : ℕ) : Type 0 where
-  pub decided : (s : State) (columns rows mark : ℕ) → Drawn s columns rows mark cap t v → base (rectangle columns rows) ≡ d → why ≡ refusal (checks s q)
-  pub done : (s : State) (columns rows mark : ℕ) → Drawn s columns rows mark cap t v → base (rectangle columns rows) ≡ d → why ≡ 0
-      → Drawn (marked (effect s q)) columns rows ((mark + 1) % 65536) cap t′ v′
+  pub decided : (s : State) (g : Grid) (mark : ℕ) → Drawn s g mark cap t v → base g ≡ d → why ≡ refusal (checks s q)
+  pub done : (s : State) (g : Grid) (mark : ℕ) → Drawn s g mark cap t v → base g ≡ d → why ≡ 0
+      → Drawn (marked (effect s q)) g ((mark + 1) % 65536) cap t′ v′
   pub refused : why ≢ 0 → (t′ ≡ t) × (v′ ≡ v)

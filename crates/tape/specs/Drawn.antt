@@ -6,7 +6,7 @@ use mathlib.Core.List.{List}
 use lib.IntN.{ℤ}
 use lib.Ieee.{Float}
 use lib.ListN.{length}
-use Rattle.mesh.specs.Place.{rectangle, base}
+use Rattle.mesh.specs.Place.{Grid, base}
 use Rattle.mesh.specs.State.{State, capacity}
 use Rattle.mesh.specs.Valid.{Valid}
 use Rattle.mesh.specs.Picture.{rowWords, table, amounts}
@@ -15,9 +15,9 @@ use Rattle.steps.specs.Small.{AllSmall}
 use Rattle.table.specs.Plain.{Plain}
 
 -- the header, the words and the values are those of the state
-pub record Drawn (s : State) (columns rows mark cap : ℕ) (t : List ℤ) (v : List Float) : Type 0 where
+pub record Drawn (s : State) (g : Grid) (mark cap : ℕ) (t : List ℤ) (v : List Float) : Type 0 where
   pub valid : Valid s
-  pub is-header : s .header ≡ record { grid = rectangle columns rows; mark = mark }
+  pub is-header : s .header ≡ record { grid = g; mark = mark }
   pub is-capacity : capacity s ≡ cap
   pub is-table : t ≡ table s
   pub is-values : v ≡ amounts s
@@ -41,7 +41,6 @@ pub record Tame (t : List ℤ) (cap d : ℕ) : Type 0 where
 -- some state is pictured, whose level 0 is at depth d
 pub record Pictured (mark cap d : ℕ) (t : List ℤ) (v : List Float) : Type 0 where
   pub state : State
-  pub columns : ℕ
-  pub rows : ℕ
-  pub drawn : Drawn state columns rows mark cap t v
-  pub depth : base (rectangle columns rows) ≡ d
+  pub grid : Grid
+  pub drawn : Drawn state grid mark cap t v
+  pub depth : base grid ≡ d

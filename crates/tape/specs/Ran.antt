@@ -7,7 +7,7 @@ use mathlib.Core.List.{List}
 use lib.IntN.{ℤ}
 use lib.Ieee.{Float}
 use lib.ListN.{length, drop}
-use Rattle.mesh.specs.Place.{rectangle, base}
+use Rattle.mesh.specs.Place.{Grid, base}
 use Rattle.mesh.specs.State.{State}
 use Rattle.mesh.specs.Tape.{runFrom, run}
 use Rattle.tape.specs.Drawn.{Drawn}
@@ -15,22 +15,22 @@ use Rattle.tape.specs.Drawn.{Drawn}
 -- ---- one request
 
 -- the run from s goes on from another state, which t and v picture, at the offset next and with one request more done
-pub record Goes (s : State) (columns rows mark cap : ℕ) (t : List ℤ) (v : List Float) (bytes : List ℕ) (at next : ℕ) : Type 0 where
+pub record Goes (s : State) (g : Grid) (mark cap : ℕ) (t : List ℤ) (v : List Float) (bytes : List ℕ) (at next : ℕ) : Type 0 where
   pub state : State
-  pub drawn : Drawn state columns rows mark cap t v
+  pub drawn : Drawn state g mark cap t v
   pub goes-on : (n : ℕ) → runFrom 0 s n at (drop at bytes) ≡ runFrom 0 state (n + 1) next (drop next bytes)
 
 pub record Turned (bytes : List ℕ) (at cap d : ℕ) (t : List ℤ) (v : List Float) (t′ : List ℤ) (v′ : List Float) (why next : ℕ) : Type 0 where
-  pub stops : why ≢ 0 → (s : State) (columns rows mark : ℕ) → Drawn s columns rows mark cap t v → base (rectangle columns rows) ≡ d
+  pub stops : why ≢ 0 → (s : State) (g : Grid) (mark : ℕ) → Drawn s g mark cap t v → base g ≡ d
       → (n : ℕ) → runFrom 0 s n at (drop at bytes) ≡ record { state = s; done = n; why = why; offset = at }
   pub same : why ≢ 0 → (t′ ≡ t) × (v′ ≡ v)
-  pub goes : why ≡ 0 → (s : State) (columns rows mark : ℕ) → Drawn s columns rows mark cap t v → base (rectangle columns rows) ≡ d
-      → Goes s columns rows ((mark + 1) % 65536) cap t′ v′ bytes at next
+  pub goes : why ≡ 0 → (s : State) (g : Grid) (mark : ℕ) → Drawn s g mark cap t v → base g ≡ d
+      → Goes s g ((mark + 1) % 65536) cap t′ v′ bytes at next
   pub further : why ≡ 0 → (at < next) × (next ≤ length bytes)
 
 -- ---- the tape
 
 -- the answer is the rules', and t′ and v′ picture the state that the rules leave
 pub record Ran (bytes : List ℕ) (cap d mark : ℕ) (t : List ℤ) (v : List Float) (t′ : List ℤ) (v′ : List Float) (done why offset mark′ : ℕ) : Type 0 where
-  pub answer : (s : State) (columns rows : ℕ) → Drawn s columns rows mark cap t v → base (rectangle columns rows) ≡ d
-      → (done ≡ run s bytes .done) × (why ≡ run s bytes .why) × (offset ≡ run s bytes .offset) × Drawn (run s bytes .state) columns rows mark′ cap t′ v′
+  pub answer : (s : State) (g : Grid) → Drawn s g mark cap t v → base g ≡ d
+      → (done ≡ run s bytes .done) × (why ≡ run s bytes .why) × (offset ≡ run s bytes .offset) × Drawn (run s bytes .state) g mark′ cap t′ v′
