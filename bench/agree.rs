@@ -23,7 +23,7 @@ impl Case {
     }
 
     fn lists(&mut self) -> Lists {
-        let header = Header { columns: self.number() as u32, rows: self.number() as u32, mark: self.number() as u16 };
+        let header = Header { columns: self.number() as u32, rows: self.number() as u32, mode: self.number() as u32, mark: self.number() as u16 };
         let table = self.list().into_iter().map(|word| word as i32).collect();
         let values = self.list().into_iter().map(|bits| f64::from_bits(bits as u64)).collect();
         Lists { header, table, values }
@@ -53,11 +53,11 @@ fn case_agrees(text: &str) -> bool {
     let (mut a, mut b) = (lists.clone(), lists.clone());
     match call {
         1 => {
-            let (columns, rows) = (case.number() as u32, case.number() as u32);
+            let (columns, rows, mode) = (case.number() as u32, case.number() as u32, case.number() as u32);
             let wanted = (case.number() as u32, case.number() as u32);
             let left = case.lists();
-            let by_hand = hand::build(&mut a.header, &mut a.table, &mut a.values, capacity, columns, rows);
-            let by_proof = proved::build(&mut b.header, &mut b.table, &mut b.values, capacity, columns, rows);
+            let by_hand = hand::build(&mut a.header, &mut a.table, &mut a.values, capacity, columns, rows, mode);
+            let by_proof = proved::build(&mut b.header, &mut b.table, &mut b.values, capacity, columns, rows, mode);
             by_hand == wanted && by_proof == wanted && a.same(&left) && b.same(&left)
         }
         2 => {
@@ -119,13 +119,14 @@ macro_rules! program {
     ($calls:ident, $input:expr) => {{
         let input: &[u8] = $input;
         let capacity = 1000;
-        let mut lists = Lists { header: Header { columns: 0, rows: 0, mark: 0 }, table: vec![0; 14 * 1001], values: vec![0.0; 1001] };
+        let header = Header { columns: 0, rows: 0, mode: 0, mark: 0 };
+        let mut lists = Lists { header, table: vec![0; 14 * 1001], values: vec![0.0; 1001] };
         let mut page = vec![0; 60000];
         let head = match input {
             _ if input.len() > 60000 => 20,
             [] => 4,
             [7, columns, rows, ..] => {
-                $calls::build(&mut lists.header, &mut lists.table, &mut lists.values, capacity, *columns as u32, *rows as u32).0
+                $calls::build(&mut lists.header, &mut lists.table, &mut lists.values, capacity, *columns as u32, *rows as u32, hand::OPEN).0
             }
             [7, ..] => 4,
             _ => 5,

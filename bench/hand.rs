@@ -1,13 +1,18 @@
 //! The six calls written by hand in safe Rust, for the comparison of speed: from the scope paper alone, with no proof. A table that a caller lends
 //! is tested row by row by its links; a request touches the rows near its cell alone; along a tape the lowest number that may be free is remembered.
+//! Only the build and the checker know of a ring's seam: requests go by the links.
 
 #[repr(C)]
 #[derive(Clone, Copy, Debug, PartialEq, Eq)]
 pub struct Header {
     pub columns: u32,
     pub rows: u32,
+    pub mode: u32,
     pub mark: u16,
 }
+
+pub const OPEN: u32 = 0;
+pub const RING: u32 = 1;
 
 pub type Row = [i32; 14];
 pub const ROW: usize = 14;
@@ -33,6 +38,9 @@ const GRN_POINT: i32 = 1 << 7;
 pub const GRN_CELL: i32 = 1 << 10;
 pub const SENTENCED: i32 = 1 << 12;
 const DEAD: i32 = 1 << 13;
+
+/// The kid of a row in the western or eastern half, southern or northern.
+const KIDS: [[usize; 2]; 2] = [[SW, NW], [SE, NE]];
 
 const FREE: Row = [0, 0, 0, 0, 0, 0, 0, 0, 0, 0, 0, 0, DEAD, 0];
 const LAST_LEVEL: i32 = 12;
@@ -111,15 +119,15 @@ fn refuse_lengths(t: &[i32], v: &[f64], capacity: u32) -> bool {
     !(5..=MOST).contains(&most) || t.len() != ROW * (most + 1) || v.len() != most + 1
 }
 
-fn refuse_size(columns: u32, rows: u32) -> bool {
-    !(1..=32).contains(&columns) || !(1..=32).contains(&rows)
+fn refuse_size(columns: u32, rows: u32, mode: u32) -> bool {
+    mode > RING || !(1..=32).contains(&columns) || !(1..=32).contains(&rows) || mode == RING && rows < 3
 }
 
 fn admit(h: &Header, t: &[i32], v: &[f64], capacity: u32) -> Result<Facts, u32> {
     if refuse_lengths(t, v, capacity) {
         return Err(1);
     }
-    if refuse_size(h.columns, h.rows) {
+    if refuse_size(h.columns, h.rows, h.mode) {
         return Err(2);
     }
     sound(h, t, v).ok_or(3)
@@ -147,7 +155,7 @@ fn sound(h: &Header, t: &[i32], v: &[f64]) -> Option<Facts> {
         }
         let p = linked(t, r[PARENT])?;
         if n != 1 {
-            in_tree(t, n, r, p, root_level)?;
+            in_tree(h, t, n, r, p, root_level)?;
         }
         let count = r[NE..=NW].iter().filter(|&&kid| kid != 0).count();
         kids += count;
@@ -174,20 +182,48 @@ fn is_root(r: &Row, level: i32) -> bool {
     r[FLAGS] != DEAD && r[PARENT] == 0 && r[N..=W] == [0; 4] && r[LEVEL] == level && r[I] == 0 && r[J] == 0
 }
 
-/// The parent is one level up at the halved place and names the row, and the neighbours are its kids or its neighbours' kids. By induction on the
-/// level no two rows have one place.
-fn in_tree(t: &[i32], n: usize, r: &Row, p: &Row, root_level: i32) -> Option<()> {
+/// The parent is one level up at the halved place and names the row, and the neighbours are its kids or its neighbours' kids, or lie over the seam.
+/// By induction on the level no two rows have one place.
+fn in_tree(h: &Header, t: &[i32], n: usize, r: &Row, p: &Row, root_level: i32) -> Option<()> {
     let (level, i, j) = (r[LEVEL], r[I], r[J]);
     if level <= root_level || level > LAST_LEVEL || p[LEVEL] != level - 1 || p[I] != i >> 1 || p[J] != j >> 1 {
         return None;
     }
-    let (own, around) = match (i & 1, j & 1) {
+    let (own, mut around) = match (i & 1, j & 1) {
         (0, 0) => (p[SW], [p[NW], p[SE], linked(t, p[S])?[NW], linked(t, p[W])?[SE]]),
         (0, _) => (p[NW], [linked(t, p[N])?[SW], p[NE], p[SW], linked(t, p[W])?[NE]]),
         (_, 0) => (p[SE], [p[NE], linked(t, p[E])?[SW], linked(t, p[S])?[NE], p[SW]]),
         _ => (p[NE], [linked(t, p[N])?[SE], linked(t, p[E])?[NW], p[SE], p[NW]]),
     };
+    if level == 0 && h.mode == RING {
+        close(h, t, i, j, root_level, &mut around)?;
+    }
     (own == n as i32 && r[N..=W] == around).then_some(())
+}
+
+/// The lowest and the highest row of a ring's level 0 are neighbours. The ghosts above them are not, so that the row over the seam is found from the
+/// root down. Level 0 has no other rows; above it the parents are linked over the seam.
+fn close(h: &Header, t: &[i32], i: i32, j: i32, root_level: i32, around: &mut [i32; 4]) -> Option<()> {
+    let highest = h.rows as i32 - 1;
+    if j > highest {
+        return None;
+    }
+    if j == highest {
+        around[N - N] = ground_row(t, i, 0, root_level)?;
+    }
+    if j == 0 {
+        around[S - N] = ground_row(t, i, highest, root_level)?;
+    }
+    Some(())
+}
+
+/// The number at a place of level 0 by the kid words, or 0.
+fn ground_row(t: &[i32], i: i32, j: i32, root_level: i32) -> Option<i32> {
+    let mut n = 1;
+    for bit in (0..-root_level).rev() {
+        n = linked(t, n)?[KIDS[(i >> bit & 1) as usize][(j >> bit & 1) as usize]];
+    }
+    Some(n)
 }
 
 /// A patch without a cell is touched by one, is no kid of a cell with kids, and has the flags that the cells around it make.
@@ -233,35 +269,40 @@ pub fn check(h: &Header, t: &[i32], v: &[f64], capacity: u32) -> u32 {
 // ---- build
 
 /// The refusal, and the number in use.
-pub fn build(h: &mut Header, t: &mut [i32], v: &mut [f64], capacity: u32, columns: u32, rows: u32) -> (u32, u32) {
+pub fn build(h: &mut Header, t: &mut [i32], v: &mut [f64], capacity: u32, columns: u32, rows: u32, mode: u32) -> (u32, u32) {
     if refuse_lengths(t, v, capacity) {
         return (1, 0);
     }
-    if refuse_size(columns, rows) {
+    if refuse_size(columns, rows, mode) {
         return (2, 0);
     }
     let d = ground_depth(columns, rows);
-    let used: u32 = (0..=d).map(|e| ((columns >> e) + 1) * ((rows >> e) + 1)).sum();
+    let highest = rows - mode;
+    let used: u32 = (0..=d).map(|e| ((columns >> e) + 1) * ((highest >> e) + 1)).sum();
     if used > capacity {
         return (11, 0);
     }
-    *h = Header { columns, rows, mark: 0 };
+    *h = Header { columns, rows, mode, mark: 0 };
     v.fill(0.0);
     *row_mut(t, 0) = [0; ROW];
     for n in used as usize + 1..v.len() {
         *row_mut(t, n) = FREE;
     }
     *row_mut(t, 1) = [0, 0, 0, 0, 0, 0, 0, 0, 0, -(d as i32), 0, 0, 0, 0];
-    number_levels(t, d, columns as i32, rows as i32);
+    number_levels(t, d, columns as i32, rows as i32, mode);
+    if mode == RING {
+        link_seam(t, d, columns as i32, rows as i32);
+    }
     (0, used)
 }
 
 /// Level by level, by parents in their own order: a patch comes after its west and its south neighbour, so that it can be linked to them at once.
-fn number_levels(t: &mut [i32], d: u32, columns: i32, rows: i32) {
+/// The highest row of points is a ring's lowest.
+fn number_levels(t: &mut [i32], d: u32, columns: i32, rows: i32, mode: u32) {
     let mut next = 2;
     let mut parents = 1..2;
     for e in (0..d).rev() {
-        let (last_i, last_j) = (columns >> e, rows >> e);
+        let (last_i, last_j) = (columns >> e, (rows - mode as i32) >> e);
         let first = next;
         for p in parents {
             let above = *row(t, p);
@@ -272,7 +313,7 @@ fn number_levels(t: &mut [i32], d: u32, columns: i32, rows: i32) {
                     continue;
                 }
                 t[p * ROW + wind] = next as i32;
-                let flags = if e == 0 { ground_flags(i, j, columns, rows) } else { 0 };
+                let flags = if e == 0 { ground_flags(i, j, columns, rows, mode) } else { 0 };
                 *row_mut(t, next) = [p as i32, 0, 0, 0, 0, 0, 0, 0, 0, -(e as i32), i, j, flags, 0];
                 let (west, south) = match wind {
                     SW => (t[above[W] as usize * ROW + SE], t[above[S] as usize * ROW + NW]),
@@ -295,13 +336,23 @@ fn number_levels(t: &mut [i32], d: u32, columns: i32, rows: i32) {
     }
 }
 
-/// The flags of a patch of a full rectangle.
-fn ground_flags(i: i32, j: i32, columns: i32, rows: i32) -> i32 {
-    let is_cell = |i: i32, j: i32| (i >= 0 && j >= 0 && i < columns && j < rows) as i32;
+/// Each patch of a ring's highest row is south of the one in the lowest row.
+fn link_seam(t: &mut [i32], d: u32, columns: i32, rows: i32) {
+    for i in 0..=columns {
+        let [low, high] = [0, rows - 1].map(|j| ground_row(t, i, j, -(d as i32)).unwrap());
+        t[low as usize * ROW + S] = high;
+        t[high as usize * ROW + N] = low;
+    }
+}
+
+/// The flags of a patch of a full rectangle. A ring has no lower and no upper edge.
+fn ground_flags(i: i32, j: i32, columns: i32, rows: i32, mode: u32) -> i32 {
+    let is_cell = |i: i32, j: i32| (i >= 0 && i < columns && (mode == RING || j >= 0 && j < rows)) as i32;
+    let ends = |last: i32| mode != RING && (j == 0 || j == last);
     let c = is_cell(i, j);
     let own = WALLS[(c | is_cell(i - 1, j) << 1 | is_cell(i, j - 1) << 2 | 24) as usize];
-    let point = if i == 0 || j == 0 || i == columns || j == rows { BDY_POINT } else { 0 };
-    let edge = c != 0 && (i == 0 || j == 0 || i == columns - 1 || j == rows - 1);
+    let point = if i == 0 || i == columns || ends(rows) { BDY_POINT } else { 0 };
+    let edge = c != 0 && (i == 0 || i == columns - 1 || ends(rows - 1));
     c | own | point | if edge { BDY_CELL } else { 0 }
 }
 
@@ -581,7 +632,7 @@ impl<'a> Desk<'a> {
         self.put_back(r[E], W, 0);
         self.put_back(r[S], N, 0);
         self.put_back(r[W], E, 0);
-        let kid = [[SW, NW], [SE, NE]][(r[I] & 1) as usize][(r[J] & 1) as usize];
+        let kid = KIDS[(r[I] & 1) as usize][(r[J] & 1) as usize];
         self.t[r[PARENT] as usize * ROW + kid] = 0;
         *row_mut(self.t, q) = FREE;
         self.v[q] = 0.0;
@@ -746,6 +797,9 @@ pub fn lookup(h: &Header, t: &[i32], v: &[f64], capacity: u32, speed: u32, load:
     if let Err(refusal) = admit(h, t, v, capacity) {
         return nothing(refusal);
     }
+    if h.mode == RING && load >= h.rows << LAST_LEVEL {
+        return nothing(19);
+    }
     let d = ground_depth(h.columns, h.rows);
     let again = || TRIES.iter().find_map(|&(left, down)| leaf_at(t, v, d, speed.checked_sub(left)?, load.checked_sub(down)?));
     leaf_at(t, v, d, speed, load).or_else(again).unwrap_or(nothing(19))
@@ -760,7 +814,7 @@ fn leaf_at(t: &[i32], v: &[f64], d: u32, speed: u32, load: u32) -> Option<Found>
         return None;
     }
     let toward = |n: usize, bit: u32| {
-        let kid = [[SW, NW], [SE, NE]][(speed >> bit & 1) as usize][(load >> bit & 1) as usize];
+        let kid = KIDS[(speed >> bit & 1) as usize][(load >> bit & 1) as usize];
         t[n * ROW + kid] as usize
     };
     let mut bit = LAST_LEVEL as u32 + d;
@@ -868,10 +922,11 @@ fn lines(h: &Header, t: &[i32], v: &[f64], leaves: &[u16], out: &mut [u8]) -> us
     let mut pen = Pen { out, at: 0, sum: 0 };
     let mut first = Line::new();
     first.word(b"map ");
-    for (number, end) in [(h.columns, b' '), (h.rows, b' '), (h.mark as u32, b'\n')] {
+    for number in [h.columns, h.rows, h.mark as u32] {
         first.number(number);
-        first.byte(end);
+        first.byte(b' ');
     }
+    first.word(if h.mode == RING { b"ring\n" } else { b"open\n" });
     pen.put(first.done());
     for &leaf in leaves {
         let r = row(t, leaf as usize);

@@ -31,8 +31,8 @@ macro_rules! run {
         let capacity = lists.capacity();
         match &job.work {
             Work::Check => outcome.answers.push($calls::check(&lists.header, &lists.table, &lists.values, capacity) as u64),
-            Work::Build(columns, rows) => {
-                let (refusal, used) = $calls::build(&mut lists.header, &mut lists.table, &mut lists.values, capacity, *columns, *rows);
+            Work::Build(columns, rows, mode) => {
+                let (refusal, used) = $calls::build(&mut lists.header, &mut lists.table, &mut lists.values, capacity, *columns, *rows, *mode);
                 outcome.answers.extend([refusal as u64, used as u64]);
             }
             Work::Tapes(tapes) => {
@@ -114,7 +114,7 @@ fn all(timed: bool) {
         let (same, a, b) = together(&job, if timed { 5 } else { 1 });
         failed |= !same;
         let times = if timed { format!("proved {:>10.1} us, hand {:>10.1} us, ", a * 1e6, b * 1e6) } else { String::new() };
-        println!("{:<17} {}{}; {}", name, times, if same { "the same" } else { "DIFFERENT" }, job.start.told());
+        println!("{:<20} {}{}; {}", name, times, if same { "the same" } else { "DIFFERENT" }, job.start.told());
     }
     process::exit(failed as i32);
 }

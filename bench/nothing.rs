@@ -8,7 +8,7 @@ pub fn check(_: &Header, _: &[i32], _: &[f64], capacity: u32) -> u32 {
 }
 
 #[inline(never)]
-pub fn build(_: &mut Header, _: &mut [i32], _: &mut [f64], capacity: u32, columns: u32, _: u32) -> (u32, u32) {
+pub fn build(_: &mut Header, _: &mut [i32], _: &mut [f64], capacity: u32, columns: u32, _: u32, _: u32) -> (u32, u32) {
     (capacity, columns)
 }
 

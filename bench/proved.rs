@@ -12,6 +12,7 @@ extern "C" {
         capacity: u32,
         columns: u32,
         rows: u32,
+        mode: u32,
         in_use: *mut u32,
     ) -> u32;
     fn grid_tape(
@@ -74,9 +75,9 @@ pub fn check(h: &Header, t: &[i32], v: &[f64], capacity: u32) -> u32 {
     unsafe { grid_check(h, t.as_ptr(), t.len(), v.as_ptr(), v.len(), capacity) }
 }
 
-pub fn build(h: &mut Header, t: &mut [i32], v: &mut [f64], capacity: u32, columns: u32, rows: u32) -> (u32, u32) {
+pub fn build(h: &mut Header, t: &mut [i32], v: &mut [f64], capacity: u32, columns: u32, rows: u32, mode: u32) -> (u32, u32) {
     let mut used = u32::MAX;
-    let refusal = unsafe { grid_build(h, t.as_mut_ptr(), t.len(), v.as_mut_ptr(), v.len(), capacity, columns, rows, &mut used) };
+    let refusal = unsafe { grid_build(h, t.as_mut_ptr(), t.len(), v.as_mut_ptr(), v.len(), capacity, columns, rows, mode, &mut used) };
     (refusal, used)
 }
 

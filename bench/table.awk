@@ -33,6 +33,10 @@ function grows(said, name, how, per) {
     printf "| %s | %s | %s |\n", said, grouped(cost(name, "proved", how, per)), grouped(cost(name, "hand", how, per))
 }
 
+function both(said, open, ring, how) {
+    printf "| %s | %s | %s | %s | %s |\n", said, grouped(cost(open, "proved", how)), grouped(cost(ring, "proved", how)), grouped(cost(open, "hand", how)), grouped(cost(ring, "hand", how))
+}
+
 END {
     print "| workload | at most | a careful version's | proved | hand | |"
     print "|---|---|---|---|---|---|"
@@ -70,4 +74,22 @@ END {
     grows("page without the check, a leaf, of 1,714 leaves", "page", "less", 1714)
     grows("scan without the check, a leaf, of 427 leaves", "scan-quarter", "less", 427)
     grows("scan without the check, a leaf, of 1,714 leaves", "scan", "less", 1714)
+    print ""
+    print "On open grids, and on rings of the same size:"
+    print ""
+    print "| cost | proved, open | ring | hand, open | ring |"
+    print "|---|---|---|---|---|"
+    both("check, a row of a full table, one level", "check-one-level", "ring-check-one-level", "whole")
+    both("the same, mixed levels and values", "check-mixed", "ring-check-mixed", "whole")
+    both("a request of the mixed tape, capacity 1,000 near full", "mixed-1000", "ring-mixed-1000", "whole")
+    both("refine, four sentences, remove; at most 12 numbers free, the last ones", "cycle-full", "ring-cycle-full", "less")
+    both("the same, the free numbers scattered over the table", "cycle-scattered", "ring-cycle-scattered", "less")
+    both("the same, in a sparse table", "cycle-sparse", "ring-cycle-sparse", "less")
+    both("the same, in the ring at its seam alone", "cycle-sparse", "ring-cycle-seam", "less")
+    both("one refinement without the check, nine new patches in a table just built", "refine-fresh", "ring-refine-fresh", "less")
+    both("build 32 by 32 at capacity 4,095", "build-32", "ring-build-32", "whole")
+    both("one lookup without its check", "lookup", "ring-lookup", "less")
+    both("the same, on the right edge", "lookup-right", "ring-lookup-right", "less")
+    both("page of 1,714 leaves without the check", "page", "ring-page", "less")
+    both("scan of 1,714 leaves without the check", "scan", "ring-scan", "less")
 }

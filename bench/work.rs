@@ -1,7 +1,7 @@
 //! The workloads: lists to start from and calls to make on them. Tapes are made by a seeded generator that looks at the hand-written version's state,
 //! so that every request is accepted and the table stays near full.
 
-use crate::hand::{self, row, Desk, Header, COMPLETE, E, FLAGS, GRN_CELL, I, J, LEVEL, N, NE, NW, ROW, S, SE, SENTENCED, SW, W};
+use crate::hand::{self, row, Desk, Header, COMPLETE, E, FLAGS, GRN_CELL, I, J, LEVEL, N, NE, NW, OPEN, RING, ROW, S, SE, SENTENCED, SW, W};
 
 #[derive(Clone)]
 pub struct Lists {
@@ -37,7 +37,7 @@ impl Lists {
 
 pub enum Work {
     Check,
-    Build(u32, u32),
+    Build(u32, u32, u32),
     Tapes(Vec<Vec<u8>>),
     Lookups(Vec<(u32, u32)>),
     Scan,
@@ -97,31 +97,45 @@ impl Job {
     }
 }
 
+/// On open grids, and some of them on rings of the same size: the same makers with the same seeds.
 pub const WORKLOADS: &[(&str, fn() -> Job)] = &[
-    ("check-one-level", || check(one_level())),
+    ("check-one-level", || check(one_level(OPEN))),
     ("check-deep", || check(deep())),
-    ("check-mixed", || check(filled(8, 4095, 8))),
-    ("check-1000", || check(filled(8, 1000, 8))),
-    ("mixed-1000", || mixed(8, 1000, 20_000)),
-    ("mixed-1000-short", || mixed(8, 1000, 5_000)),
-    ("long-4095", || mixed(16, 4095, 200_000)),
+    ("check-mixed", || check(filled(OPEN, 8, 4095, 8))),
+    ("check-1000", || check(filled(OPEN, 8, 1000, 8))),
+    ("mixed-1000", || mixed(OPEN, 8, 1000, 20_000)),
+    ("mixed-1000-short", || mixed(OPEN, 8, 1000, 5_000)),
+    ("long-4095", || mixed(OPEN, 16, 4095, 200_000)),
     ("single-1000", single),
-    ("cycle-sparse", || cycles(built(8, 8, 4095))),
-    ("cycle-full", || cycles(nearly_full())),
-    ("cycle-scattered", || cycles(scattered())),
+    ("cycle-sparse", || cycles(built(8, 8, OPEN, 4095))),
+    ("cycle-full", || cycles(nearly_full(OPEN))),
+    ("cycle-scattered", || cycles(scattered(OPEN))),
     ("families-1000", || families(1000)),
     ("families-4095", || families(4095)),
-    ("refine-fresh", || refinement(built(8, 8, 4095))),
-    ("refine-full", || refinement(nearly_full())),
-    ("build-32", build),
-    ("lookup", || lookups(|speed, load| (speed, load))),
-    ("lookup-right", || lookups(|_, load| (EDGE, load))),
-    ("lookup-top", || lookups(|speed, _| (speed, EDGE))),
-    ("lookup-corner", || lookups(|_, _| (EDGE, EDGE))),
-    ("page", || Job { start: leaves(486), work: Work::Page, per: Per::Call }),
-    ("page-quarter", || Job { start: leaves(57), work: Work::Page, per: Per::Call }),
-    ("scan", || Job { start: leaves(486), work: Work::Scan, per: Per::Call }),
-    ("scan-quarter", || Job { start: leaves(57), work: Work::Scan, per: Per::Call }),
+    ("refine-fresh", || refinement(built(8, 8, OPEN, 4095))),
+    ("refine-full", || refinement(nearly_full(OPEN))),
+    ("build-32", || build(OPEN)),
+    ("lookup", || lookups(OPEN, |speed, load| (speed, load))),
+    ("lookup-right", || lookups(OPEN, |_, load| (EDGE, load))),
+    ("lookup-top", || lookups(OPEN, |speed, _| (speed, EDGE))),
+    ("lookup-corner", || lookups(OPEN, |_, _| (EDGE, EDGE))),
+    ("page", || Job { start: leaves(OPEN, 486), work: Work::Page, per: Per::Call }),
+    ("page-quarter", || Job { start: leaves(OPEN, 57), work: Work::Page, per: Per::Call }),
+    ("scan", || Job { start: leaves(OPEN, 486), work: Work::Scan, per: Per::Call }),
+    ("scan-quarter", || Job { start: leaves(OPEN, 57), work: Work::Scan, per: Per::Call }),
+    ("ring-check-one-level", || check(one_level(RING))),
+    ("ring-check-mixed", || check(filled(RING, 8, 4095, 8))),
+    ("ring-mixed-1000", || mixed(RING, 8, 1000, 20_000)),
+    ("ring-cycle-full", || cycles(nearly_full(RING))),
+    ("ring-cycle-scattered", || cycles(scattered(RING))),
+    ("ring-cycle-sparse", || cycles(built(8, 8, RING, 4095))),
+    ("ring-cycle-seam", || cycles_at(built(8, 8, RING, 4095), |r| r[J] == 7)),
+    ("ring-refine-fresh", || refinement(built(8, 8, RING, 4095))),
+    ("ring-build-32", || build(RING)),
+    ("ring-lookup", || lookups(RING, |speed, load| (speed, load))),
+    ("ring-lookup-right", || lookups(RING, |_, load| (EDGE, load))),
+    ("ring-page", || Job { start: leaves(RING, 486), work: Work::Page, per: Per::Call }),
+    ("ring-scan", || Job { start: leaves(RING, 486), work: Work::Scan, per: Per::Call }),
 ];
 
 /// xorshift64*.
@@ -270,17 +284,17 @@ impl<'a> Maker<'a> {
 
 // ---- tables to start from
 
-fn built(columns: u32, rows: u32, capacity: usize) -> Lists {
-    let header = Header { columns: 0, rows: 0, mark: 0 };
+fn built(columns: u32, rows: u32, mode: u32, capacity: usize) -> Lists {
+    let header = Header { columns: 0, rows: 0, mode: 0, mark: 0 };
     let mut lists = Lists { header, table: vec![0; ROW * (capacity + 1)], values: vec![0.0; capacity + 1] };
-    let (refusal, _) = hand::build(&mut lists.header, &mut lists.table, &mut lists.values, capacity as u32, columns, rows);
+    let (refusal, _) = hand::build(&mut lists.header, &mut lists.table, &mut lists.values, capacity as u32, columns, rows, mode);
     assert_eq!(refusal, 0);
     lists
 }
 
 /// A square refined at random leaves until it is full, with values here and there, and some leaves sentenced.
-fn filled(size: u32, capacity: usize, value_every: usize) -> Lists {
-    let mut lists = built(size, size, capacity);
+fn filled(mode: u32, size: u32, capacity: usize, value_every: usize) -> Lists {
+    let mut lists = built(size, size, mode, capacity);
     let mut maker = Maker::new(&mut lists, 5);
     maker.fill(0, value_every);
     for _ in 0..capacity / 50 {
@@ -291,8 +305,8 @@ fn filled(size: u32, capacity: usize, value_every: usize) -> Lists {
 }
 
 /// Level-0 cells refined one after the other: every patch but the ghosts is on level 0 or 1.
-fn one_level() -> Lists {
-    let mut lists = built(28, 28, 4095);
+fn one_level(mode: u32) -> Lists {
+    let mut lists = built(28, 28, mode, 4095);
     let mut maker = Maker::new(&mut lists, 6);
     for n in 1..maker.rows() {
         if row(maker.desk.t, n)[LEVEL] == 0 {
@@ -304,7 +318,7 @@ fn one_level() -> Lists {
 
 /// One cell refined at the deepest of some leaves, down to level 12 and until there is no room.
 fn deep() -> Lists {
-    let mut lists = built(1, 1, 4095);
+    let mut lists = built(1, 1, OPEN, 4095);
     let mut maker = Maker::new(&mut lists, 7);
     maker.ask(5, 2, Some(42.5));
     let mut failures = 0;
@@ -321,7 +335,7 @@ fn deep() -> Lists {
 
 /// One cell, refined so many times at its lower left corner.
 pub fn refined(times: usize) -> Lists {
-    let mut lists = built(1, 1, 200);
+    let mut lists = built(1, 1, OPEN, 200);
     for _ in 0..times {
         let leaf = hand::lookup(&lists.header, &lists.table, &lists.values, lists.capacity(), 0, 0).number;
         assert!(Maker::new(&mut lists, 1).ask(1, leaf as usize, None));
@@ -330,8 +344,8 @@ pub fn refined(times: usize) -> Lists {
 }
 
 /// A table of 4,095 in which 9 to 12 numbers are free, the last ones: it was only ever refined.
-fn nearly_full() -> Lists {
-    let mut lists = built(16, 16, 4095);
+fn nearly_full(mode: u32) -> Lists {
+    let mut lists = built(16, 16, mode, 4095);
     let mut maker = Maker::new(&mut lists, 8);
     maker.fill(20, 8);
     while maker.desk.free > 12 {
@@ -348,8 +362,8 @@ fn nearly_full() -> Lists {
 }
 
 /// The same number of free rows, scattered over the table by a long tape.
-fn scattered() -> Lists {
-    let mut lists = nearly_full();
+fn scattered(mode: u32) -> Lists {
+    let mut lists = nearly_full(mode);
     let mut maker = Maker::new(&mut lists, 9);
     maker.mix(20_000);
     while !(9..=12).contains(&maker.desk.free) {
@@ -364,8 +378,8 @@ fn scattered() -> Lists {
 }
 
 /// Sixteen by sixteen cells with some refinements, level 0 first, so that there are 256 + 3 times as many leaves; some have values.
-fn leaves(refinements: usize) -> Lists {
-    let mut lists = built(16, 16, 4095);
+fn leaves(mode: u32, refinements: usize) -> Lists {
+    let mut lists = built(16, 16, mode, 4095);
     let mut maker = Maker::new(&mut lists, 10);
     for _ in 0..100 {
         maker.value();
@@ -389,8 +403,8 @@ fn check(start: Lists) -> Job {
 }
 
 /// A tape of a mix of requests, on a table that is near full at its start.
-fn mixed(size: u32, capacity: usize, requests: usize) -> Job {
-    let mut start = built(size, size, capacity);
+fn mixed(mode: u32, size: u32, capacity: usize, requests: usize) -> Job {
+    let mut start = built(size, size, mode, capacity);
     Maker::new(&mut start, 1).fill(9, 8);
     let mut end = start.clone();
     let mut maker = Maker::new(&mut end, 2);
@@ -401,7 +415,7 @@ fn mixed(size: u32, capacity: usize, requests: usize) -> Job {
 
 /// The first requests of the mixed tape, one a call.
 fn single() -> Job {
-    let Job { start, work, .. } = mixed(8, 1000, 60);
+    let Job { start, work, .. } = mixed(OPEN, 8, 1000, 60);
     let mut tapes = vec![];
     if let Work::Tapes(whole) = work {
         let mut rest = &whole[0][..];
@@ -416,12 +430,17 @@ fn single() -> Job {
 
 /// Refine, sentence the four, remove: 200 times, at leaves for which there is room.
 fn cycles(start: Lists) -> Job {
+    cycles_at(start, |_| true)
+}
+
+/// The same, at those of the leaves that are wanted.
+fn cycles_at(start: Lists, wanted: fn(&hand::Row) -> bool) -> Job {
     let mut end = start.clone();
     let mut maker = Maker::new(&mut end, 3);
     let mut units = 0;
     while units < 200 {
         let leaf = maker.some_leaf();
-        if maker.ask(1, leaf, None) {
+        if wanted(row(maker.desk.t, leaf)) && maker.ask(1, leaf, None) {
             for kid in maker.kids(leaf) {
                 maker.ask(2, kid, None);
             }
@@ -436,7 +455,7 @@ fn cycles(start: Lists) -> Job {
 /// numbers alone are free. 100 times the three families are removed, which frees more low numbers than are remembered, and refined again: the last of
 /// them has fewer than nine low numbers to choose from, and the next free one is far away.
 fn families(capacity: usize) -> Job {
-    let mut start = built(8, 8, capacity);
+    let mut start = built(8, 8, OPEN, capacity);
     let mut maker = Maker::new(&mut start, 12);
     let place = |maker: &Maker, n: usize| (row(maker.desk.t, n)[LEVEL], row(maker.desk.t, n)[I], row(maker.desk.t, n)[J]);
     let cells = [0, 1, 2].map(|j| (1..maker.rows()).find(|&n| maker.is_leaf(n) && place(&maker, n) == (0, 0, j)).expect("a cell"));
@@ -480,16 +499,16 @@ fn refinement(start: Lists) -> Job {
     }
 }
 
-fn build() -> Job {
-    Job { start: built(8, 8, 4095), work: Work::Build(32, 32), per: Per::Call }
+fn build(mode: u32) -> Job {
+    Job { start: built(8, 8, OPEN, 4095), work: Work::Build(32, 32, mode), per: Per::Call }
 }
 
 /// The upper and right edge of 16 by 16 cells.
 const EDGE: u32 = 16 * 4096;
 
 /// Points in the area, moved to where they are looked up.
-fn lookups(moved: fn(u32, u32) -> (u32, u32)) -> Job {
-    let start = leaves(486);
+fn lookups(mode: u32, moved: fn(u32, u32) -> (u32, u32)) -> Job {
+    let start = leaves(mode, 486);
     let mut chance = Chance(11);
     let mut some = || chance.below(EDGE as usize) as u32;
     let points = (0..10_000).map(|_| moved(some(), some())).collect();

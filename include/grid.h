@@ -9,7 +9,7 @@
  *
  * The refusals, each given exactly when:
  *    1  table_len is not 14 * (capacity + 1), values_len is not capacity + 1, or the capacity is not 5 to 4,095
- *    2  the columns or the rows are not 1 to 32
+ *    2  the columns or the rows are not 1 to 32, the mode is neither, or a ring has fewer than 3 rows
  *    3  header, table and values are not sound: they do not picture a grid
  *    4  the tape ends inside a request
  *    5  the kind of a request is none of 1 to 5
@@ -27,7 +27,7 @@
  *   17  the order is no permutation of the four kid winds, the kind of scan is none of 1 to 6, from_level is below the start's level, or to_level
  *       is below from_level
  *   18  the output is too short
- *   19  no leaf holds the point, nor the points it is tried again at
+ *   19  no leaf holds the point, nor the points it is tried again at; or it lies past the rows of a ring
  *   21  the cell to be refined is above level 0, and one of the four places beside it on its level lies in the remaining area and is no cell
  *   22  beside one of the four kids to be removed, across an edge, lies a cell of their level that is none of them and has kids
  * (20 is the program's own.) Of a request the first of its list is given: refine 6, 7, 8, 9, 10, 21, 11; sentence 6, 7, 8, 12; remove 6, 7, 13, 14,
@@ -42,16 +42,19 @@
 extern "C" {
 #endif
 
-/* The rectangle of level-0 cells, and the edit mark: each accepted request adds 1, and 65,535 is followed by 0. The two bytes behind mark are
- * padding, and what they hold after a call is unspecified: compare headers field by field, not by memcmp. */
+/* The mode of a grid. In a ring the load goes round: north of the highest row lies the lowest. */
+enum { GRID_OPEN = 0, GRID_RING = 1 };
+
+/* The rectangle of level-0 cells, its mode, and the edit mark: each accepted request adds 1, and 65,535 is followed by 0. The two bytes behind mark
+ * are padding, and what they hold after a call is unspecified: compare headers field by field, not by memcmp. */
 typedef struct {
-    uint32_t columns, rows;
+    uint32_t columns, rows, mode;
     uint16_t mark;
 } grid_header;
 
 /* Builds the rectangle, blank: the header, all rows and all values. in_use: the numbers in use. Refuses 1, 2, 11. */
 uint32_t grid_build(grid_header *header, int32_t *table, size_t table_len, double *values, size_t values_len, uint32_t capacity,
-                    uint32_t columns, uint32_t rows, uint32_t *in_use);
+                    uint32_t columns, uint32_t rows, uint32_t mode, uint32_t *in_use);
 
 /* Runs requests end to end, up to the first that is refused. done: those carried out. offset: the refused request's first byte, or tape_len.
  * Refuses 1 to 16, 21 and 22. */
@@ -70,8 +73,8 @@ uint32_t grid_scan(const grid_header *header, const int32_t *table, size_t table
 
 /* The leaf that holds a point, given in 1/4096 of a level-0 cell. A leaf holds its lower and left edges; a point that none holds is tried again one
  * unit to the left, one unit down, then both, never below 0, so that the upper and right edges of the area belong to the leaves that end there.
- * status: 0 blank, 1 measured, 2 carried down from the parent; value: +0 if blank. The stack that a lookup takes does not grow with the levels.
- * Refuses 1, 2, 3, 19. */
+ * In a ring a load of rows * 4096 or more is 19 at once, and no try goes round. status: 0 blank, 1 measured, 2 carried down from the parent; value: +0
+ * if blank. The stack that a lookup takes does not grow with the levels. Refuses 1, 2, 3, 19. */
 uint32_t grid_lookup(const grid_header *header, const int32_t *table, size_t table_len, const double *values, size_t values_len, uint32_t capacity,
                      uint32_t speed, uint32_t load, uint32_t *number, uint32_t *status, double *value);
 

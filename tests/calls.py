@@ -11,7 +11,7 @@ Call = collections.namedtuple("Call", "size capacity requests taped left page lo
 
 def call_of(line):
     case = json.loads(line)
-    size = case["columns"], case["rows"]
+    size = case["columns"], case["rows"], case["mode"]
     values = [int(bits, 16) for bits in case["values"]]
     looked = [((speed, load), r.Found(why, number, status, int(bits, 16))) for speed, load, number, status, bits, why in case["lookups"]]
     return Call(

@@ -15,8 +15,8 @@ ORDER = (r.SW, r.NW, r.SE, r.NE)
 class Told(Lent):
     """A lent grid that says what each call answers, as the programs do."""
 
-    def __init__(self, columns, rows, capacity=40):
-        super().__init__(columns, rows, capacity)
+    def __init__(self, columns, rows, capacity=40, mode=r.OPEN):
+        super().__init__(columns, rows, capacity, mode)
         print(f"build {self.answer.refusal} in use {self.answer.count}")
 
     def tape(self, *requests):
@@ -47,7 +47,7 @@ class Told(Lent):
     def flagged(self, *numbers):
         print("flags" + "".join(f" {word}" for word in self.flags(*numbers)))
 
-    def words(self, number, first, count):
+    def part(self, number, first, count):
         print(f"row {number}:" + "".join(f" {word}" for word in self.row(number)[first : first + count]))
 
 
@@ -79,14 +79,14 @@ def more_cells():
     m.tape(4, 0, 6)
     m.flagged(3, 8, 9, 17, 16, 11, 18)
     m.tape(1, 0, 10)
-    m.words(10, r.NE, 4)
+    m.part(10, r.NE, 4)
 
     print("P9")
     m = Told(3, 1)
     m.tape(4, 0, 6)
     m.scan(1)
-    m.words(6, r.N, 4)
-    m.words(8, r.N, 4)
+    m.part(6, r.N, 4)
+    m.part(8, r.N, 4)
 
 
 def no_jump():
@@ -94,12 +94,41 @@ def no_jump():
     m = Told(2, 1)
     m.tape(1, 0, 4, 1, 0, 11)
     m.tape(1, 0, 6, 1, 0, 11)
-    m.words(6, r.NE, 4)
-    m.words(11, r.NE, 4)
+    m.part(6, r.NE, 4)
+    m.part(11, r.NE, 4)
     m.tape(2, 0, 17, 2, 0, 19, 2, 0, 16, 2, 0, 20, 3, 0, 6)
     m.tape(2, 0, 25, 2, 0, 26, 2, 0, 27, 2, 0, 28, 3, 0, 11, 3, 0, 6)
     m.scan(3)
     m.checked()
+
+
+def ring():
+    print("a ring")
+    m = Told(1, 3, mode=r.RING)
+    m.places(4, 9)
+    m.part(4, r.N, 4)
+    m.part(8, r.N, 4)
+    m.flagged(4, 5, 8, 6, 7, 9)
+    m.tape(1, 0, 8)
+    m.places(10, 18)
+    m.part(12, r.N, 4)
+    m.part(14, r.N, 4)
+    m.flagged(12, 13, 14, 15)
+    m.lookup(0, 3 * 4096 - 1)
+    m.lookup(0, 3 * 4096)
+    m.tape(1, 0, 12)
+    m.tape(4, 0, 4, 1, 0, 12)
+    m.flagged(12, 13, 14, 15)
+    m.lookup(0, 0)
+    m.scan(3)
+    m.page()
+    m.checked()
+    m.header = m.header._replace(mode=r.OPEN)
+    m.checked()
+    m.header = m.header._replace(mode=2)
+    m.checked()
+    Told(1, 2, mode=r.RING)
+    Told(1, 3, mode=2)
 
 
 def points():
@@ -154,4 +183,5 @@ def refusals(m):
 one_cell()
 more_cells()
 no_jump()
+ring()
 refusals(points())

@@ -2,8 +2,8 @@
 
     python3 generate.py KIND SEED COUNT FOLDER
 
-KIND is builds, tapes, damaged, scans, lookups, pages, older or programs.  The
-same kind, seed and count give the same files.
+KIND is builds, tapes, damaged, scans, lookups, pages, older, rings or programs.
+The same kind, seed and count give the same files.
 
 Kind programs writes NNNN.in and NNNN.out, an input of the program and what it
 prints.  Every other kind writes one file KIND-SEED-NNNN.case for each case: one
@@ -13,7 +13,7 @@ levels.  A list is its length, then its items, on one line.
 
     line 1   call: 1 build, 2 tape, 3 check, 4 scan, 5 lookup, 6 page
     line 2   capacity
-    line 3   header: columns rows mark
+    line 3   header: columns rows mode mark
     line 4   table: a list of words, signed 32-bit
     line 5   values: a list of 64-bit patterns, unsigned
     line 6   arguments
@@ -21,7 +21,7 @@ levels.  A list is its length, then its items, on one line.
     line 8+  what was changed
 
     call     arguments                           answer
-    build    columns rows                        refusal count
+    build    columns rows mode                   refusal count
     tape     list of bytes                       done refusal offset
     check    0                                   refusal
     scan     start order(4) kind from to         refusal count
@@ -38,6 +38,7 @@ lookup and page leave header, table and values as they were.
 """
 
 import argparse
+import copy
 import pathlib
 import random
 import struct
@@ -115,7 +116,7 @@ def way(grid, cell):
     """The refinements that 21 wants before a cell's own, and the cell itself last."""
     if not r.too_coarse_beside(grid, cell):
         return [cell]
-    around = sorted(place for place in r.beside([cell]) if r.in_union(place, grid.cells))
+    around = sorted(place for place in r.beside(grid.header, [cell]) if r.in_union(place, grid.cells))
     coarse = [leaf_over(grid, place) for place in around if place not in grid.cells]
     return list(dict.fromkeys([one for leaf in coarse for one in way(grid, leaf)] + [cell]))
 
@@ -194,10 +195,18 @@ def some_number(rng, grid):
     return rng.choice((rng.choice(used), rng.choice(cells), rng.choice(cells), rng.choice(wild)))
 
 
+def across(header, place):
+    """The neighbour places over a ring's seam."""
+    near = [r.neighbour(header, place, wind) for wind in (r.N, r.S)]
+    return [one for one in near if abs(one[2] - place[2]) > 1]
+
+
 def refused_by_no_1(rng, grid):
-    """Refinements that 21 refuses; and removals that 22 does, after what 14 asks for."""
+    """Refinements that 21 refuses; and removals that 22 does, after what 14 asks for.  In a ring often those at its seam."""
     coarse = [leaf for leaf in refinable(grid) if r.too_coarse_beside(grid, leaf)]
     fine = [cell for cell in families(grid) if r.too_fine_beside(grid, cell)]
+    if grid.header.mode == r.RING and chance(rng, 2):
+        coarse, fine = ([cell for cell in some if across(grid.header, cell)] or some for some in (coarse, fine))
     return [[(r.REFINE, leaf)] for leaf in coarse], [removal(rng, grid, cell) for cell in fine]
 
 
@@ -266,7 +275,12 @@ def some_capacity(rng, need):
 
 def some_size(rng):
     most = rng.choice((1, 2, 3, 8))
-    return rng.randint(1, most), rng.randint(1, most)
+    return rng.randint(1, most), rng.randint(1, most), r.OPEN
+
+
+def ring_size(rng):
+    """Mostly few rows, so that most of a ring lies at its seam."""
+    return rng.choice((1, 1, 2, 3, 5)), rng.choice((3, 3, 3, 4, 5, 7, 8)), r.RING
 
 
 def go_down(rng, grid, straight):
@@ -282,12 +296,12 @@ def go_down(rng, grid, straight):
         cell = chosen(r.kids(cell))
 
 
-def some_grid(rng):
+def some_grid(rng, some=some_size):
     """A grid from a fresh build, with any mark, often renumbered."""
-    columns, rows = some_size(rng)
-    need = len(r.built(5, columns, rows).numbers)
+    size = some(rng)
+    need = len(r.built(5, *size).numbers)
     down = chance(rng, 4)
-    grid = r.built(200 if down else some_capacity(rng, need), columns, rows)
+    grid = r.built(200 if down else some_capacity(rng, need), *size)
     suitable(rng, grid, rng.choice((0, 5, 20, 60)), chance(rng, 4))
     if down:
         go_down(rng, grid, not chance(rng, 3))
@@ -297,11 +311,11 @@ def some_grid(rng):
     return grid
 
 
-def older_grid(rng):
+def older_grid(rng, some=some_size):
     """A sound grid that No. 1 does not allow: some requests that it refuses are done."""
     jumps = 0
     while not jumps:
-        grid = some_grid(rng)
+        grid = some_grid(rng, some)
         for _ in range(rng.choice((1, 3, 10))):
             found = [one for one in refused_by_no_1(rng, grid) if one]
             chosen = rng.choice(rng.choice(found)) if found else []
@@ -309,6 +323,11 @@ def older_grid(rng):
                 done = r.step(grid, kind, grid.numbers[cell], 0, CHECKS_OF_01) == 0
                 jumps += done and kind != r.SENTENCE
     return grid
+
+
+def ring_grid(rng):
+    """A ring, now and then one that No. 1 does not allow."""
+    return older_grid(rng, ring_size) if chance(rng, 8) else some_grid(rng, ring_size)
 
 
 def lend(grid):
@@ -359,8 +378,8 @@ def get_row(table, number):
 def damage_row(rng, grid, lists):
     table, capacity = lists[2], grid.capacity
     wild = [some_word(rng) for _ in range(r.WORDS)]
-    copy = get_row(table, rng.randint(0, capacity))
-    words = rng.choice((list(r.NIL_ROW), list(r.FREE_ROW), wild, copy))
+    another = get_row(table, rng.randint(0, capacity))
+    words = rng.choice((list(r.NIL_ROW), list(r.FREE_ROW), wild, another))
     set_row(table, rng.randint(0, capacity), words)
 
 
@@ -407,13 +426,51 @@ def damage_status(rng, grid, lists):
 
 def damage_header(rng, grid, lists):
     """Columns and rows; within the same bit length a grid may stay sound."""
-    columns, rows, mark = lists[1]
+    columns, rows, mode, _ = lists[1]
     wild = (0, 1, 32, 33, 2**32 - 1, rng.randint(1, 9))
     if chance(rng, 2):
         columns = rng.choice((columns + 1, max(0, columns - 1), rows, rng.choice(wild)))
     else:
         rows = rng.choice((rows + 1, max(0, rows - 1), columns, rng.choice(wild)))
-    lists[1] = r.Header(columns, rows, some_mark(rng))
+    lists[1] = r.Header(columns, rows, mode, some_mark(rng))
+
+
+WRONG_MODES = (2, 3, 255, 256, 65536, 65537, 2**31, 2**31 + 1, 2**32 - 1)
+
+
+def damage_mode(rng, grid, lists):
+    """The other mode, or none; a table without a patch at the seam is sound in both."""
+    mode = r.OPEN + r.RING - lists[1].mode if chance(rng, 2) else rng.choice(WRONG_MODES)
+    lists[1] = lists[1]._replace(mode=mode)
+
+
+def over_seam(grid):
+    """The links over a ring's seam, each as the number of a row and a word of it."""
+    return [
+        (number, wind)
+        for patch, number in sorted(grid.numbers.items())
+        for wind in (r.N, r.S)
+        for over in [r.neighbour(grid.header, patch, wind)]
+        if over in grid.numbers and over in across(grid.header, patch)
+    ]
+
+
+def damage_seam(rng, grid, lists):
+    """A link over the seam dropped, doubled, or swapped with another, there or at its other end."""
+    found, table = over_seam(grid), lists[2]
+    if not found:
+        return
+    (number, wind), (other, its) = rng.choice(found), rng.choice(found)
+    place, another = r.WORDS * number + wind, r.WORDS * other + its
+    roll = rng.randrange(4)
+    if roll == 0:
+        table[place] = 0
+    elif roll == 1:
+        table[place] = table[another]
+    elif roll == 2:
+        table[place], table[another] = table[another], table[place]
+    else:
+        table[r.WORDS * table[place] + r.N + r.S - wind] = rng.choice((0, other, table[place]))
 
 
 def damage_length(rng, grid, lists):
@@ -435,22 +492,46 @@ def garbage(rng, grid, lists):
     length = rng.choice((right, right, right + rng.randint(-3, 3), rng.randint(0, 300)))
     count = rng.choice((capacity + 1, capacity + 1, rng.randint(0, 22)))
     lists[0] = capacity
-    lists[1] = r.Header(rng.randint(0, 34), rng.randint(0, 34), some_mark(rng))
+    mode = rng.choice(WRONG_MODES) if chance(rng, 8) else rng.choice((r.OPEN, r.RING))
+    lists[1] = r.Header(rng.randint(0, 34), rng.randint(0, 34), mode, some_mark(rng))
     lists[2] = [some_word(rng) for _ in range(max(0, length))]
     lists[3] = [rng.getrandbits(64) * rng.randrange(2) for _ in range(count)]
 
 
+def row_above(grid):
+    """A ring's lists with the points that an open grid has above its highest cells, each row of them as it is there: they
+    name the ring's rows, and of those none but ghosts names them.  None if there are not numbers enough."""
+    open_grid = copy.copy(grid)
+    open_grid.header = grid.header._replace(mode=r.OPEN)
+    top = {cell for cell in grid.cells if cell[0] == 0 and cell[2] == grid.header.rows - 1}
+    new = sorted(r.patches(open_grid.header, top) - set(grid.numbers))
+    free = grid.free_numbers()
+    if not new or len(new) > len(free):
+        return None
+    more = copy.copy(grid)
+    more.numbers = open_grid.numbers = {**grid.numbers, **dict(zip(new, free))}
+    lists = lend(more)
+    kinds = r.walls(open_grid.header, grid.cells)
+    for patch in new:
+        set_row(lists[2], more.numbers[patch], r.row(open_grid, patch, kinds))
+    return lists
+
+
+def damage_by_a_row_above(rng, grid, lists):
+    lists[:] = row_above(grid) or lists
+
+
 def fit(grid):
     """Number exactly the patches of the cells again, as far as numbers last."""
-    present = r.patches(grid.cells, -r.root(grid.header)[0])
+    present = r.patches(grid.header, grid.cells)
     grid.numbers = {patch: n for patch, n in grid.numbers.items() if patch in present}
     new = sorted(present - set(grid.numbers))
     grid.numbers.update(zip(new, grid.free_numbers()))
 
 
-def pictured(columns, rows, cells, capacity):
+def pictured(columns, rows, cells, capacity, mode=r.OPEN):
     """A grid of any cells."""
-    grid = r.Grid(capacity, r.Header(columns, rows, 0), set(cells), {})
+    grid = r.Grid(capacity, r.Header(columns, rows, mode, 0), set(cells), {})
     fit(grid)
     return grid
 
@@ -459,7 +540,7 @@ def spoil_cells(rng, grid):
     """Cells that are no mesh: a lost cell, or one outside, too deep or orphaned."""
     cells = sorted(grid.cells)
     level, i, j = rng.choice(cells)
-    columns, rows, _ = grid.header
+    columns, rows, *_ = grid.header
     outside = [(0, columns, 0), (0, 0, rows), (0, -1, 0), (0, 64, 64), (0, columns + 3, rows)]
     orphan = [(level + 2, 4 * i, 4 * j), (level + 1, 2 * i + 1, 2 * j), (13, i, j), (1, 200, 3)]
     roll = rng.randrange(5)
@@ -533,12 +614,19 @@ DAMAGES = (
     damage_value,
     damage_status,
     damage_header,
+    damage_mode,
     damage_length,
     damage_capacity,
     garbage,
     damage_picture,
     damage_picture,
 )
+
+
+def damage(rng, grid, lists):
+    """One of all damages; to a ring often one at its seam."""
+    seam = (*[damage_seam] * 4, damage_by_a_row_above) if grid.header.mode == r.RING else ()
+    rng.choice(DAMAGES + seam)(rng, grid, lists)
 
 
 # ------------------------------------------------------------ cases
@@ -554,24 +642,26 @@ def lines_of(call, lists, arguments, answer, *changed):
     return "".join(" ".join(map(str, line)) + "\n" for line in [*lines, *changed])
 
 
-def build_case(rng):
-    columns, rows = some_size(rng)
+def build_case(rng, some=some_size):
+    columns, rows, mode = some(rng)
     if chance(rng, 8):
         columns = rng.choice((0, 1, 32, 33, 255, 2**32 - 1))
     if chance(rng, 8):
-        rows = rng.choice((0, 1, 32, 33, 255, 2**32 - 1))
-    right = not r.refuses_size(columns, rows)
-    need = len(r.built(5, columns, rows).numbers) if right else 5
+        rows = rng.choice((0, 1, 2, 32, 33, 255, 2**32 - 1))
+    if chance(rng, 12):
+        mode = rng.choice(WRONG_MODES)
+    right = not r.refuses_size(columns, rows, mode)
+    need = len(r.built(5, columns, rows, mode).numbers) if right else 5
     least = max(5, need)
     wild = 4096 if chance(rng, 10) else rng.choice((0, 4, 5))
     capacity = rng.choice((least, least, least - 1, least + rng.randint(0, 20), wild))
     words = r.WORDS * (capacity + 1) + (rng.randint(-1, 1) if chance(rng, 10) else 0)
     count = capacity + 1 + (rng.randint(-1, 1) if chance(rng, 10) else 0)
     table = [some_word(rng) for _ in range(words)]
-    lists = [capacity, r.Header(5, 6, 7), table, [rng.getrandbits(64) for _ in range(count)]]
-    answer, header, table, values = r.build(*lists, columns, rows)
+    lists = [capacity, r.Header(5, 6, 7, 8), table, [rng.getrandbits(64) for _ in range(count)]]
+    answer, header, table, values = r.build(*lists, columns, rows, mode)
     changed = header, listing(table), listing(values)
-    return lines_of(BUILD, lists, [columns, rows], answer, *changed)
+    return lines_of(BUILD, lists, [columns, rows, mode], answer, *changed)
 
 
 def tape_lines(lists, requests):
@@ -590,12 +680,12 @@ def check_lines(lists):
     return lines_of(CHECK, lists, [0], [r.check(*lists)])
 
 
-def damaged_case(rng):
+def damaged_case(rng, some=some_grid):
     """Mostly the checker, sometimes another call on the same lists."""
-    grid = some_grid(rng)
+    grid = some(rng)
     lists = lend(grid)
     if not chance(rng, 20):
-        rng.choice(DAMAGES)(rng, grid, lists)
+        damage(rng, grid, lists)
     if not chance(rng, 4):
         return check_lines(lists)
     roll = rng.randrange(4)
@@ -655,12 +745,14 @@ def lookup_lines(lists, points):
 def some_point(rng, grid):
     """Inside, on a corner or edge of a cell, just beside it, or far out."""
     roll = rng.randrange(10)
-    columns, rows, _ = grid.header
+    columns, rows, mode, _ = grid.header
     if roll == 0:
         far = (0, 4095, 4096, 32 * 4096, 2**31, 2**32 - 1)
         return rng.choice(far), rng.choice(far)
     if roll < 4:
         return rng.randrange(4096 * (columns + 1)), rng.randrange(4096 * (rows + 1))
+    if roll < 6 and mode == r.RING:
+        return rng.randrange(4096 * columns + 2), rng.choice((0, 1, 4096 * rows - 1, 4096 * rows, 4096 * rows + 1))
     level, i, j = rng.choice(sorted(grid.cells))
     size = 4096 >> level
     shift = (0, -1, 1, size // 2, size - 1, size, size + 1)
@@ -692,9 +784,17 @@ def older_case(rng):
     return rng.choice((tape_case, tape_case, scan_case, lookup_case, page_case))(rng, older_grid)
 
 
+def ring_case(rng):
+    """Builds of rings, and every other call on them."""
+    if chance(rng, 8):
+        return build_case(rng, ring_size)
+    kinds = (tape_case, tape_case, tape_case, damaged_case, damaged_case, scan_case, lookup_case, page_case)
+    return rng.choice(kinds)(rng, ring_grid)
+
+
 def program_case(rng):
     """An input of the program."""
-    columns, rows = some_size(rng)
+    columns, rows, _ = some_size(rng)
     head = bytes([7, columns, rows])
     if chance(rng, 10):
         wild = (b"", b"\x07", b"\x07\x01", b"\x06\x01\x01", b"\x07\x00\x01", b"\x07\x01\x21")
@@ -705,7 +805,7 @@ def program_case(rng):
     if chance(rng, 40):
         columns, rows = rng.choice(((25, 25), (26, 26), (31, 20)))  # numbers run out soon
         head = bytes([7, columns, rows])
-    grid = r.built(r.PROGRAM_CAPACITY, columns, rows)
+    grid = r.built(r.PROGRAM_CAPACITY, columns, rows, r.OPEN)
     return head + some_tape(rng, grid, rng.choice((10, 60, 200)))
 
 
@@ -717,6 +817,7 @@ CASES = {
     "lookups": lookup_case,
     "pages": page_case,
     "older": older_case,
+    "rings": ring_case,
 }
 
 

@@ -1,4 +1,4 @@
-"""A reference of the rules of 01, with 02's No. 1 and 2, written for reading and comparing.
+"""A reference of the rules of 01, with 02's No. 1, 2 and 4, written for reading and comparing.
 
 The grid is held as sets: the cells are a set of (level, i, j), the numbers a
 dict from patch (level, i, j) to number.  The table is a picture of these and
@@ -8,11 +8,16 @@ Every call takes (capacity, header, table, values, its own arguments) and
 returns (answer, header, table, values).  The lists that were lent are not
 changed.  `check` alone returns its answer only.  A refusal is its number in
 01 or 02, 0 stands for none.  Values are 64-bit patterns, never floats.
+
+02's No. 4 closes the load direction.  The rules are the same in both modes:
+whatever goes a step north or south goes by `moved`, which alone counts rows
+round a ring; besides it only the refusals, a lookup's first check and the
+page's first line ask for the mode.
 """
 
 from collections import namedtuple
 
-Header = namedtuple("Header", "columns rows mark")
+Header = namedtuple("Header", "columns rows mode mark")
 
 # Answers.  A blank lookup has status 0 and bits 0.
 Built = namedtuple("Built", "refusal count")
@@ -41,6 +46,11 @@ NO_VALUE = (BLANK, 0)
 LAST_LEVEL = 12
 LEAST_CAPACITY, MOST_CAPACITY = 5, 4095
 MOST_SIZE = 32
+
+# 02, No. 4: the modes, with the words that end the page's first line.
+OPEN, RING = 0, 1
+MODES = ("open", "ring")
+LEAST_RING = 3  # rows
 UNITS = 1 << LAST_LEVEL  # lookup counts in 1/4096 of a level-0 cell
 PROGRAM_CAPACITY = 1000
 PROGRAM_INPUT = 60000
@@ -102,39 +112,41 @@ def kids(place):
     return [kid(place, wind) for wind in KID_WINDS]
 
 
-def neighbour(patch, wind):
-    level, i, j = patch
-    east, north = NEIGHBOUR_WINDS[wind]
+def moved(header, place, east, north):
+    """The place so many steps east and north.  02, No. 4: in a ring the "row index on level k
+    counts modulo rows × 2^k", and "ghosts link only as they do in the open mode"."""
+    level, i, j = place
+    if header.mode == RING and level >= 0:
+        return (level, i + east, (j + north) % (header.rows << level))
     return (level, i + east, j + north)
+
+
+def neighbour(header, patch, wind):
+    return moved(header, patch, *NEIGHBOUR_WINDS[wind])
 
 
 def rectangle(columns, rows):
     return {(0, i, j) for i in range(columns) for j in range(rows)}
 
 
-def points(cells):
+def points(header, cells):
     """The patches of levels 0 up: the corners of the cells."""
-    return {
-        (level, i + east, j + north)
-        for level, i, j in cells
-        for east in (0, 1)
-        for north in (0, 1)
-    }
+    return {moved(header, cell, east, north) for cell in cells for east in (0, 1) for north in (0, 1)}
 
 
-def ghosts(corners, d):
-    """The patches below level 0, halved from the level-0 patches, to level -d."""
+def ghosts(header, corners):
+    """The patches below level 0, halved from the level-0 patches, up to the root's level."""
     found = set()
     level = {patch for patch in corners if patch[0] == 0}
-    for _ in range(d):
+    for _ in range(-root(header)[0]):
         level = {parent(patch) for patch in level}
         found |= level
     return found
 
 
-def patches(cells, d):
-    corners = points(cells)
-    return corners | ghosts(corners, d)
+def patches(header, cells):
+    corners = points(header, cells)
+    return corners | ghosts(header, corners)
 
 
 # ---------------------------------------------------------------- the walls
@@ -142,34 +154,30 @@ def patches(cells, d):
 INTERNAL, BOUNDARY, GREEN = "internal", "boundary", "green"
 
 
-def cell_walls(cell):
+def cell_walls(header, cell):
     """The south, north, west and east wall of a cell."""
-    level, i, j = cell
     return (
-        ("H", level, i, j),
-        ("H", level, i, j + 1),
-        ("V", level, i, j),
-        ("V", level, i + 1, j),
+        ("H", *cell),
+        ("H", *moved(header, cell, 0, 1)),
+        ("V", *cell),
+        ("V", *moved(header, cell, 1, 0)),
     )
 
 
-def point_walls(point):
+def point_walls(header, point):
     """The places of the walls that may end at a point: east, west, north, south."""
-    level, i, j = point
     return (
-        ("H", level, i, j),
-        ("H", level, i - 1, j),
-        ("V", level, i, j),
-        ("V", level, i, j - 1),
+        ("H", *point),
+        ("H", *moved(header, point, -1, 0)),
+        ("V", *point),
+        ("V", *moved(header, point, 0, -1)),
     )
 
 
-def wall_sides(wall):
+def wall_sides(header, wall):
     """The two places that a wall lies between."""
-    letter, level, i, j = wall
-    if letter == "H":
-        return (level, i, j), (level, i, j - 1)
-    return (level, i, j), (level, i - 1, j)
+    letter, *place = wall
+    return tuple(place), moved(header, place, *((0, -1) if letter == "H" else (-1, 0)))
 
 
 def in_union(place, cells):
@@ -178,36 +186,35 @@ def in_union(place, cells):
     return (0, i >> level, j >> level) in cells
 
 
-def wall_kind(wall, cells):
+def wall_kind(header, wall, cells):
     """01: with one cell, boundary on the edge of the union, otherwise green."""
-    one, other = wall_sides(wall)
+    one, other = wall_sides(header, wall)
     if one in cells and other in cells:
         return INTERNAL
     edge = in_union(one, cells) != in_union(other, cells)
     return BOUNDARY if edge else GREEN
 
 
-def walls(cells):
+def walls(header, cells):
     """All walls of levels 0 up, each with its kind."""
-    places = {wall for cell in cells for wall in cell_walls(cell)}
-    return {wall: wall_kind(wall, cells) for wall in places}
+    places = {wall for cell in cells for wall in cell_walls(header, cell)}
+    return {wall: wall_kind(header, wall, cells) for wall in places}
 
 
 # ---------------------------------------------------------------- the picture
 
 
-def flags(patch, cells, kinds, sentenced):
+def flags(header, patch, cells, kinds, sentenced):
     """The word of flags; a ghost has 0, Pregnant and Dead stay 0.
 
     `kinds` are the walls with their kinds.
     """
-    level, i, j = patch
-    if level < 0:
+    if patch[0] < 0:
         return 0
     word = 0
-    h = kinds.get(("H", level, i, j))
-    v = kinds.get(("V", level, i, j))
-    at_point = [kinds.get(wall) for wall in point_walls(patch)]
+    h = kinds.get(("H", *patch))
+    v = kinds.get(("V", *patch))
+    at_point = [kinds.get(wall) for wall in point_walls(header, patch)]
     word |= WALL_H if h else 0
     word |= WALL_V if v else 0
     word |= BDY_WALL_H if h == BOUNDARY else 0
@@ -217,7 +224,7 @@ def flags(patch, cells, kinds, sentenced):
     word |= BDY_POINT if BOUNDARY in at_point else 0
     word |= GRN_POINT if GREEN in at_point else 0
     if patch in cells:
-        around = [kinds[wall] for wall in cell_walls(patch)]
+        around = [kinds[wall] for wall in cell_walls(header, patch)]
         word |= COMPLETE
         word |= BDY_CELL if BOUNDARY in around else 0
         word |= GRN_CELL if GREEN in around else 0
@@ -230,9 +237,9 @@ def row(grid, patch, kinds):
     number = grid.numbers.get
     words = [number(parent(patch), 0)]
     words += [number(kid(patch, wind), 0) for wind in KID_WINDS]
-    words += [number(neighbour(patch, wind), 0) for wind in NEIGHBOUR_WINDS]
+    words += [number(neighbour(grid.header, patch, wind), 0) for wind in NEIGHBOUR_WINDS]
     words += patch
-    words.append(flags(patch, grid.cells, kinds, grid.sentenced))
+    words.append(flags(grid.header, patch, grid.cells, kinds, grid.sentenced))
     words.append(grid.value(patch)[0])
     return words
 
@@ -242,7 +249,7 @@ def picture(grid):
     rows = [FREE_ROW] * (grid.capacity + 1)
     rows[0] = NIL_ROW
     values = [0] * (grid.capacity + 1)
-    kinds = walls(grid.cells)
+    kinds = walls(grid.header, grid.cells)
     for patch, number in grid.numbers.items():
         rows[number] = row(grid, patch, kinds)
         values[number] = grid.value(patch)[1]
@@ -289,10 +296,9 @@ def is_valued(grid, cell):
 
 def is_sound(grid):
     """Whether the sets are a mesh under one numbering, with 01's rules."""
-    columns, rows, _ = grid.header
-    if not is_mesh(grid.cells, columns, rows):
+    if not is_mesh(grid.cells, grid.header.columns, grid.header.rows):
         return False
-    if set(grid.numbers) != patches(grid.cells, bit_length(columns, rows)):
+    if set(grid.numbers) != patches(grid.header, grid.cells):
         return False
     if grid.numbers[root(grid.header)] != 1:
         return False
@@ -332,7 +338,7 @@ def admit(capacity, header, table, values):
     header = Header(*header)
     if refuses_lengths(capacity, table, values):
         return 1, None
-    if refuses_size(header.columns, header.rows):
+    if refuses_size(header.columns, header.rows, header.mode):
         return 2, None
     table, values = list(table), list(values)
     grid = decode(capacity, header, table, values)
@@ -347,7 +353,10 @@ def refuses_lengths(capacity, table, values):
     return len(table) != WORDS * (capacity + 1) or len(values) != capacity + 1
 
 
-def refuses_size(columns, rows):
+def refuses_size(columns, rows, mode):
+    """02, No. 4: "2 also for a mode that is neither, or a ring with fewer than 3 rows"."""
+    if mode not in (OPEN, RING) or mode == RING and rows < LEAST_RING:
+        return True
     return not (1 <= columns <= MOST_SIZE and 1 <= rows <= MOST_SIZE)
 
 
@@ -379,23 +388,23 @@ def level_order(present, top):
     return order
 
 
-def built(capacity, columns, rows):
+def built(capacity, columns, rows, mode):
     """The blank grid of a rectangle, with mark 0."""
-    header = Header(columns, rows, 0)
+    header = Header(columns, rows, mode, 0)
     cells = rectangle(columns, rows)
-    order = level_order(patches(cells, bit_length(columns, rows)), root(header))
+    order = level_order(patches(header, cells), root(header))
     numbers = {patch: number for number, patch in enumerate(order, 1)}
     return Grid(capacity, header, cells, numbers)
 
 
-def build(capacity, header, table, values, columns, rows):
+def build(capacity, header, table, values, columns, rows, mode):
     """Checks 1, 2, 11; the answer is the number in use."""
     before = lent(header, table, values)
     if refuses_lengths(capacity, table, values):
         return (Built(1, 0), *before)
-    if refuses_size(columns, rows):
+    if refuses_size(columns, rows, mode):
         return (Built(2, 0), *before)
-    grid = built(capacity, columns, rows)
+    grid = built(capacity, columns, rows, mode)
     if len(grid.numbers) > capacity:
         return (Built(11, 0), *before)
     return (Built(0, len(grid.numbers)), *drawn(grid))
@@ -417,10 +426,9 @@ CHECKS = {
 BODY = {REFINE: 2, SENTENCE: 2, REMOVE: 2, KILL: 2, SET_VALUE: 10}
 
 
-def refine_order(cell):
+def refine_order(header, cell):
     """01: kids SW, SE, NW, NE; of north SW, SE; of east NW, SW; of north-east SW."""
-    level, i, j = cell
-    north, east, north_east = (level, i, j + 1), (level, i + 1, j), (level, i + 1, j + 1)
+    north, east, north_east = (moved(header, cell, *by) for by in ((0, 1), (1, 0), (1, 1)))
     own = [kid(cell, wind) for wind in (SW, SE, NW, NE)]
     own += [kid(north, SW), kid(north, SE), kid(east, NW), kid(east, SW)]
     return own + [kid(north_east, SW)]
@@ -428,26 +436,26 @@ def refine_order(cell):
 
 def missing(grid, cell):
     """The new patches of a refinement, in order."""
-    return [patch for patch in refine_order(cell) if patch not in grid.numbers]
+    return [patch for patch in refine_order(grid.header, cell) if patch not in grid.numbers]
 
 
-def beside(places):
+def beside(header, places):
     """The places of the same level outside some that share an edge with one of them."""
-    around = {neighbour(place, wind) for place in places for wind in NEIGHBOUR_WINDS}
+    around = {neighbour(header, place, wind) for place in places for wind in NEIGHBOUR_WINDS}
     return around - set(places)
 
 
 def too_coarse_beside(grid, cell):
     """02, No. 1: "a cell above level 0 if one of its four same-level neighbour places
     lies inside the remaining area and is not a cell"."""
-    inside = {place for place in beside([cell]) if in_union(place, grid.cells)}
+    inside = {place for place in beside(grid.header, [cell]) if in_union(place, grid.cells)}
     return cell[0] > 0 and not inside <= grid.cells
 
 
 def too_fine_beside(grid, cell):
     """02, No. 1: "a same-level cell outside the four that shares an edge with one of
     them has kids"."""
-    return any(grid.has_kids(one) for one in beside(kids(cell)) & grid.cells)
+    return any(grid.has_kids(one) for one in beside(grid.header, kids(cell)) & grid.cells)
 
 
 def given(refusal, grid, kind, patch, bits):
@@ -498,7 +506,7 @@ def take_away(grid, cells):
         grid.cells.discard(cell)
         grid.values.pop(cell, None)
         grid.sentenced.pop(cell, None)
-    left = patches(grid.cells, -root(grid.header)[0])
+    left = patches(grid.header, grid.cells)
     grid.numbers = {patch: n for patch, n in grid.numbers.items() if patch in left}
 
 
@@ -610,7 +618,6 @@ def walk(grid, patch, order, levels):
 
 def counted(grid, kind, patch, kinds):
     """Whether a scan of this kind writes the patch."""
-    level, i, j = patch
     if kind == 1:
         return True
     if kind == 2:
@@ -618,16 +625,16 @@ def counted(grid, kind, patch, kinds):
     if kind == 3:
         return grid.is_leaf(patch)
     if kind == 4:
-        return ("H", level, i, j) in kinds
+        return ("H", *patch) in kinds
     if kind == 5:
-        return ("V", level, i, j) in kinds
-    return level >= 0
+        return ("V", *patch) in kinds
+    return patch[0] >= 0
 
 
 def scanned(grid, start, order, kind, from_level, to_level):
     """The patches that a scan writes, in order."""
     levels = min(to_level, LAST_LEVEL) - start[0]
-    kinds = walls(grid.cells)
+    kinds = walls(grid.header, grid.cells)
     return [
         patch
         for patch in walk(grid, start, order, levels)
@@ -693,7 +700,10 @@ def tries(speed, load):
 
 
 def found_leaf(grid, speed, load):
-    """02, No. 2: "the first leaf found", or None."""
+    """02, No. 2: "the first leaf found", or None.  No. 4: in a ring none "at once for a load of
+    rows × 4096 or more"."""
+    if grid.header.mode == RING and load >= grid.header.rows * UNITS:
+        return None
     leaves = (leaf_at(grid, *point) for point in tries(speed, load))
     return next((leaf for leaf in leaves if leaf is not None), None)
 
@@ -722,8 +732,8 @@ def page_text(grid):
     """The dossier page of a grid, as bytes."""
     tree = walk(grid, root(grid.header), PAGE_ORDER, LAST_LEVEL - root(grid.header)[0])
     leaves = [patch for patch in tree if grid.is_leaf(patch)]
-    columns, rows, mark = grid.header
-    lines = [f"map {columns} {rows} {mark}\n"] + [page_line(grid, leaf) for leaf in leaves]
+    columns, rows, mode, mark = grid.header
+    lines = [f"map {columns} {rows} {mark} {MODES[mode]}\n"] + [page_line(grid, leaf) for leaf in leaves]
     text = "".join(lines).encode("ascii")
     return text + f"cells {len(leaves)} sum {sum(text) % 2**32}\n".encode("ascii")
 
@@ -744,7 +754,8 @@ def refused(refusal, offset):
 
 
 def refuses_head(data):
-    """01: 20, then 4 for empty input, 5, 4 for a missing byte, then the build."""
+    """01: 20, then 4 for empty input, 5, 4 for a missing byte, then the build.  02, No. 4: "The
+    program `dossier` builds open grids"."""
     if len(data) > PROGRAM_INPUT:
         return 20
     if not data:
@@ -753,9 +764,9 @@ def refuses_head(data):
         return 5
     if len(data) < 3:
         return 4
-    if refuses_size(data[1], data[2]):
+    if refuses_size(data[1], data[2], OPEN):
         return 2
-    if len(built(PROGRAM_CAPACITY, data[1], data[2]).numbers) > PROGRAM_CAPACITY:
+    if len(built(PROGRAM_CAPACITY, data[1], data[2], OPEN).numbers) > PROGRAM_CAPACITY:
         return 11
     return 0
 
@@ -765,7 +776,7 @@ def program(data):
     refusal = refuses_head(data)
     if refusal:
         return refused(refusal, 0)
-    grid = built(PROGRAM_CAPACITY, data[1], data[2])
+    grid = built(PROGRAM_CAPACITY, data[1], data[2], OPEN)
     answer = run(grid, data[3:])
     if answer.refusal:
         return refused(answer.refusal, answer.offset + 3)

@@ -1,4 +1,4 @@
-"""Tests of the reference: P1 to P11 of 01, its refusals, No. 1 and 2 of 02, and the vectors.
+"""Tests of the reference: P1 to P11 of 01, its refusals, No. 1, 2 and 4 of 02, and the vectors.
 
     python3 test_reference.py [folder of vectors]
 
@@ -7,6 +7,7 @@ Prints `N passed, M failed` and ends with 1 if anything failed.
 
 import collections
 import copy
+import itertools
 import pathlib
 import random
 import struct
@@ -34,12 +35,12 @@ def expect(name, got, wanted):
 class Lent:
     """Capacity, header, table and values, as one caller holds them."""
 
-    def __init__(self, columns, rows, capacity=100):
+    def __init__(self, columns, rows, capacity=100, mode=r.OPEN):
         self.capacity = capacity
-        self.header = r.Header(0, 0, 0)
+        self.header = r.Header(0, 0, 0, 0)
         self.table = [-1] * (r.WORDS * (capacity + 1))
         self.values = [7] * (capacity + 1)
-        self.answer = self.call(r.build, columns, rows)
+        self.answer = self.call(r.build, columns, rows, mode)
 
     def call(self, function, *arguments):
         """Call and keep what comes back."""
@@ -54,6 +55,9 @@ class Lent:
 
     def place(self, number):
         return tuple(self.row(number)[r.I : r.J + 1])
+
+    def words(self, number, *words):
+        return [self.row(number)[word] for word in words]
 
     def flags(self, *numbers):
         return [self.row(number)[r.FLAGS] for number in numbers]
@@ -114,7 +118,7 @@ def test_p1_to_p5():
         expect("P5 sentence", grid.call(r.sentence, number), 0)
     expect("P5 remove", grid.call(r.remove, 2), 0)
     expect("P5 rows", (grid.table, grid.values), built[2:])
-    expect("P5 mark", grid.header, (1, 1, 6))
+    expect("P5 mark", grid.header, (1, 1, r.OPEN, 6))
     one = Lent(1, 1)
     answer = one.call(r.tape, refine(2) + sentence(6, 7, 8, 9) + remove(2))
     expect("P5 as one tape", answer, (6, 0, 18))
@@ -169,9 +173,9 @@ def test_build():
     expect("build 11 leaves all", Lent(1, 2, 8).table, [-1] * 14 * 9)
     for capacity in (4, 4096):
         expect("build 1", Lent(1, 1, capacity).answer, (1, 0))
-    answer = r.build(5, (3, 3, 3), [0] * 83, [0] * 6, 1, 1)[0]
+    answer = r.build(5, (3, 3, 3, 3), [0] * 83, [0] * 6, 1, 1, r.OPEN)[0]
     expect("build 1, table", answer, (1, 0))
-    answer = r.build(5, (3, 3, 3), [0] * 84, [0] * 5, 1, 1)[0]
+    answer = r.build(5, (3, 3, 3, 3), [0] * 84, [0] * 5, 1, 1, r.OPEN)[0]
     expect("build 1, values", answer, (1, 0))
 
 
@@ -244,7 +248,7 @@ def test_mark():
     grid = Lent(1, 1)
     grid.header = grid.header._replace(mark=65534)
     grid.call(r.tape, value(2, 1) * 3)
-    expect("65,535 is followed by 0", grid.header, (1, 1, 1))
+    expect("65,535 is followed by 0", grid.header, (1, 1, r.OPEN, 1))
 
 
 def test_soundness():
@@ -252,11 +256,11 @@ def test_soundness():
     grid.call(r.tape, value(6, 5) + refine(6) + sentence(18) + kill(8))
     expect("sound", grid.check(), 0)
     capacity, header, table, values = grid.lists()
-    expect("same bit length", r.check(capacity, (3, 3, 9), table, values), 0)
-    expect("other bit length", r.check(capacity, (4, 2, 9), table, values), 3)
-    expect("outside", r.check(capacity, (2, 2, 9), table, values), 3)
-    expect("no columns", r.check(capacity, (0, 2, 9), table, values), 2)
-    expect("33 rows", r.check(capacity, (3, 33, 9), table, values), 2)
+    expect("same bit length", r.check(capacity, (3, 3, r.OPEN, 9), table, values), 0)
+    expect("other bit length", r.check(capacity, (4, 2, r.OPEN, 9), table, values), 3)
+    expect("outside", r.check(capacity, (2, 2, r.OPEN, 9), table, values), 3)
+    expect("no columns", r.check(capacity, (0, 2, r.OPEN, 9), table, values), 2)
+    expect("33 rows", r.check(capacity, (3, 33, r.OPEN, 9), table, values), 2)
     expect("other capacity", r.check(capacity + 1, header, table, values), 1)
     for place in range(len(table)):
         spoilt = table[:place] + [table[place] ^ 1] + table[place + 1 :]
@@ -320,13 +324,13 @@ def test_scan():
 
 def test_page():
     grid = Lent(1, 1)
-    text = b"map 1 1 0\n2 0 0 0 n 0000000000000000\ncells 1 sum 1812\n"
+    text = b"map 1 1 0 open\n2 0 0 0 n 0000000000000000\ncells 1 sum 2278\n"
     expect("page", grid.call(r.page, text.upper() + b"xyz"), (0, len(text), text + b"xyz"))
     expect("page 18", grid.call(r.page, text[1:]), (18, 0, text[1:]))
 
 
 def test_program():
-    text = b"map 1 1 0\n2 0 0 0 n 0000000000000000\ncells 1 sum 1812\n"
+    text = b"map 1 1 0 open\n2 0 0 0 n 0000000000000000\ncells 1 sum 2278\n"
     long_tape = value(2, 0) * 5451
     exact = b"\x07\x01\x01" + long_tape + refine(2) * 12
     cases = [
@@ -362,9 +366,9 @@ def ask_alone(grid, kind, cell):
     return ask(copy.deepcopy(grid), kind, cell)[0]
 
 
-def refined(columns, rows, *cells, capacity=400):
+def refined(columns, rows, *cells, capacity=400, mode=r.OPEN):
     """A rectangle with some cells refined, in their order."""
-    grid = r.built(capacity, columns, rows)
+    grid = r.built(capacity, columns, rows, mode)
     expect(f"refined {cells}", ask(grid, r.REFINE, *cells), [0] * len(cells))
     return grid
 
@@ -379,13 +383,26 @@ SIDES = {  # each level-0 cell beside the middle, and the two kids of the middle
 }
 
 
+def turned(place, by, rows=3):
+    """A place of a ring, so many level-0 rows further round."""
+    level, i, j = place
+    return (level, i, (j + (by << level)) % (rows << level))
+
+
+# 3 by 3: the open grid, and the ring with its seam above the middle, below it, and beside neither
+VIEWS = [(r.OPEN, 0), (r.RING, 0), (r.RING, 1), (r.RING, 2)]
+
+
 def test_21_on_each_side():
-    for side, there in SIDES.items():
-        grid = refined(3, 3, MIDDLE, *(one for one in SIDES if one != side))
+    for (mode, by), (side, there) in itertools.product(VIEWS, SIDES.items()):
+        seen = [turned(cell, by) for cell in (MIDDLE, *(one for one in SIDES if one != side))]
+        grid = refined(3, 3, *seen, mode=mode)
         for kid in r.kids(MIDDLE):
             wanted = 21 if kid in there else 0
-            expect(f"21 of {kid} at {side}", ask_alone(grid, r.REFINE, kid), wanted)
-        expect(f"{side} refined", ask(grid, r.REFINE, side, *there), [0, 0, 0])
+            answer = ask_alone(grid, r.REFINE, turned(kid, by))
+            expect(f"21 of {kid} at {side}, {mode} turned by {by}", answer, wanted)
+        answers = ask(grid, r.REFINE, *(turned(cell, by) for cell in (side, *there)))
+        expect(f"{side} refined, {mode} turned by {by}", answers, [0, 0, 0])
 
 
 def test_21_in_the_area_only():
@@ -395,18 +412,25 @@ def test_21_in_the_area_only():
     expect("21 in the area", ask(grid, r.REFINE, inward), [21])
     expect("killed", ask(grid, r.KILL, (0, 1, 0)), [0])
     expect("21 not at a killed cell's edge", ask(grid, r.REFINE, inward), [0])
+    grid = refined(1, 3, (0, 0, 1), (0, 0, 2), mode=r.RING)
+    at_seam = (1, 0, 5)
+    expect("21 over the seam", ask(grid, r.REFINE, at_seam), [21])
+    expect("killed over the seam", ask(grid, r.KILL, (0, 0, 0)), [0])
+    expect("21 not at a killed cell's edge over the seam", ask(grid, r.REFINE, at_seam), [0])
 
 
 def test_21_never_on_level_0():
-    for beside in SIDES:
-        grid = refined(3, 3, beside)
-        expect("level 0 beside a refined cell", ask_alone(grid, r.REFINE, MIDDLE), 0)
-        grid = r.built(400, 3, 3)
-        ask(grid, r.KILL, beside)
-        expect("level 0 beside a killed cell", ask_alone(grid, r.REFINE, MIDDLE), 0)
-    grid = refined(3, 3, MIDDLE)
-    for side in SIDES:
-        expect("level 0 beside the finer", ask_alone(grid, r.REFINE, side), 0)
+    for mode, by in VIEWS:
+        middle, sides = turned(MIDDLE, by), [turned(side, by) for side in SIDES]
+        for beside in sides:
+            grid = refined(3, 3, beside, mode=mode)
+            expect("level 0 beside a refined cell", ask_alone(grid, r.REFINE, middle), 0)
+            grid = r.built(400, 3, 3, mode)
+            ask(grid, r.KILL, beside)
+            expect("level 0 beside a killed cell", ask_alone(grid, r.REFINE, middle), 0)
+        grid = refined(3, 3, middle, mode=mode)
+        for side in sides:
+            expect("level 0 beside the finer", ask_alone(grid, r.REFINE, side), 0)
 
 
 def test_21_in_its_turn():
@@ -422,22 +446,23 @@ def test_21_in_its_turn():
 
 def test_22_on_each_side():
     """Exactly the eight cells beside the four, and none that meets them in a corner."""
-    four = r.kids(MIDDLE)
-    outside = [kid for cell in ALL if cell != MIDDLE for kid in r.kids(cell)]
-    found = []
-    for finer in outside:
-        grid = refined(3, 3, *ALL, finer)
-        ask(grid, r.SENTENCE, *four)
-        answer = ask(grid, r.REMOVE, MIDDLE)
-        expect(f"remove beside {finer}", answer in ([0], [22]), True)
-        found += [finer] if answer == [22] else []
-        gone = not any(kid in grid.cells for kid in four)
-        expect(f"removed beside {finer}", gone, answer == [0])
     north = [(1, 2, 4), (1, 3, 4)]
     east = [(1, 4, 2), (1, 4, 3)]
     south = [(1, 2, 1), (1, 3, 1)]
     west = [(1, 1, 2), (1, 1, 3)]
-    expect("22", sorted(found), sorted(north + east + south + west))
+    outside = [kid for cell in ALL if cell != MIDDLE for kid in r.kids(cell)]
+    for mode, by in VIEWS:
+        middle, found = turned(MIDDLE, by), []
+        four = r.kids(middle)
+        for finer in outside:
+            grid = refined(3, 3, *ALL, turned(finer, by), mode=mode)
+            ask(grid, r.SENTENCE, *four)
+            answer = ask(grid, r.REMOVE, middle)
+            expect(f"remove beside {finer}", answer in ([0], [22]), True)
+            found += [finer] if answer == [22] else []
+            gone = not any(kid in grid.cells for kid in four)
+            expect(f"removed beside {finer}", gone, answer == [0])
+        expect(f"22, {mode} turned by {by}", sorted(found), sorted(north + east + south + west))
 
 
 def test_22_in_its_turn():
@@ -466,6 +491,13 @@ def share_an_edge(one, other):
     return min(wide, high) == 0 < max(wide, high)
 
 
+def round_about(header, edges):
+    """A square; in a ring also once round above and below."""
+    left, lower, right, upper = edges
+    laps = (0, header.rows * 4096, -header.rows * 4096) if header.mode == r.RING else (0,)
+    return [(left, lower + lap, right, upper + lap) for lap in laps]
+
+
 def jumps(grid):
     """The pairs of leaves that share part of an edge and differ by two levels or more."""
     leaves = [(cell, square(cell)) for cell in sorted(grid.cells) if grid.is_leaf(cell)]
@@ -473,7 +505,8 @@ def jumps(grid):
         (one, other)
         for one, here in leaves
         for other, there in leaves
-        if other[0] - one[0] > 1 and share_an_edge(here, there)
+        if other[0] - one[0] > 1
+        and any(share_an_edge(here, edges) for edges in round_about(grid.header, there))
     ]
 
 
@@ -495,9 +528,13 @@ def test_squares():
             expect(f"an edge of {other}", share_an_edge(one, two), wanted)
 
 
-def history(rng, checks):
+SIZES = [(1, 1, r.OPEN), (2, 1, r.OPEN), (3, 2, r.OPEN), (4, 4, r.OPEN)]
+RINGS = [(1, 3, r.RING), (2, 3, r.RING), (1, 4, r.RING), (3, 5, r.RING)]
+
+
+def history(rng, checks, sizes):
     """A build and requests, under these checks; how often each was refused."""
-    grid = r.built(300, *rng.choice(((1, 1), (2, 1), (3, 2), (4, 4))))
+    grid = r.built(300, *rng.choice(sizes))
     answers = collections.Counter()
     for _ in range(rng.choice((60, 200))):
         kind = rng.choice((1, 1, 1, 1, 2, 3, 4))
@@ -513,16 +550,17 @@ def history(rng, checks):
 
 def test_no_jump_of_two_levels():
     """From a fresh build; under 01 alone the same histories have jumps, so this can fail."""
-    answers, deepest, without = collections.Counter(), 0, 0
-    for seed in range(80):
-        grid, told = history(random.Random(seed), r.CHECKS)
-        answers += told
-        deepest = max(deepest, *(cell[0] for cell in grid.cells))
-        expect(f"no jump, {seed}", jumps(grid), [])
-        without += bool(jumps(history(random.Random(seed), generate.CHECKS_OF_01)[0]))
-    expect("21 and 22 are given", min(answers[21], answers[22]) > 50, True)
-    expect("deep", deepest > 4, True)
-    expect("jumps under 01 alone", without > 40, True)
+    for sizes in (SIZES, RINGS):
+        answers, deepest, without = collections.Counter(), 0, 0
+        for seed in range(80):
+            grid, told = history(random.Random(seed), r.CHECKS, sizes)
+            answers += told
+            deepest = max(deepest, *(cell[0] for cell in grid.cells))
+            expect(f"no jump, {seed}", jumps(grid), [])
+            without += bool(jumps(history(random.Random(seed), generate.CHECKS_OF_01, sizes)[0]))
+        expect("21 and 22 are given", min(answers[21], answers[22]) > 50, True)
+        expect("deep", deepest > 4, True)
+        expect("jumps under 01 alone", without > 40, True)
 
 
 def test_older_tables():
@@ -556,19 +594,19 @@ def test_older_tables():
 
 
 def test_older_grids():
-    for seed in range(30):
-        grid = generate.older_grid(random.Random(seed))
+    for seed, some in itertools.product(range(30), (generate.some_size, generate.ring_size)):
+        grid = generate.older_grid(random.Random(seed), some)
         expect(f"older grid {seed}", bool(jumps(grid)), True)
         expect(f"older grid {seed}, sound", r.check(grid.capacity, *r.drawn(grid)), 0)
 
 
 def test_21_is_a_green_wall():
     """A place beside a cell in the area and no cell is a green wall, on older tables too."""
-    for seed in range(40):
-        grid, _ = history(random.Random(seed), generate.CHECKS_OF_01)
-        kinds = r.walls(grid.cells)
+    for seed, sizes in itertools.product(range(40), (SIZES, RINGS)):
+        grid, _ = history(random.Random(seed), generate.CHECKS_OF_01, sizes)
+        kinds = r.walls(grid.header, grid.cells)
         for cell in grid.cells:
-            green = r.flags(cell, grid.cells, kinds, {}) & r.GRN_CELL != 0
+            green = r.flags(grid.header, cell, grid.cells, kinds, {}) & r.GRN_CELL != 0
             if green != r.too_coarse_beside(grid, cell):
                 expect(f"green wall of {cell}", green, not green)
 
@@ -583,7 +621,10 @@ def test_tries():
 
 
 def leaf_by_squares(grid, speed, load):
-    """The leaf that holds the point; or that ends there to the right, or at the top, or with both."""
+    """The leaf that holds the point; or that ends there to the right, or at the top, or with both.
+    In a ring no point from the seam on is looked for, and none below 0."""
+    if grid.header.mode == r.RING and load >= 4096 * grid.header.rows:
+        return None
     inside, at_end = (lambda low, high, x: low <= x < high), (lambda low, high, x: x == high)
     for along, up in (inside, inside), (at_end, inside), (inside, at_end), (at_end, at_end):
         for leaf in filter(grid.is_leaf, grid.cells):
@@ -594,9 +635,9 @@ def leaf_by_squares(grid, speed, load):
 
 
 def test_found_by_squares():
-    for seed in range(40):
+    for seed, some in itertools.product(range(40), (generate.some_size, generate.ring_size)):
         rng = random.Random(seed)
-        grid = generate.some_grid(rng)
+        grid = generate.some_grid(rng, some)
         for _ in range(60):
             point = generate.some_point(rng, grid)
             expect(f"leaf at {point} of {seed}", r.found_leaf(grid, *point), leaf_by_squares(grid, *point))
@@ -612,6 +653,232 @@ def test_killed_corner():
     grid = Lent(2, 2)
     expect("kill", grid.call(r.kill, 7), 0)
     expect("no try below 0", grid.call(r.lookup, 0, 4096), (0, 6, 0, 0))
+
+
+# ------------------------------------------------------------ No. 4: crank-angle maps
+
+
+LINKS = (r.N, r.E, r.S, r.W)
+KIDS = (r.SW, r.SE, r.NW, r.NE)
+
+
+def test_ring_of_three():
+    """A ring of 1 by 3: every place, every link over the seam and every flag, by hand."""
+    grid = Lent(1, 3, mode=r.RING)
+    expect("in use", grid.answer, (0, 9))
+    expect("header", grid.header, (1, 3, r.RING, 0))
+    levels = [grid.row(number)[r.LEVEL] for number in range(1, 10)]
+    expect("levels", levels, [-2, -1, -1, 0, 0, 0, 0, 0, 0])
+    places = [(0, 0), (0, 0), (0, 1), (0, 0), (0, 1), (1, 0), (1, 1), (0, 2), (1, 2)]
+    expect("places", [grid.place(number) for number in range(1, 10)], places)
+    for number, links in {
+        2: [3, 0, 0, 0],  # ghosts do not go round
+        3: [0, 0, 2, 0],
+        4: [5, 6, 8, 0],  # the lowest row: south is the highest
+        5: [8, 7, 4, 0],
+        6: [7, 0, 9, 4],
+        7: [9, 0, 6, 5],
+        8: [4, 9, 5, 0],  # the highest row: north is the lowest
+        9: [6, 0, 7, 8],
+    }.items():
+        expect(f"links of {number}", grid.words(number, *LINKS), links)
+    expect("flags", grid.flags(4, 5, 8, 6, 7, 9), [111, 111, 111, 44, 44, 44])
+    expect("ghosts", grid.flags(1, 2, 3), [0, 0, 0])
+    expect("kids of the upper ghost", grid.words(3, *KIDS), [8, 9, 0, 0])
+    expect("sound", grid.check(), 0)
+    expect("capacity 8", Lent(1, 3, 8, r.RING).answer, (11, 0))
+    text = "map 1 3 0 ring\n" + "".join(f"{n} 0 0 {j} n {0:016x}\n" for n, j in ((4, 0), (5, 1), (8, 2)))
+    text += f"cells 3 sum {sum(text.encode())}\n"
+    page = grid.call(r.page, bytes(200))
+    expect("page", page.output[: page.count].decode(), text)
+
+
+def test_refined_below_the_seam():
+    """The highest cell refined: its north points are of the lowest row."""
+    grid = Lent(1, 3, mode=r.RING)
+    expect("refine 8", grid.call(r.refine, 8), 0)
+    new = [(0, 4), (1, 4), (0, 5), (1, 5), (0, 0), (1, 0), (2, 5), (2, 4), (2, 0)]
+    expect("new places", [grid.place(number) for number in range(10, 19)], new)
+    expect("in use", grid.in_use(), 18)
+    expect("kids of 8", grid.words(8, *KIDS), [10, 11, 12, 13])
+    expect("kids of 4, to the north", grid.words(4, *KIDS), [14, 15, 0, 0])
+    expect("kids of 9, to the east", grid.words(9, *KIDS), [17, 0, 16, 0])
+    expect("kids of 6, to the north-east", grid.words(6, *KIDS), [18, 0, 0, 0])
+    for number, links in {
+        12: [14, 13, 10, 0],
+        13: [15, 16, 11, 12],
+        16: [18, 0, 17, 13],
+        14: [0, 15, 12, 0],
+        15: [0, 18, 13, 14],
+        18: [0, 0, 16, 15],
+        10: [12, 11, 0, 0],
+    }.items():
+        expect(f"links of {number}", grid.words(number, *LINKS), links)
+    wanted = [1519, 1479, 1135, 1095, 394, 386, 44, 172, 136]
+    expect("flags", grid.flags(*range(10, 19)), wanted)
+    expect("remove", grid.call(r.tape, sentence(10, 11, 12, 13) + remove(8)), (5, 0, 15))
+    expect("as built", grid.table, Lent(1, 3, mode=r.RING).table)
+
+
+def test_refined_above_the_seam():
+    """The lowest cell refined, and then the highest: three of its points are there."""
+    grid = Lent(1, 3, mode=r.RING)
+    expect("refine 4", grid.call(r.refine, 4), 0)
+    new = [(0, 0), (1, 0), (0, 1), (1, 1), (0, 2), (1, 2), (2, 1), (2, 0), (2, 2)]
+    expect("new places", [grid.place(number) for number in range(10, 19)], new)
+    expect("no patch south", [grid.row(number)[r.S] for number in (10, 11, 17)], [0, 0, 0])
+    expect("flags", grid.flags(10, 11, 12, 13, 17), [1519, 1479, 1135, 1095, 172])
+    expect("refine 8", grid.call(r.refine, 8), 0)
+    expect("in use", grid.in_use(), 24)
+    expect("kids of 8", grid.words(8, *KIDS), [19, 20, 21, 22])
+    expect("south", [grid.row(number)[r.S] for number in (10, 11, 17)], [21, 22, 23])
+    expect("north", [grid.row(number)[r.N] for number in (21, 22, 23)], [10, 11, 17])
+    expect("no wall is green at the seam", grid.flags(10, 11, 21, 22, 17), [111, 71, 111, 71, 44])
+    expect("22 over the seam", grid.call(r.tape, refine(5) + refine(10) + sentence(19, 20, 21, 22) + remove(8)), (6, 22, 18))
+    four = grid.words(10, *KIDS)
+    expect("21 over the seam", grid.call(r.refine, four[0]), 21)
+    expect("the finer four", grid.call(r.tape, sentence(*four) + remove(10) + remove(8)), (6, 0, 18))
+
+
+def test_killed_at_the_seam():
+    """A cell killed at the seam has boundary walls over it, on every level."""
+    grid = Lent(1, 3, mode=r.RING)
+    expect("kill 4", grid.call(r.kill, 4), 0)
+    expect("all stay", grid.in_use(), 9)
+    expect("flags", grid.flags(4, 5, 8, 6, 7, 9), [26, 127, 111, 8, 44, 44])
+    expect("still linked", grid.words(4, *LINKS) + grid.words(8, *LINKS), [5, 6, 8, 0, 4, 9, 5, 0])
+    expect("kill 5", grid.call(r.kill, 5), 0)
+    expect("freed", grid.flags(5, 7), [r.DEAD, r.DEAD])
+    expect("flags", grid.flags(4, 8, 6, 9), [26, 127, 8, 44])
+    expect("sound", grid.check(), 0)
+    grid = Lent(1, 3, mode=r.RING)
+    expect("refine 8, kill 4", grid.call(r.tape, refine(8) + kill(4)), (2, 0, 6))
+    wanted = [1519, 1479, 111, 71, 26, 26, 44, 172, 8]
+    expect("no wall is green at the seam", grid.flags(*range(10, 19)), wanted)
+    expect("kill 8 is refused", grid.call(r.kill, 8), 8)
+    grid = Lent(1, 3, mode=r.RING)
+    expect("refine 4, kill 8", grid.call(r.tape, refine(4) + kill(8)), (2, 0, 6))
+    expect("boundary at the seam", grid.flags(10, 11, 17, 8, 9), [127, 95, 44, 26, 8])
+    expect("all stay", grid.in_use(), 18)
+
+
+def test_lookups_at_the_seam():
+    last = 3 * 4096
+    grid = Lent(1, 3, mode=r.RING)
+    nothing = (19, 0, 0, 0)
+    for point, number in (((0, last - 1), 8), ((4095, last - 1), 8), ((4096, last - 1), 8), ((0, 0), 4), ((4096, 0), 4), ((0, 8192), 8)):
+        expect(f"ring at {point}", grid.call(r.lookup, *point), (0, number, 0, 0))
+    for point in ((0, last), (4095, last), (4096, last), (0, last + 1), (0, 2**32 - 1), (4097, 0), (4097, last - 1)):
+        expect(f"ring at {point}", grid.call(r.lookup, *point), nothing)
+    expect("open at the top", Lent(1, 3).call(r.lookup, 0, last).refusal, 0)
+    grid.call(r.kill, 4)
+    for point in ((0, 0), (4096, 0), (0, 4095), (0, last)):
+        expect(f"no try over the seam at {point}", grid.call(r.lookup, *point), nothing)
+    grid = Lent(1, 3, mode=r.RING)
+    grid.call(r.kill, 8)
+    expect("the lower one's upper edge", grid.call(r.lookup, 0, 8192), (0, 5, 0, 0))
+    for point in ((0, 8193), (0, last - 1), (0, last)):
+        expect(f"killed at the top, {point}", grid.call(r.lookup, *point), nothing)
+
+
+def test_refusal_2_of_modes():
+    """02, No. 4: "2 also for a mode that is neither, or a ring with fewer than 3 rows"."""
+    for mode in generate.WRONG_MODES:
+        expect(f"build of mode {mode}", Lent(1, 3, mode=mode).answer, (2, 0))
+    for rows, wanted in ((0, 2), (1, 2), (2, 2), (3, 0), (32, 0), (33, 2)):
+        expect(f"ring of {rows} rows", Lent(1, rows, mode=r.RING).answer.refusal, wanted)
+    expect("2 before 11", Lent(1, 2, 5, r.RING).answer, (2, 0))
+    expect("1 before 2", Lent(1, 2, 4, r.RING).answer, (1, 0))
+    expect("2 leaves all", Lent(1, 2, 5, r.RING).table, [-1] * 14 * 6)
+    for size, mode in (((1, 3), 2), ((1, 3), 2**32 - 1), ((1, 2), r.RING), ((1, 1), r.RING)):
+        grid = Lent(*size)
+        grid.header = grid.header._replace(mode=mode)
+        before = grid.lists()
+        expect("check", grid.check(), 2)
+        expect("tape", grid.call(r.tape, refine(2)), (0, 2, 0))
+        expect("scan", grid.call(r.scan, 1, [3, 4, 2, 1], 1, -2, 12, [7] * 9), (2, 0, [7] * 9))
+        expect("lookup", grid.call(r.lookup, 0, 0), (2, 0, 0, 0))
+        expect("page", grid.call(r.page, b"x" * 9), (2, 0, b"x" * 9))
+        expect("nothing changed", grid.lists(), before)
+        grid.table = [5] * len(grid.table)
+        expect("2 before 3", grid.check(), 2)
+        grid.values = grid.values[1:]
+        expect("1 before 2", grid.check(), 1)
+
+
+def sound_as(lists):
+    """What the checker says of a table lent as an open grid and as a ring."""
+    capacity, header, table, values = lists
+    return [r.check(capacity, header._replace(mode=mode), table, values) for mode in (r.OPEN, r.RING)]
+
+
+def lies_at_seam(grid):
+    """Whether patches of level 0 lie on both sides of the seam, or in the row that a ring has not."""
+    rows, ground = grid.header.rows, {patch for patch in grid.numbers if patch[0] == 0}
+    return any(j == rows or j == 0 and (0, i, rows - 1) in ground for _, i, j in ground)
+
+
+def test_sound_in_one_mode():
+    """A ring is no open grid, nor an open grid a ring, unless nothing lies at the seam."""
+    expect("a ring", sound_as(Lent(2, 3, mode=r.RING).lists()), [3, 0])
+    expect("an open grid", sound_as(Lent(2, 3).lists()), [0, 3])
+    expect("an open grid of two rows", sound_as(Lent(2, 2).lists()), [0, 2])
+    for mode in (r.OPEN, r.RING):
+        grid = Lent(1, 3, mode=mode)
+        alone = [0, 3] if mode == r.OPEN else [3, 0]
+        low, middle, high = (grid.call(r.lookup, 0, 4096 * row).number for row in range(3))
+        expect("the highest killed", (grid.call(r.kill, high), sound_as(grid.lists())), (0, alone))
+        expect("the lowest too", (grid.call(r.kill, low), sound_as(grid.lists())), (0, [0, 0]))
+        expect("the middle refined", (grid.call(r.refine, middle), sound_as(grid.lists())), (0, [0, 0]))
+    for seed, some in itertools.product(range(60), (generate.some_size, generate.ring_size)):
+        grid = generate.some_grid(random.Random(seed), some)
+        other = 3 if lies_at_seam(grid) else 0
+        wanted = [other, 0] if grid.header.mode == r.RING else [0, 2 if grid.header.rows < 3 else other]
+        expect(f"sound as, {seed}", sound_as([grid.capacity, *r.drawn(grid)]), wanted)
+
+
+def test_links_over_the_seam():
+    """Each of them dropped, turned to its own row, and given what another one names."""
+    grid = refined(2, 3, (0, 0, 2), mode=r.RING)
+    capacity, header, table, values = generate.lend(grid)
+    links = generate.over_seam(grid)
+    expect("three columns of level 0, three of level 1, both ways", len(links), 12)
+    named = {table[r.WORDS * number + wind] for number, wind in links}
+    for number, wind in links:
+        place = r.WORDS * number + wind
+        for word in {0, number, *named} - {table[place]}:
+            spoilt = table[:place] + [word] + table[place + 1 :]
+            if r.check(capacity, header, spoilt, values) != 3:
+                expect(f"word {wind} of row {number} is {word}", 0, 3)
+
+
+def test_row_above_the_seam():
+    """A ring with the points that an open grid has above its highest cells; each of its rows agrees with those it names."""
+    lists = generate.row_above(r.built(20, 1, 3, r.RING))
+    rows = [lists[2][r.WORDS * number : r.WORDS * (number + 1)] for number in range(12)]
+    expect("the ghost names them", rows[3][r.NE : r.NW + 1], [11, 9, 8, 10])
+    expect("their links", [rows[number][r.N : r.W + 1] for number in (10, 11)], [[0, 11, 8, 0], [0, 0, 9, 10]])
+    expect("no link back", [rows[number][r.N] for number in (8, 9)], [4, 6])
+    expect("their flags", [rows[number][r.FLAGS] for number in (10, 11)], [26, 8])
+    expect("not sound", sound_as(lists), [3, 3])
+
+
+def test_turned_rings():
+    """A ring looks the same from each of its rows: cells turned round have the same flags and links."""
+    for seed in range(30):
+        grid, _ = history(random.Random(seed), r.CHECKS, RINGS)
+        header, rows = grid.header, grid.header.rows
+        kinds = r.walls(header, grid.cells)
+        for by in range(1, rows):
+            cells = {turned(cell, by, rows) for cell in grid.cells}
+            its_kinds = r.walls(header, cells)
+            points = r.points(header, grid.cells)
+            expect(f"points, {seed} by {by}", {turned(point, by, rows) for point in points}, r.points(header, cells))
+            for point in points:
+                one = r.flags(header, point, grid.cells, kinds, {})
+                other = r.flags(header, turned(point, by, rows), cells, its_kinds, {})
+                if one != other:
+                    expect(f"flags of {point} turned by {by}", other, one)
 
 
 # ------------------------------------------------------------ random grids
@@ -666,10 +933,46 @@ def leaves_tile(grid):
     return area == 4**12 * sum(cell[0] == 0 for cell in grid.cells)
 
 
+def unrolled(grid):
+    """The cells; of a ring three times, one above the other: whatever is near a place of the ring is
+    near it there, with no row counted round."""
+    rows, mode = grid.header.rows, grid.header.mode
+    laps = (0, rows, -rows) if mode == r.RING else (0,)
+    return {(level, i, j + (lap << level)) for level, i, j in grid.cells for lap in laps}
+
+
+def links_by_geometry(grid, patch):
+    """The numbers to the north, east, south and west; a ring's rows from level 0 up go round."""
+    level, i, j = patch
+    places = [(level, i, j + 1), (level, i + 1, j), (level, i, j - 1), (level, i - 1, j)]
+    if grid.header.mode == r.RING and level >= 0:
+        top = (grid.header.rows << level) - 1
+        places[0] = (level, i, 0) if j == top else places[0]
+        places[2] = (level, i, top) if j == 0 else places[2]
+    return [grid.numbers.get(place, 0) for place in places]
+
+
+def patches_by_geometry(grid):
+    """The corners of the unrolled cells in the rectangle's rows, and what lies over them."""
+    rows, mode = grid.header.rows, grid.header.mode
+    corners = r.points(grid.header._replace(mode=r.OPEN), unrolled(grid))
+    if mode == r.RING:
+        corners = {place for place in corners if 0 <= place[2] < rows << place[0]}
+    found, level = set(corners), {place for place in corners if place[0] == 0}
+    for _ in range(max(grid.header.columns, rows).bit_length()):
+        level = {(place[0] - 1, place[1] >> 1, place[2] >> 1) for place in level}
+        found |= level
+    return found
+
+
 def test_random_grids():
-    rng = random.Random(1)
+    for mode in (r.OPEN, r.RING):
+        random_grids(random.Random(1), mode)
+
+
+def random_grids(rng, mode):
     for _ in range(40):
-        grid = r.built(200, rng.randint(1, 6), rng.randint(1, 6))
+        grid = r.built(200, rng.randint(1, 6), rng.randint(3 if mode == r.RING else 1, 6), mode)
         accepted = 0
         for _ in range(60):
             before = (grid.header, *r.picture(grid))
@@ -682,10 +985,15 @@ def test_random_grids():
         expect("sound", r.check(grid.capacity, *after), 0)
         expect("tiled", leaves_tile(grid), True)
         expect("no jump", jumps(grid), [])
+        expect("patches", set(grid.numbers), patches_by_geometry(grid))
+        cells = unrolled(grid)
         for patch, number in grid.numbers.items():
-            word = after[1][14 * number + r.FLAGS] & ~r.SENTENCED
-            if word != flags_by_geometry(patch, grid.cells):
-                expect(f"flags of {patch}", word, flags_by_geometry(patch, grid.cells))
+            row = after[1][14 * number : 14 * (number + 1)]
+            word = row[r.FLAGS] & ~r.SENTENCED
+            if word != flags_by_geometry(patch, cells):
+                expect(f"flags of {patch}", word, flags_by_geometry(patch, cells))
+            if row[r.N : r.W + 1] != links_by_geometry(grid, patch):
+                expect(f"links of {patch}", row[r.N : r.W + 1], links_by_geometry(grid, patch))
 
 
 # ------------------------------------------------------------ generated cases
@@ -735,7 +1043,8 @@ def vectors(folder):
 
 def stored_calls(folder):
     for place, one in enumerate(calls.stored(folder)):
-        grid = Lent(*one.size, one.capacity)
+        columns, rows, mode = one.size
+        grid = Lent(columns, rows, one.capacity, mode)
         expect(f"call {place}, tape", grid.call(r.tape, one.requests), one.taped)
         expect(f"call {place}, left", (grid.header, list(grid.table), list(grid.values)), one.left)
         page = grid.call(r.page, bytes(20000))

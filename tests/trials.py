@@ -3,8 +3,8 @@
     python3 trials.py                                crates/trials/stdin and stdout
     python3 trials.py KIND SEED COUNT STDIN STDOUT   COUNT cases of one kind, of another seed
 
-KIND is damaged, tapes, scans, lookups, pages or older.  crates/trials/src/main.rt says
-what the program reads: it keeps the words, the values and twelve numbers from
+KIND is damaged, tapes, scans, lookups, pages, older or rings.  crates/trials/src/main.rt
+says what the program reads: it keeps the words, the values and thirteen numbers from
 call to call, so that a case is given by what differs from the case before.  It
 writes a line for each call: the answer, then the header that the call left and
 the sums by place of all words and of all values.  The calls of vectors/calls.jsonl
@@ -23,7 +23,7 @@ import reference as r
 
 WORDS, VALUES, NUMBERS = 1, 2, 3
 CHECK, BUILD, TAPE, SCAN, LOOKUP, PAGE, SWEEP = range(4, 11)
-ROOM = {WORDS: 2844, VALUES: 231, NUMBERS: 12}  # the places that the program has
+ROOM = {WORDS: 2844, VALUES: 231, NUMBERS: 13}  # the places that the program has
 SCAN_ROOM, PAGE_ROOM = 256, 16384
 SWEPT = 64
 MOST_BYTES = 4096
@@ -37,6 +37,10 @@ MINUS_ZERO, NAN, INFINITE = 1 << 63, 0x7FF8000000000000, 0x7FF0000000000000
 
 def code(word):
     return word if word >= 0 else 2**31 - word - 1
+
+
+def decode(number):
+    return number if number < 2**31 else 2**31 - number - 1
 
 
 def bytes_of(number):
@@ -113,13 +117,18 @@ class Desk:
         self.data.append(changes(VALUES, self.values, values))
         self.data.append(changes(NUMBERS, self.numbers, told))
 
+    def kept(self, capacity):
+        """What was lent last and left, lent again with another capacity."""
+        header, rows = r.Header(*self.numbers[:4]), capacity + 1
+        return [capacity, header, [decode(word) for word in self.words[: r.WORDS * rows]], self.values[:rows]]
+
     def leave(self, kind, items, answer, left):
         """The call itself, and its line: the answer, and what the call left."""
         header, table, values = left
         self.data.append(run_of_bytes(kind, 0, bytes(items), 1))
         self.words[: len(table)] = [code(word) for word in table]
         self.values[: len(values)] = values
-        self.numbers[:3] = header
+        self.numbers[:4] = header
         sums = mix(1, self.words), mix(1, (x for bits in self.values for x in halves(bits)))
         self.lines.append(" ".join(map(str, [*answer, *header, *sums])) + " \n")
 
@@ -127,9 +136,9 @@ class Desk:
         self.lend(lists)
         self.leave(CHECK, b"", [r.check(*lists)], lists[1:])
 
-    def build(self, lists, columns, rows):
-        self.lend(lists, columns, rows)
-        answer, *left = r.build(*lists, columns, rows)
+    def build(self, lists, *size):
+        self.lend(lists, *size)
+        answer, *left = r.build(*lists, *size)
         self.leave(BUILD, b"", answer, left)
         return [lists[0], *left]
 
@@ -186,7 +195,7 @@ class Desk:
 
 def small_grid():
     """01's P3 with a value, a sentenced cell and a free row."""
-    grid = r.built(15, 1, 1)
+    grid = r.built(15, 1, 1, r.OPEN)
     for kind, number, bits in ((r.SET_VALUE, 2, 0x4045000000000000), (r.REFINE, 2, 0), (r.SENTENCE, 9, 0)):
         if r.step(grid, kind, number, bits):
             raise ValueError("a request of the small grid is refused")
@@ -223,7 +232,7 @@ def each_value():
 
 def each_length():
     """A small table at every length of the table and of the values, and every small capacity."""
-    capacity, header, table, values = g.lend(r.built(5, 1, 1))
+    capacity, header, table, values = g.lend(r.built(5, 1, 1, r.OPEN))
     for length in range(len(table) + 16):
         yield [capacity, header, (table + [0] * 16)[:length], values]
     for length in range(len(values) + 4):
@@ -234,25 +243,26 @@ def each_length():
 
 
 def each_size():
-    """A sound table under every number of columns and of rows."""
-    capacity, header, table, values = g.lend(r.built(20, 2, 2))
-    for size in (*range(36), 64, 2**16, 2**31, 2**32 - 1):
-        yield [capacity, header._replace(columns=size), table, values]
-        yield [capacity, header._replace(rows=size), table, values]
+    """A sound table under every number of columns and of rows, and under many modes; of both modes."""
+    for size in ((2, 2, r.OPEN), (2, 4, r.RING)):
+        capacity, header, table, values = g.lend(r.built(20, *size))
+        for size in (*range(36), 64, 2**16, 2**31, 2**32 - 1):
+            yield [capacity, header._replace(columns=size), table, values]
+            yield [capacity, header._replace(rows=size), table, values]
+        for mode in (r.OPEN, r.RING, *g.WRONG_MODES):
+            yield [capacity, header._replace(mode=mode), table, values]
 
 
 PLAIN = (g.damage_word, g.damage_used_word, g.damage_flag, g.damage_value, g.damage_status)
 
 
-def damaged_lists(rng, count, of_one):
-    """Damaged and sound lists, `of_one` of each grid."""
-    for place in range(count):
-        if place % of_one == 0:
-            sound = g.some_grid(rng)
+def damaged_lists(rng, sound, count):
+    """Damaged and sound lists of one grid."""
+    for _ in range(count):
         grid = copy.deepcopy(sound)
         lists = g.lend(grid)
         if not g.chance(rng, 16):
-            rng.choice(g.DAMAGES)(rng, grid, lists)
+            g.damage(rng, grid, lists)
         if g.chance(rng, 8) and lists[0] == sound.capacity and not r.refuses_lengths(lists[0], *lists[2:]):
             rng.choice(PLAIN)(rng, sound, lists)
         yield lists
@@ -264,8 +274,9 @@ def fixed_damage(desk):
 
 
 def damaged(desk, rng, count, of_one=3):
-    for lists in damaged_lists(rng, count, of_one):
-        desk.check(lists)
+    for first in range(0, count, of_one):
+        for lists in damaged_lists(rng, g.some_grid(rng), min(of_one, count - first)):
+            desk.check(lists)
 
 
 # ------------------------------------------------------------ the other calls
@@ -273,8 +284,8 @@ def damaged(desk, rng, count, of_one=3):
 
 def some_start(desk, rng):
     """A build in whatever was lent before, its lists, and the grid."""
-    columns, rows = g.some_size(rng)
-    need = len(r.built(5, columns, rows).numbers)
+    columns, rows, mode = g.some_size(rng)
+    need = len(r.built(5, columns, rows, mode).numbers)
     capacity = g.some_capacity(rng, need)
     if g.chance(rng, 8):
         columns, rows = rng.choice(((0, 1), (1, 0), (33, 1), (columns, 2**32 - 1), (8, 8)))
@@ -283,7 +294,7 @@ def some_start(desk, rng):
         words, room = words + rng.randint(-1, 1), room + rng.randint(-1, 1)
     garbage = [g.some_word(rng) for _ in range(rng.choice((0, 20)))]
     table = (garbage + [0] * words)[:words]
-    return desk.build([capacity, r.Header(5, 6, 7), table, [0] * room], columns, rows)
+    return desk.build([capacity, r.Header(5, 6, 7, 8), table, [0] * room], columns, rows, mode)
 
 
 def grid_of(lists):
@@ -335,23 +346,26 @@ def scans(desk, rng, count):
         done += 60
 
 
-def corners_and_extremes():
-    """Of one coordinate: at, before and after the edges of two level-0 cells, and the last of 32 bits."""
-    near = [edge + by for edge in (0, 4096, 8192) for by in (-1, 0, 1) if edge + by >= 0]
+def corners_and_extremes(cells):
+    """Of one coordinate: at, before and after the edges of so many level-0 cells, and the last of 32 bits."""
+    near = [edge + by for edge in range(0, 4096 * cells + 1, 4096) for by in (-1, 0, 1) if edge + by >= 0]
     return [*near, 2**31, 2**32 - 2, 2**32 - 1]
+
+
+def one_killed(capacity, size, cells):
+    """A grid with each of some level-0 cells killed in turn."""
+    for number in cells:
+        grid = r.built(capacity, *size)
+        if r.step(grid, r.KILL, number, 0):
+            raise ValueError("a level-0 cell is not killed")
+        yield grid
 
 
 def fixed_lookups(desk):
     """On one cell, and on two by two with each of the four killed in turn, every pair of these."""
-    grids = [r.built(5, 1, 1)]
-    for number in (6, 7, 8, 9):
-        grid = r.built(14, 2, 2)
-        if r.step(grid, r.KILL, number, 0):
-            raise ValueError("a level-0 cell is not killed")
-        grids.append(grid)
-    for grid in grids:
+    for grid in (r.built(5, 1, 1, r.OPEN), *one_killed(14, (2, 2, r.OPEN), (6, 7, 8, 9))):
         lists = g.lend(grid)
-        for speed, load in itertools.product(corners_and_extremes(), repeat=2):
+        for speed, load in itertools.product(corners_and_extremes(2), repeat=2):
             desk.lookup(lists, speed, load)
 
 
@@ -359,7 +373,7 @@ def stored_calls(desk):
     """Build, tape, page and lookups of each line of vectors/calls.jsonl, as they are stored there."""
     for one in calls.stored(HERE / "vectors"):
         rows = one.capacity + 1
-        lists = desk.build([one.capacity, r.Header(5, 6, 7), [0] * (r.WORDS * rows), [0] * rows], *one.size)
+        lists = desk.build([one.capacity, r.Header(5, 6, 7, 8), [0] * (r.WORDS * rows), [0] * rows], *one.size)
         lists = desk.taped(lists, one.requests, one.taped, *one.left)
         desk.paged(lists, PAGE_ROOM, 46, r.Written(0, len(one.page), one.page.ljust(PAGE_ROOM, b".")))
         for point, found in one.lookups:
@@ -397,7 +411,7 @@ def small_older():
     left, right, finer, finest = (0, 0, 0), (0, 1, 0), (1, 1, 0), (2, 3, 0)
     cells = {left, right, *r.kids(left), *r.kids(finer)}
     more = cells | {*r.kids(right), *r.kids(finest)}
-    full = g.pictured(2, 1, more, len(r.patches(more, 2)))
+    full = g.pictured(2, 1, more, len(r.patches(r.Header(2, 1, r.OPEN, 0), more)))
     full.sentenced = dict.fromkeys(r.kids(right), True)
     return g.pictured(2, 1, cells, 40), full
 
@@ -428,7 +442,158 @@ def older(desk, rng, count):
         done += 5 + some
 
 
-KINDS = {"damaged": damaged, "tapes": tapes, "scans": scans, "lookups": lookups, "pages": pages, "older": older}
+# ------------------------------------------------------------ rings
+
+
+def ring_builds(desk):
+    """Rings of many sizes with just room enough and with one number too few, each in what was left before; and what
+    is no ring: too few rows, and modes that are none."""
+    sizes = [(1, rows) for rows in range(33)] + [(columns, 3) for columns in range(34)]
+    sizes += [(2, 4), (3, 5), (5, 7), (7, 5), (8, 8), (9, 9), (15, 6), (16, 7), (4, 17), (3, 31), (2, 32)]
+    for columns, rows in sizes:
+        right = not r.refuses_size(columns, rows, r.RING)
+        need = len(r.built(5, columns, rows, r.RING).numbers) if right else 9
+        if need <= 202:
+            for capacity in (need - 1, need) if right else (need,):
+                desk.build(desk.kept(capacity), columns, rows, r.RING)
+    for mode, capacity in itertools.product(g.WRONG_MODES, (4, 5, 9)):
+        desk.build(desk.kept(capacity), 1, 3, mode)
+    for rows, mode in itertools.product(range(5), (r.OPEN, r.RING)):
+        desk.build(desk.kept(30), 2, rows, mode)
+
+
+def wrong_modes(desk):
+    """Every call that is lent a header, with one whose mode is none or whose ring is too short."""
+    whole, tall = g.lend(r.built(14, 1, 2, r.OPEN)), g.lend(r.built(9, 1, 3, r.RING))
+    for lists, modes in ((whole, (r.RING, 2)), (tall, (2, 2**32 - 1))):
+        for mode in modes:
+            lent = [lists[0], lists[1]._replace(mode=mode), *lists[2:]]
+            desk.check(lent)
+            desk.tape(lent, g.encode(r.REFINE, 4))
+            desk.tape(lent, b"")
+            desk.scan(lent, (1, ORDERS[0], 1, -2, 12), 20, 7)
+            desk.scan(lent, (0, (0, 0, 0, 0), 9, 3, -3), 0, 7)
+            desk.lookup(lent, 0, 0)
+            desk.lookup(lent, 0, 3 * 4096)
+            desk.page(lent, 300, 46)
+            desk.page(lent, 0, 46)
+            desk.check([lent[0], lent[1], lent[2][1:], lent[3]])
+            desk.check([lent[0], lent[1], [5] + lent[2][1:], lent[3]])
+
+
+def ring_of(capacity, *requests, size=(1, 3), checks=r.CHECKS):
+    """A ring after requests, each a kind and a cell, and a value's bits."""
+    grid = r.built(capacity, *size, r.RING)
+    for kind, cell, *bits in requests:
+        if r.step(grid, kind, grid.numbers[cell], *(bits or [0]), checks):
+            raise ValueError(f"a request of a small ring is refused: {kind} {cell}")
+    return grid
+
+
+def small_rings():
+    """Rings of 1 by 3: as built; with the cell below the seam refined and its kids sentenced; with that above it not yet
+    refined, and that below it; all refined, and one above the seam once more, or one below it, with the four across
+    sentenced; the level jumping over the seam; without the lowest cell.  And one of 2 by 3."""
+    low, middle, high = (0, 0, 0), (0, 0, 1), (0, 0, 2)
+    value = 0x4045000000000000
+
+    def refine(*cells):
+        return [(r.REFINE, cell) for cell in cells]
+
+    def sentence(cell):
+        return [(r.SENTENCE, kid) for kid in r.kids(cell)]
+
+    return (
+        ring_of(18),
+        ring_of(19, (r.SET_VALUE, high, value), *refine(high), *sentence(high)),
+        ring_of(40, *refine(middle, high)),
+        ring_of(40, *refine(low, middle)),
+        ring_of(40, *refine(low, middle, high, (1, 0, 0)), *sentence(high)),
+        ring_of(40, *refine(low, middle, high, (1, 1, 5)), *sentence(low)),
+        ring_of(40, *refine(high, (1, 0, 5)), (r.SET_VALUE, low, value), checks=g.CHECKS_OF_01),
+        ring_of(18, (r.KILL, low)),
+        ring_of(30, *refine(high), (r.KILL, low), size=(2, 3)),
+    )
+
+
+def fixed_rings(desk):
+    """Of small rings every request of every number, each as one tape; pages, scans, and the checker in both modes."""
+    for grid in small_rings():
+        lists = g.lend(grid)
+        in_both_modes(desk, lists)
+        desk.page(lists, PAGE_ROOM, 46)
+        for kind in range(1, 7):
+            desk.scan(lists, (1, ORDERS[kind], kind, -2, 12), SCAN_ROOM, 7)
+        most = max(grid.numbers.values()) + 1
+        for kind, number in itertools.product((r.REFINE, r.SENTENCE, r.REMOVE, r.KILL), range(most + 1)):
+            desk.tape(lists, g.encode(kind, number))
+
+
+def ring_lookups(desk):
+    """On a ring of 1 by 3, and with each of the three killed in turn, points at every edge and past the seam."""
+    for grid in (r.built(9, 1, 3, r.RING), *one_killed(9, (1, 3, r.RING), (4, 5, 8))):
+        lists = g.lend(grid)
+        for speed, load in itertools.product(corners_and_extremes(1), corners_and_extremes(3)):
+            desk.lookup(lists, speed, load)
+
+
+def in_both_modes(desk, lists):
+    """The checker on a table as it is and with the other mode in its header."""
+    desk.check(lists)
+    desk.check([lists[0], lists[1]._replace(mode=r.OPEN + r.RING - lists[1].mode), *lists[2:]])
+
+
+def each_word_of_a_ring():
+    """Every word of a small ring in turn, one more; and each link over the seam with every other number in it."""
+    grid = small_rings()[1]
+    lists = g.lend(grid)
+    seam = [(r.WORDS * number + wind, word) for number, wind in g.over_seam(grid) for word in range(grid.capacity + 2)]
+    for place, word in [(place, old + 1) for place, old in enumerate(lists[2])] + seam:
+        if word != lists[2][place]:
+            yield [lists[0], lists[1], lists[2][:place] + [word] + lists[2][place + 1 :], lists[3]]
+
+
+def fixed_ring_damage(desk):
+    """A ring's damaged words; rings with an open grid's highest row of points besides; and open grids and rings of one size,
+    each in both modes."""
+    for lists in each_word_of_a_ring():
+        desk.check(lists)
+    for size in ((1, 3), (2, 3), (1, 4), (3, 5), (1, 7), (2, 8)):
+        in_both_modes(desk, g.row_above(ring_of(70, size=size)))
+        in_both_modes(desk, g.row_above(ring_of(70, (r.REFINE, (0, 0, size[1] - 1)), size=size)))
+    for columns, rows in ((1, 3), (2, 4), (3, 5), (1, 8), (4, 3)):
+        for mode in (r.OPEN, r.RING):
+            in_both_modes(desk, g.lend(r.built(60, columns, rows, mode)))
+    for rows, mode in itertools.product((3, 4), (r.OPEN, r.RING)):
+        middle = g.pictured(1, rows, {(0, 0, 1)}, 17, mode)  # nothing at the seam
+        in_both_modes(desk, g.lend(middle))
+        in_both_modes(desk, desk.tape(g.lend(middle), g.encode(r.REFINE, middle.numbers[0, 0, 1])))
+
+
+def rings(desk, rng, count):
+    """Every call on rings, the checker in both modes; of each, tapes last."""
+    done = 0
+    while done < count:
+        grid = g.ring_grid(rng)
+        lists = g.lend(grid)
+        in_both_modes(desk, lists)
+        desk.page(lists, PAGE_ROOM, 46)
+        for _ in range(4):
+            desk.scan(lists, (1, rng.choice(ORDERS), rng.randint(1, 6), r.root(grid.header)[0], 12), SCAN_ROOM, 7)
+            desk.lookup(lists, *g.some_point(rng, grid))
+        if grid.capacity < 50:
+            desk.sweep(lists, 0, 64 * rng.randint(0, 8), 64 * max(grid.header[:2]))
+        refused = list(itertools.chain(*g.refused_by_no_1(rng, grid)))
+        for requests in rng.sample(refused, min(3, len(refused))):
+            desk.tape(lists, b"".join(g.encode(kind, grid.numbers[cell]) for kind, cell in requests))
+        some = rng.randint(4, 12)
+        for lent in damaged_lists(rng, grid, some):
+            desk.check(lent)
+        tapes_on(desk, rng, lists, some)
+        done += 13 + 2 * some
+
+
+KINDS = {"damaged": damaged, "tapes": tapes, "scans": scans, "lookups": lookups, "pages": pages, "older": older, "rings": rings}
 
 
 def of_the_gate():
@@ -442,6 +607,12 @@ def of_the_gate():
     pages(desk, random.Random(5), 60)
     fixed_older(desk)
     older(desk, random.Random(6), 160)
+    ring_builds(desk)
+    wrong_modes(desk)
+    fixed_rings(desk)
+    ring_lookups(desk)
+    fixed_ring_damage(desk)
+    rings(desk, random.Random(7), 600)
     stored_calls(desk)
     return desk
 

@@ -21,9 +21,9 @@ FACE = [*STRUCT, "face"]
 
 # crate, entry, and what genwalk.py takes: [options] crate entry core struct answer core's-answer specs-module relation -- parameters
 ENTRIES = [
-    ("grid", "build", [*STRUCT, "grid", "build", "build_core", "Header", "Built", "BuildOut", "Calls", "Builds", "--", *LENT, "u32", "u32"]),
+    ("grid", "build", [*STRUCT, "grid", "build", "build_core", "Header", "Built", "BuildOut", "Calls", "Builds", "--", *LENT, "u32", "u32", "u32"]),
     ("grid", "tape", [*STRUCT, "grid", "tape", "tape_core", "Header", "Taped", "TapeOut", "Calls", "Tapes", "--", *LENT, "shr:u8"]),
-    ("face", "grid_build", [*FACE, "grid_build", "build_core", "Header", "u32", "Left", "Outputs", "Builds", "--", *LENT, "u32", "u32", "ref:u32"]),
+    ("face", "grid_build", [*FACE, "grid_build", "build_core", "Header", "u32", "Left", "Outputs", "Builds", "--", *LENT, "u32", "u32", "u32", "ref:u32"]),
     ("face", "grid_tape", [*FACE, "grid_tape", "tape_core", "Header", "u32", "Left", "Outputs", "Tapes", "--", *LENT, "shr:u8", "ref:usize", "ref:usize"]),
     ("face", "grid_check", ["--shared", *FACE, "grid_check", "check_core", "Header", "u32", "u32", "Outputs", "Checks", "--", *READ]),
     ("face", "grid_scan", ["--shared", *FACE, "grid_scan", "scan_core", "Header", "u32", "u32", "Outputs", "Scans", "--", *READ,
@@ -31,7 +31,7 @@ ENTRIES = [
     ("face", "grid_lookup", ["--shared", *FACE, "grid_lookup", "lookup_core", "Header", "u32", "u32", "Outputs", "Looks", "--", *READ,
                              "u32", "u32", "ref:u32", "ref:u32", "ref:f64"]),
     ("face", "grid_page", ["--shared", *FACE, "grid_page", "page_core", "Header", "u32", "u32", "Outputs", "Pages", "--", *READ, "mut:u8", "ref:usize"]),
-    ("trials", "lent/build", [*STRUCT, "--lends", "grid", "trials", "lent/build", "build", "Header", "Built", "BuildOut", "Calls", "Builds", "--", *LENT, "u32", "u32"]),
+    ("trials", "lent/build", [*STRUCT, "--lends", "grid", "trials", "lent/build", "build", "Header", "Built", "BuildOut", "Calls", "Builds", "--", *LENT, "u32", "u32", "u32"]),
     ("trials", "lent/tape", [*STRUCT, "--lends", "grid", "trials", "lent/tape", "tape", "Header", "Taped", "TapeOut", "Calls", "Tapes", "--", *LENT, "shr:u8"]),
 ]
 

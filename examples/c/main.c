@@ -1,4 +1,4 @@
-/* The reference grids P1 to P11, the page of 07 01 01 and some refusals, by the library. `examples/run` compiles, runs and compares it. */
+/* The reference grids P1 to P11, the page of 07 01 01, a ring and some refusals, by the library. `examples/run` compiles, runs and compares it. */
 #include <inttypes.h>
 #include <stdio.h>
 #include <string.h>
@@ -20,11 +20,11 @@ typedef struct {
 
 static int32_t word(const map *m, uint32_t number, uint32_t w) { return m->table[WORDS * number + w]; }
 
-static void build(map *m, uint32_t capacity, uint32_t columns, uint32_t rows) {
+static void build(map *m, uint32_t capacity, uint32_t columns, uint32_t rows, uint32_t mode) {
     uint32_t in_use = 99;
     memset(m, 0x55, sizeof *m);
     m->capacity = capacity;
-    uint32_t refusal = grid_build(LISTS(m), columns, rows, &in_use);
+    uint32_t refusal = grid_build(LISTS(m), columns, rows, mode, &in_use);
     printf("build %" PRIu32 " in use %" PRIu32 "\n", refusal, in_use);
 }
 
@@ -87,7 +87,7 @@ static const uint8_t order[] = {3, 4, 2, 1};
 static void one_cell(map *m) {
     static int32_t built[WORDS * (MOST + 1)];
     puts("P1 P2 and the page");
-    build(m, 40, 1, 1);
+    build(m, 40, 1, 1, GRID_OPEN);
     memcpy(built, m->table, sizeof built);
     places(m, 2, 5);
     FLAGS_OF(m, 2, 3, 4, 5);
@@ -99,15 +99,15 @@ static void one_cell(map *m) {
     FLAGS_OF(m, 6, 7, 8, 9);
     TAPE(m, 2, 0, 6, 2, 0, 7, 2, 0, 8, 2, 0, 9, 3, 0, 2);
     printf("rows of the build %s\n", memcmp(m->table, built, sizeof built) == 0 ? "yes" : "no");
-    build(m, 14, 1, 1);
+    build(m, 14, 1, 1, GRID_OPEN);
     TAPE(m, 1, 0, 2);
-    build(m, 13, 1, 1);
+    build(m, 13, 1, 1, GRID_OPEN);
     TAPE(m, 1, 0, 2);
 }
 
 static void more_cells(map *m) {
     puts("P6 P7 P8");
-    build(m, 40, 2, 1);
+    build(m, 40, 2, 1, GRID_OPEN);
     scan(m, order, 4, 2, 40);
     TAPE(m, 1, 0, 4);
     scan(m, order, 4, 1, 40);
@@ -118,7 +118,7 @@ static void more_cells(map *m) {
     row(m, 10, 1, 4);
 
     puts("P9");
-    build(m, 40, 3, 1);
+    build(m, 40, 3, 1, GRID_OPEN);
     TAPE(m, 4, 0, 6);
     scan(m, order, 4, 1, 40);
     row(m, 6, NORTH, 4);
@@ -128,7 +128,7 @@ static void more_cells(map *m) {
 /* 11, a kid of 4, lies beside 6: 6 is refined before 11, and has its kids until 11 has none */
 static void no_jump(map *m) {
     puts("no jump of two levels");
-    build(m, 40, 2, 1);
+    build(m, 40, 2, 1, GRID_OPEN);
     TAPE(m, 1, 0, 4, 1, 0, 11);
     TAPE(m, 1, 0, 6, 1, 0, 11);
     row(m, 6, 1, 4);
@@ -139,16 +139,46 @@ static void no_jump(map *m) {
     check(m);
 }
 
+/* 8 is the highest of three cells, and 4, the lowest, lies to its north: 12, a kid of 8, lies beside 4 until 4 is killed */
+static void ring(map *m) {
+    puts("a ring");
+    build(m, 40, 1, 3, GRID_RING);
+    places(m, 4, 9);
+    row(m, 4, NORTH, 4);
+    row(m, 8, NORTH, 4);
+    FLAGS_OF(m, 4, 5, 8, 6, 7, 9);
+    TAPE(m, 1, 0, 8);
+    places(m, 10, 18);
+    row(m, 12, NORTH, 4);
+    row(m, 14, NORTH, 4);
+    FLAGS_OF(m, 12, 13, 14, 15);
+    lookup(m, 0, 3 * 4096 - 1);
+    lookup(m, 0, 3 * 4096);
+    TAPE(m, 1, 0, 12);
+    TAPE(m, 4, 0, 4, 1, 0, 12);
+    FLAGS_OF(m, 12, 13, 14, 15);
+    lookup(m, 0, 0);
+    scan(m, order, 4, 3, 40);
+    page(m, 400);
+    check(m);
+    m->header.mode = GRID_OPEN;
+    check(m);
+    m->header.mode = 2;
+    check(m);
+    build(m, 40, 1, 2, GRID_RING);
+    build(m, 40, 1, 3, 2);
+}
+
 static void points(map *m) {
     puts("P10 P11");
-    build(m, 40, 1, 1);
+    build(m, 40, 1, 1, GRID_OPEN);
     lookup(m, 4095, 4095);
     lookup(m, 4096, 0);
     lookup(m, 4097, 0);
     TAPE(m, 1, 0, 2, 1, 0, 2);
 
     puts("rated speed");
-    build(m, 40, 2, 2);
+    build(m, 40, 2, 2, GRID_OPEN);
     TAPE(m, 4, 0, 9);
     lookup(m, 4096, 4096);
     lookup(m, 8192, 4095);
@@ -156,12 +186,12 @@ static void points(map *m) {
     lookup(m, 8192, 4096);
     lookup(m, 4097, 4097);
     lookup(m, UINT32_MAX, UINT32_MAX);
-    build(m, 40, 2, 2);
+    build(m, 40, 2, 2, GRID_OPEN);
     TAPE(m, 4, 0, 7);
     lookup(m, 0, 4096);
 
     puts("values");
-    build(m, 40, 1, 1);
+    build(m, 40, 1, 1, GRID_OPEN);
     TAPE(m, 5, 0, 2, 0x3f, 0xf8, 0, 0, 0, 0, 0, 0);
     lookup(m, 0, 0);
     TAPE(m, 1, 0, 2);
@@ -190,6 +220,7 @@ int main(void) {
     one_cell(&m);
     more_cells(&m);
     no_jump(&m);
+    ring(&m);
     points(&m);
     refusals(&m);
     return 0;

@@ -1,4 +1,4 @@
-//! The reference grids P1 to P11, the page of 07 01 01 and some refusals, by the library. `examples/run` compiles, runs and compares it.
+//! The reference grids P1 to P11, the page of 07 01 01, a ring and some refusals, by the library. `examples/run` compiles, runs and compares it.
 
 const WORDS: usize = 14;
 const NORTH: usize = 5;
@@ -6,18 +6,21 @@ const LEVEL: usize = 9;
 const COLUMN: usize = 10;
 const ROW: usize = 11;
 const FLAGS: usize = 12;
+const OPEN: u32 = 0;
+const RING: u32 = 1;
 
 #[repr(C)]
 struct Header {
     columns: u32,
     rows: u32,
+    mode: u32,
     mark: u16,
 }
 
 #[rustfmt::skip]
 extern "C" {
     fn grid_build(header: *mut Header, table: *mut i32, table_len: usize, values: *mut f64, values_len: usize, capacity: u32,
-                  columns: u32, rows: u32, in_use: *mut u32) -> u32;
+                  columns: u32, rows: u32, mode: u32, in_use: *mut u32) -> u32;
     fn grid_tape(header: *mut Header, table: *mut i32, table_len: usize, values: *mut f64, values_len: usize, capacity: u32,
                  tape: *const u8, tape_len: usize, done: *mut usize, offset: *mut usize) -> u32;
     fn grid_check(header: *const Header, table: *const i32, table_len: usize, values: *const f64, values_len: usize, capacity: u32) -> u32;
@@ -39,10 +42,10 @@ struct Map {
 }
 
 impl Map {
-    fn build(capacity: u32, columns: u32, rows: u32) -> Map {
+    fn build(capacity: u32, columns: u32, rows: u32, mode: u32) -> Map {
         let places = capacity as usize + 1;
         let mut m = Map {
-            header: Header { columns: 7, rows: 7, mark: 7 },
+            header: Header { columns: 7, rows: 7, mode: 7, mark: 7 },
             table: vec![-1; WORDS * places],
             values: vec![7.0; places],
             capacity,
@@ -51,7 +54,7 @@ impl Map {
         let refusal = unsafe {
             grid_build(
                 &mut m.header, m.table.as_mut_ptr(), m.table.len(), m.values.as_mut_ptr(), m.values.len(), capacity,
-                columns, rows, &mut in_use,
+                columns, rows, mode, &mut in_use,
             )
         };
         println!("build {} in use {}", refusal, in_use);
@@ -147,7 +150,7 @@ impl Map {
 
 fn one_cell() {
     println!("P1 P2 and the page");
-    let mut m = Map::build(40, 1, 1);
+    let mut m = Map::build(40, 1, 1, OPEN);
     let built = m.table.clone();
     m.places(2, 5);
     m.flags(&[2, 3, 4, 5]);
@@ -160,13 +163,13 @@ fn one_cell() {
     m.tape(&[2, 0, 6, 2, 0, 7, 2, 0, 8, 2, 0, 9, 3, 0, 2]);
     println!("rows of the build {}", if m.table == built { "yes" } else { "no" });
     for capacity in [14, 13] {
-        Map::build(capacity, 1, 1).tape(&[1, 0, 2]);
+        Map::build(capacity, 1, 1, OPEN).tape(&[1, 0, 2]);
     }
 }
 
 fn more_cells(order: &[u8]) {
     println!("P6 P7 P8");
-    let mut m = Map::build(40, 2, 1);
+    let mut m = Map::build(40, 2, 1, OPEN);
     m.scan(order, 2, 40);
     m.tape(&[1, 0, 4]);
     m.scan(order, 1, 40);
@@ -177,7 +180,7 @@ fn more_cells(order: &[u8]) {
     m.row(10, 1, 4);
 
     println!("P9");
-    let mut m = Map::build(40, 3, 1);
+    let mut m = Map::build(40, 3, 1, OPEN);
     m.tape(&[4, 0, 6]);
     m.scan(order, 1, 40);
     m.row(6, NORTH, 4);
@@ -187,7 +190,7 @@ fn more_cells(order: &[u8]) {
 /// 11, a kid of 4, lies beside 6: 6 is refined before 11, and has its kids until 11 has none.
 fn no_jump(order: &[u8]) {
     println!("no jump of two levels");
-    let mut m = Map::build(40, 2, 1);
+    let mut m = Map::build(40, 2, 1, OPEN);
     m.tape(&[1, 0, 4, 1, 0, 11]);
     m.tape(&[1, 0, 6, 1, 0, 11]);
     m.row(6, 1, 4);
@@ -198,16 +201,46 @@ fn no_jump(order: &[u8]) {
     m.check();
 }
 
+/// 8 is the highest of three cells, and 4, the lowest, lies to its north: 12, a kid of 8, lies beside 4 until 4 is killed.
+fn ring(order: &[u8]) {
+    println!("a ring");
+    let mut m = Map::build(40, 1, 3, RING);
+    m.places(4, 9);
+    m.row(4, NORTH, 4);
+    m.row(8, NORTH, 4);
+    m.flags(&[4, 5, 8, 6, 7, 9]);
+    m.tape(&[1, 0, 8]);
+    m.places(10, 18);
+    m.row(12, NORTH, 4);
+    m.row(14, NORTH, 4);
+    m.flags(&[12, 13, 14, 15]);
+    m.lookup(0, 3 * 4096 - 1);
+    m.lookup(0, 3 * 4096);
+    m.tape(&[1, 0, 12]);
+    m.tape(&[4, 0, 4, 1, 0, 12]);
+    m.flags(&[12, 13, 14, 15]);
+    m.lookup(0, 0);
+    m.scan(order, 3, 40);
+    m.page(400);
+    m.check();
+    m.header.mode = OPEN;
+    m.check();
+    m.header.mode = 2;
+    m.check();
+    Map::build(40, 1, 2, RING);
+    Map::build(40, 1, 3, 2);
+}
+
 fn points() -> Map {
     println!("P10 P11");
-    let mut m = Map::build(40, 1, 1);
+    let mut m = Map::build(40, 1, 1, OPEN);
     m.lookup(4095, 4095);
     m.lookup(4096, 0);
     m.lookup(4097, 0);
     m.tape(&[1, 0, 2, 1, 0, 2]);
 
     println!("rated speed");
-    let mut m = Map::build(40, 2, 2);
+    let mut m = Map::build(40, 2, 2, OPEN);
     m.tape(&[4, 0, 9]);
     m.lookup(4096, 4096);
     m.lookup(8192, 4095);
@@ -215,12 +248,12 @@ fn points() -> Map {
     m.lookup(8192, 4096);
     m.lookup(4097, 4097);
     m.lookup(u32::MAX, u32::MAX);
-    let mut m = Map::build(40, 2, 2);
+    let mut m = Map::build(40, 2, 2, OPEN);
     m.tape(&[4, 0, 7]);
     m.lookup(0, 4096);
 
     println!("values");
-    let mut m = Map::build(40, 1, 1);
+    let mut m = Map::build(40, 1, 1, OPEN);
     m.tape(&[5, 0, 2, 0x3f, 0xf8, 0, 0, 0, 0, 0, 0]);
     m.lookup(0, 0);
     m.tape(&[1, 0, 2]);
@@ -252,5 +285,6 @@ fn main() {
     one_cell();
     more_cells(&order);
     no_jump(&order);
+    ring(&order);
     refusals(points(), &order);
 }

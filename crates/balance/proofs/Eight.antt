@@ -4,19 +4,21 @@ use Prim.Native.Nat.{suc, _+_, _*_, _/_, _%_, _≤_}
 use native.Mathlib.Omega.{arith}
 use mathlib.Core.Path.{_≡_, refl, sym, ap, _∙_}
 use mathlib.Core.Bool.{Bool, true, false, _&&_, cond, and-false, or-false, or-assoc}
-use mathlib.Core.Option.{Option, none, some, Option·map, Option·some-injective}
+use mathlib.Core.Option.{Option, none, some, Option·map}
 use mathlib.Core.List.{List, [], _∷_}
 use lib.Dec.{T}
 use Rattle.mesh.specs.Tools.{any, orElse}
-use Rattle.mesh.specs.Place.{Place, Grid, Wind, NE, SE, SW, NW, N, E, S, W, compass, kidWinds, sideWinds, same, base, toNorth, toEast, step, kid, kids}
+use Rattle.mesh.specs.Place.{Place, Grid, Wind, NE, SE, SW, NW, N, E, S, W, compass, kidWinds, sideWinds, same, base, step, kid, kids}
 use Rattle.mesh.specs.Mesh.{Mesh, hasKids}
 use Rattle.mesh.specs.Jump.{finerThan, finerBeside}
 use Rattle.mesh.proofs.Winds.{rule}
 use Rattle.geometry.proofs.Bools.{yes-is, no-is, bool-ext, and-both, and-right}
-use Rattle.geometry.proofs.Places.{In, south-north, west-east}
+use Rattle.geometry.proofs.Places.{In}
 use Rattle.geometry.proofs.Kids.{up, parent-up, up-is, kid-depth, up-kid, parent-in, in-parent}
 use Rattle.geometry.proofs.Tree.{kids-cell}
-use Rattle.geometry.proofs.Digits.{aside, within, stays, step-up, step-depth}
+use Rattle.geometry.proofs.Laps.{smooth-above}
+use Rattle.geometry.proofs.Digits.{aside, within, stays, step-up, step-depth, step-other}
+use Rattle.geometry.proofs.Base.{Rectangle, lap-many}
 
 -- the neighbours of the kids that lie outside the four
 abbrev pub eight : Grid → Place → List (Option Place)
@@ -43,26 +45,6 @@ stays-kid x w p =
     let b : (2 * p .row + compass x .north / 2) % 2 ≡ compass x .north / 2 = omega (arith, rule x .north-back) in
     rw (a, b)
 
--- a step leads away
-north-moves : (g : Grid) (p : Place) → toNorth g p ≡ p → ⊥
-unfolding toNorth
-north-moves g p e = let x : suc (p .row) ≡ p .row = ap (λ (q : Place). q .row) e in omega arith
-
-east-moves : (g : Grid) (p : Place) → toEast g p ≡ p → ⊥
-unfolding toEast
-east-moves g p e = let x : suc (p .col) ≡ p .col = ap (λ (q : Place). q .col) e in omega arith
-
-step-moves : (g : Grid) (w : Wind) → T (aside w) → (p : Place) → step g w p ≡ some p → ⊥
-unfolding step
-step-moves g N a p e = north-moves g p (Option·some-injective _ _ e)
-step-moves g E a p e = east-moves g p (Option·some-injective _ _ e)
-step-moves g S a p e = north-moves g p (south-north g p p e)
-step-moves g W a p e = east-moves g p (west-east g p p e)
-step-moves g NE a p e = absurd a
-step-moves g SE a p e = absurd a
-step-moves g SW a p e = absurd a
-step-moves g NW a p e = absurd a
-
 -- what is the same for each wind is the same for the four
 any-sides : (f h : Wind → Bool) → ((w : Wind) → T (aside w) → f w ≡ h w) → any f sideWinds ≡ any h sideWinds
 any-sides f h e = rw (e N tt, e E tt, e S tt, e W tt)
@@ -70,7 +52,7 @@ any-sides f h e = rw (e N tt, e E tt, e S tt, e W tt)
 any-kids : (f h : Wind → Bool) → ((x : Wind) → f x ≡ h x) → any f kidWinds ≡ any h kidWinds
 any-kids f h e = rw (e NE, e SE, e SW, e NW)
 
-module _ (g : Grid) (c : Place → Bool) (m : Mesh g c) (p : Place) (low : base g ≤ p .depth) where
+module _ (g : Grid) (c : Place → Bool) (m : Mesh g c) (in-range : Rectangle g) (p : Place) (low : base g ≤ p .depth) where
   -- a neighbour of a kid, as 22 asks of it, and whether it has kids
   abbrev asked : Wind → Wind → Bool
   asked x w = orElse false (finerThan g c p) (step g w (kid x p))
@@ -88,7 +70,7 @@ module _ (g : Grid) (c : Place → Bool) (m : Mesh g c) (p : Place) (low : base 
       go b s (some q) e = at-place b s
         where
           above : (b : Bool) → stays w (kid x p) ≡ b → some (up q) ≡ cond b (some p) (step g w p)
-          above b s = sym (ap (Option·map up) e) ∙ step-up g w a (kid x p) (omega (arith, kid-depth x p)) ∙ rw (s, up-kid x p)
+          above b s = sym (ap (Option·map up) e) ∙ step-up g w a (kid x p) (omega (arith, kid-depth x p)) (smooth-above g w (kid x p) (omega (arith, kid-depth x p))) ∙ rw (s, up-kid x p)
 
           depth-of : q .depth ≡ suc (p .depth)
           depth-of = step-depth g w a (kid x p) q e ∙ kid-depth x p
@@ -98,7 +80,7 @@ module _ (g : Grid) (c : Place → Bool) (m : Mesh g c) (p : Place) (low : base 
               let i : In q (kids p) = parent-in q p (parent-up q (omega (arith, depth-of)) ∙ above true s) in
               rw (yes-is (any (same q) (kids p)) i) (and-false (c q))
           at-place false s =
-              let n : any (same q) (kids p) ≡ false = no-is (any (same q) (kids p)) (λ i. step-moves g w a p (sym (above false s) ∙ ap some (up-is q p (in-parent q p i)))) in
+              let n : any (same q) (kids p) ≡ false = no-is (any (same q) (kids p)) (λ i. step-other g w a p (lap-many g in-range (p .depth)) (sym (above false s) ∙ ap some (up-is q p (in-parent q p i)))) in
               rw n (bool-ext (c q && hasKids g c q) (hasKids g c q) (λ t. and-right (c q) (hasKids g c q) t) (λ t. and-both (c q) (hasKids g c q) (kids-cell g c m q (omega (arith, depth-of)) t) t))
 
   pub finer-eight : finerBeside g c p ≡ any (orElse false (hasKids g c)) (eight g p)

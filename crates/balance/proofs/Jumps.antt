@@ -3,25 +3,27 @@
 -- coarse leaf is a cell too, and a kid of it.
 -- Assumes nothing.
 use Prim.Native.Nat.{ℕ, zero, suc, _+_, _-_, _*_, _/_, _^_, _≤_, _<_}
-use native.Mathlib.Nat.{add-mul, one-mul, mul-assoc, mul-comm, pow-suc, one-le-pow, div-eq-of-lt-le}
+use native.Mathlib.Nat.{add-mul, one-mul, mul-assoc, mul-comm, pow-suc, one-le-pow, zero-mul, zero-div, div-eq-of-lt-le}
 use native.Mathlib.Omega.{arith}
 use native.Mathlib.Decide.{decLe}
-use mathlib.Core.Path.{_≡_, sym, ap, _∙_, subst}
+use mathlib.Core.Path.{_≡_, refl, sym, ap, _∙_, subst}
 use mathlib.Core.Logic.{_⊎_, inl, inr}
 use mathlib.Core.Bool.{Bool}
 use mathlib.Core.Option.{some}
 use lib.Dec.{T}
-use Rattle.mesh.specs.Place.{Place, Grid, Wind, N, E, S, W, base, home, toSouth, toWest, step, parent}
+use Rattle.mesh.specs.Place.{Place, Grid, Wind, N, E, S, W, base, lap, home, toSouth, toWest, step, parent}
 use Rattle.mesh.specs.Mesh.{Mesh, on, hasKids, leaf}
 use Rattle.mesh.specs.Holding.{side, westEdge, eastEdge, southEdge, northEdge, holds}
+use Rattle.geometry.proofs.Laps.{before-on, before-anew}
 use Rattle.geometry.proofs.Places.{step-back}
 use Rattle.geometry.proofs.Kids.{up-is, kid-has, leaf-cell, leaf-kidless}
 use Rattle.geometry.proofs.Digits.{aside}
 use Rattle.geometry.proofs.Walls.{home-up, home-cell}
 use Rattle.geometry.proofs.Points.{Within, held, spot, spot-depth, holds-spot, spot-parent}
 use Rattle.geometry.proofs.Tiling.{spot-up}
-use Rattle.balance.specs.Beside.{Overlap, BesideV, BesideH, Beside, NoJump}
+use Rattle.balance.specs.Beside.{Overlap, Meet, BesideV, BesideH, Beside, NoJump}
 use Rattle.balance.proofs.Balanced.{Balanced}
+use Rattle.balance.proofs.Edges.{lap-units, north-edge}
 
 -- ---- intervals
 
@@ -59,9 +61,14 @@ module _ (g : Grid) (e : ℕ) where
   unfolding spot step toWest
   west-of k v = let (a, b) = index len k len-pos in rw (a, b)
 
-  south-of : (k u : ℕ) → step g S (spot g e u (suc k * len)) ≡ some (spot g e u (suc k * len - 1))
+  south-of : (k u : ℕ) → (suc k ≡ lap g e → ⊥) → step g S (spot g e u (suc k * len)) ≡ some (spot g e u (suc k * len - 1))
   unfolding spot step toSouth
-  south-of k u = let (a, b) = index len k len-pos in rw (a, b)
+  south-of k u h = let (a, b) = index len k len-pos in rw (a, b, before-on (lap g e) k h)
+
+  -- over the seam
+  south-round : (k u : ℕ) → suc k ≡ lap g e → step g S (spot g e u 0) ≡ some (spot g e u (suc k * len - 1))
+  unfolding spot step toSouth
+  south-round k u h = let (a, b) = index len k len-pos in rw (zero-div len, b, before-anew (lap g e) k h)
 
 -- ---- a leaf two levels finer
 
@@ -128,16 +135,49 @@ module _ {g : Grid} {c : Place → Bool} (m : Mesh g c) where
             let (k, s, t) = before (p .col) (q .col) e in
             across (suc k * half) v (suc k * half - 1) v (held g p _ v s a) (held g q _ v t b) E tt (step-back g W _ _ (west-of g (suc (p .depth)) k v))
 
+    -- a row that begins in a cell is not the one after the last
+    inner : (r : Place) → T (c r) → (k : ℕ) → Within (side g r) (r .row) (suc k * half) → suc k ≡ lap g (suc (p .depth)) → ⊥
+    inner r t k (a, b) h = go (north-edge m r t)
+      where
+        all : lap g (base g + 12) ≡ suc k * half
+        all = let l = m .low p (leaf-cell g c p here) in let u = m .high q there in rw h (lap-units g (suc (p .depth)) (omega arith) (omega arith))
+
+        go : (lap g (base g + 12) ≡ 0) ⊎ (northEdge g r ≤ lap g (base g + 12)) → ⊥
+        go (inl z) = omega (arith, all, grows half k (len-pos g (suc (p .depth))))
+        go (inr l) = omega (arith, all)
+
+    -- the rows that p's level has in halves of its side, if an edge is the one after the last
+    round : {n : ℕ} → 0 < n → n ≡ lap g (base g + 12) → (k : ℕ) × (suc k ≡ lap g (suc (p .depth))) × (suc k * half ≡ n)
+    round {n} l e =
+        let a = m .low p (leaf-cell g c p here) in
+        let b = m .high q there in
+        go (lap g (suc (p .depth))) refl (lap-units g (suc (p .depth)) (omega arith) (omega arith))
+      where
+        go : (x : ℕ) → lap g (suc (p .depth)) ≡ x → lap g (base g + 12) ≡ lap g (suc (p .depth)) * half → (k : ℕ) × (suc k ≡ lap g (suc (p .depth))) × (suc k * half ≡ n)
+        go zero z u = absurd (omega (arith, rw (z, zero-mul half) at u))
+        go (suc k) z u = (k, sym z, rw (← z) (sym (e ∙ u)))
+
+    first : (h i : ℕ) → 0 < h → i * h ≡ 0 → Within h i 0
+    first h i l e = let g = grows h i l in (omega arith, omega arith)
+
     no-jump-h : BesideH g p q → ⊥
     no-jump-h (x, o) = let (u, a, b) = common (side g p) (p .col) (side g q) (q .col) pos-p pos-q o in go u a b x
       where
-        go : (u : ℕ) → Within (side g p) (p .col) u → Within (side g q) (q .col) u → (northEdge g p ≡ southEdge g q) ⊎ (northEdge g q ≡ southEdge g p) → ⊥
-        go u a b (inl e) =
+        go : (u : ℕ) → Within (side g p) (p .col) u → Within (side g q) (q .col) u → Meet g (northEdge g p) (southEdge g q) ⊎ Meet g (northEdge g q) (southEdge g p) → ⊥
+        go u a b (inl (inl e)) =
             let (k, s, t) = behind (p .row) (q .row) e in
-            across u (suc k * half - 1) u (suc k * half) (held g p u _ a s) (held g q u _ b t) S tt (south-of g (suc (p .depth)) k u)
-        go u a b (inr e) =
+            across u (suc k * half - 1) u (suc k * half) (held g p u _ a s) (held g q u _ b t) S tt (south-of g (suc (p .depth)) k u (inner q there k t))
+        go u a b (inl (inr (e, z))) =
+            let (k, h, f) = round (omega (arith, grows (side g p) (p .row) pos-p)) e in
+            let s : Within (side g p) (p .row) (suc k * half - 1) = rw f (last (side g p) (p .row) pos-p) in
+            across u (suc k * half - 1) u 0 (held g p u _ a s) (held g q u _ b (first (side g q) (q .row) pos-q z)) S tt (south-round g (suc (p .depth)) k u h)
+        go u a b (inr (inl e)) =
             let (k, s, t) = before (p .row) (q .row) e in
-            across u (suc k * half) u (suc k * half - 1) (held g p u _ a s) (held g q u _ b t) N tt (step-back g S _ _ (south-of g (suc (p .depth)) k u))
+            across u (suc k * half) u (suc k * half - 1) (held g p u _ a s) (held g q u _ b t) N tt (step-back g S _ _ (south-of g (suc (p .depth)) k u (inner p (leaf-cell g c p here) k s)))
+        go u a b (inr (inr (e, z))) =
+            let (k, h, f) = round (omega (arith, grows (side g q) (q .row) pos-q)) e in
+            let t : Within (side g q) (q .row) (suc k * half - 1) = rw f (last (side g q) (q .row) pos-q) in
+            across u 0 u (suc k * half - 1) (held g p u _ a (first (side g p) (p .row) pos-p z)) (held g q u _ b t) N tt (step-back g S _ _ (south-round g (suc (p .depth)) k u h))
 
     no-jump : Beside g p q → ⊥
     no-jump (inl b) = no-jump-v b

@@ -1,5 +1,6 @@
 -- The laws of No. 1, 'No jump of two levels'.
 pub mod Balanced
+pub mod Edges
 pub mod Jumps
 pub mod Green
 pub mod Keeping

@@ -1,5 +1,5 @@
 -- `Beside` misses nothing: two leaves that hold two points one unit apart, of which one is east or north of the other, are one leaf or lie
--- beside each other.
+-- beside each other; and so do those that hold the last and the first unit of a ring.
 -- Assumes nothing.
 use Prim.Native.Nat.{ℕ, suc, _+_, _*_, _≤_, _<_}
 use native.Mathlib.Omega.{arith}
@@ -8,12 +8,14 @@ use mathlib.Core.Path.{_≡_}
 use mathlib.Core.Logic.{_⊎_, inl, inr}
 use mathlib.Core.Bool.{Bool}
 use lib.Dec.{T}
-use Rattle.mesh.specs.Place.{Place, Grid}
+use Rattle.mesh.specs.Place.{Place, Grid, base, lap}
 use Rattle.mesh.specs.Mesh.{Mesh, leaf}
-use Rattle.mesh.specs.Holding.{side, holds}
+use Rattle.mesh.specs.Holding.{side, northEdge, holds}
+use Rattle.geometry.proofs.Kids.{leaf-cell}
 use Rattle.geometry.proofs.Points.{Within, held, holding}
 use Rattle.geometry.proofs.Tiling.{tiling-one}
 use Rattle.balance.specs.Beside.{Overlap, Beside}
+use Rattle.balance.proofs.Edges.{north-edge}
 
 -- one of the intervals has both numbers, or one ends where the other begins
 meet : (h i k j u : ℕ) → Within h i u → Within k j (suc u) → Within h i (suc u) ⊎ (Within k j u ⊎ ((i + 1) * h ≡ j * k))
@@ -48,4 +50,15 @@ module _ {g : Grid} {c : Place → Bool} (m : Mesh g c) (p q : Place) (a : T (le
       go : Within (side g p) (p .col) u → Within (side g q) (q .col) u → Within (side g p) (p .row) (suc v) ⊎ (Within (side g q) (q .row) v ⊎ ((p .row + 1) * side g p ≡ q .row * side g q)) → (p ≡ q) ⊎ Beside g p q
       go s t (inl i) = inl (tiling-one m u (suc v) p q a (held g p u (suc v) s i) b y)
       go s t (inr (inl i)) = inl (tiling-one m u v p q a x b (held g q u v t i))
-      go s t (inr (inr e)) = inr (inr (inl e, overlap (side g p) (p .col) (side g q) (q .col) u s t))
+      go s t (inr (inr e)) = inr (inr (inl (inl e), overlap (side g p) (p .col) (side g q) (q .col) u s t))
+
+  -- in a ring the unit after the last is the first
+  pub seam-beside : suc v ≡ lap g (base g + 12) → T (holds g q u 0) → Beside g p q
+  seam-beside h y =
+      let (x₁, x₂) = holding g p u v x in
+      let (y₁, y₂) = holding g q u 0 y in
+      inr (inl (inr (go x₂ (north-edge m p (leaf-cell g c p a)), omega (arith, y₂ .0))), overlap (side g p) (p .col) (side g q) (q .col) u x₁ y₁)
+    where
+      go : Within (side g p) (p .row) v → (lap g (base g + 12) ≡ 0) ⊎ (northEdge g p ≤ lap g (base g + 12)) → northEdge g p ≡ lap g (base g + 12)
+      go w (inl z) = absurd (omega arith)
+      go w (inr l) = omega (arith, w .1)

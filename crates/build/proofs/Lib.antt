@@ -2,6 +2,7 @@
 pub mod Turns
 pub mod Sizes
 pub mod Empty
+pub mod Seams
 pub mod Grounds
 pub mod Growths
 pub mod Whole

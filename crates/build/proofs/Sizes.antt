@@ -9,6 +9,7 @@ use mathlib.Core.Bool.{_&&_}
 use lib.Dec.{leb, leb→le, le→leb}
 use lib.ListN.{length}
 use Rattle.mesh.specs.Place.{Grid, base}
+use Rattle.mesh.specs.Seam.{lastRow}
 use Rattle.mesh.specs.Build.{numbered}
 use Rattle.geometry.proofs.Bools.{bool-ext}
 use Rattle.geometry.proofs.Base.{Rectangle}
@@ -23,8 +24,8 @@ halved-test i n k =
     (λ t. le→leb _ _ (le-div-iff-mul-le {k = 2 ^ n} {x = i} {y = k} (one-le-pow n 2 (omega arith)) .0 (leb→le _ _ t)))
     (λ t. le→leb _ _ (le-div-iff-mul-le {k = 2 ^ n} {x = i} {y = k} (one-le-pow n 2 (omega arith)) .1 (leb→le _ _ t)))
 
-pub full-test : (g : Grid) (up i j : ℕ) → (leb i (g .columns / 2 ^ up) && leb j (g .rows / 2 ^ up)) ≡ inFull g up i j
-full-test g up i j = ap₂ _&&_ (halved-test i up (g .columns)) (halved-test j up (g .rows))
+pub full-test : (g : Grid) (up i j : ℕ) → {k : ℕ} → k ≡ lastRow g → (leb i (g .columns / 2 ^ up) && leb j (k / 2 ^ up)) ≡ inFull g up i j
+full-test g up i j e = ap₂ _&&_ (halved-test i up (g .columns)) (ap (λ (x : ℕ). leb j (x / 2 ^ up)) e ∙ halved-test j up (lastRow g))
 
 -- ---- levels
 

@@ -5,22 +5,24 @@ ghost use lib.ListN.{length};
 ghost use Rattle.mesh.specs.Place.{base};
 ghost use Rattle.mesh.specs.Headers.{headerOf};
 ghost use Rattle.mesh.specs.Build.{numbered};
+ghost use Rattle.geometry.proofs.Base.{Rectangle};
 ghost use Rattle.numbering.proofs.Sizes.{levelSize};
 use mesh::header::Header;
+use mesh::header::last_row;
 
 // The patches so many levels below level 0.
 fn level_size(header: Header, up: u32) -> usize
-    requires { ⌜ (header .columns ≤ 32) × (header .rows ≤ 32) × (up ≤ 6) ⌝ }
+    requires { ⌜ (header .columns ≤ 32) × (1 ≤ header .rows) × (header .rows ≤ 32) × (up ≤ 6) ⌝ }
     ensures { λ r. ⌜ (r ≤ 1089) × (r ≡ levelSize (headerOf header .grid) up) ⌝ }
 {
     let a = (header.columns >> up) + 1;
-    let b = (header.rows >> up) + 1;
+    let b = (last_row(header) >> up) + 1;
     (a * b) as usize
 }
 
 // The patches of every level, from level 0 down to the root at depth 0.
 pub fn patches_in(header: Header, d: u32) -> usize
-    requires { ⌜ (1 ≤ header .columns) × (header .columns ≤ 32) × (1 ≤ header .rows) × (header .rows ≤ 32) × (d ≡ base (headerOf header .grid)) ⌝ }
+    requires { ⌜ Rectangle (headerOf header .grid) × (d ≡ base (headerOf header .grid)) ⌝ }
     ensures { λ r. ⌜ r ≡ length (numbered (headerOf header .grid)) ⌝ }
 {
     let mut sum: usize = 0;

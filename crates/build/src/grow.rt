@@ -15,16 +15,17 @@ use mesh::NW;
 use mesh::SE;
 use mesh::SW;
 use mesh::header::Header;
+use mesh::header::last_row;
 use mesh::kid_digits;
 use steps::links::link_in;
 use table::words::word;
 
 // Whether a place is a patch of the full rectangle, so many levels below level 0.
 fn in_full(header: Header, up: u32, i: u32, j: u32) -> bool
-    requires { ⌜ up < 32 ⌝ }
+    requires { ⌜ (up < 32) × (1 ≤ header .rows) ⌝ }
     ensures { λ r. ⌜ r ≡ inFull (headerOf header .grid) up i j ⌝ }
 {
-    (i <= header.columns >> up) & (j <= header.rows >> up)
+    (i <= header.columns >> up) & (j <= last_row(header) >> up)
 }
 
 // The kid of the row p in the wind at place w of the table of winds, where the rectangle has it; the next number.

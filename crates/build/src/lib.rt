@@ -5,6 +5,7 @@ ghost use lib.ListN.{length};
 ghost use Rattle.mesh.specs.Headers.{headerOf};
 ghost use Rattle.mesh.specs.Picture.{rowWords};
 ghost use Rattle.mesh.specs.Build.{numbered};
+ghost use Rattle.geometry.proofs.Base.{Rectangle};
 ghost use Rattle.build.specs.Steps.{Made};
 use mesh::header::Header;
 
@@ -12,10 +13,11 @@ pub mod count;
 pub mod fill;
 pub mod ground;
 pub mod grow;
+pub mod seam;
 
 // Writes the whole table and every value; the numbers in use.
 pub fn build_table(t: &mut [i32], v: &mut [f64], cap: usize, header: Header) -> usize
-    requires { ⌜ (length (now t) ≡ (cap + 1) * rowWords) × (length (now v) ≡ cap + 1) × (5 ≤ cap) × (cap ≤ 4095) × (1 ≤ header .columns) × (header .columns ≤ 32) × (1 ≤ header .rows) × (header .rows ≤ 32) × (length (numbered (headerOf header .grid)) ≤ cap) ⌝ }
+    requires { ⌜ (length (now t) ≡ (cap + 1) * rowWords) × (length (now v) ≡ cap + 1) × (5 ≤ cap) × (cap ≤ 4095) × Rectangle (headerOf header .grid) × (length (numbered (headerOf header .grid)) ≤ cap) ⌝ }
     ensures { λ r. ⌜ Made (headerOf header .grid) cap (now (t .exit)) (now (v .exit)) r ⌝ }
 {
     let d = mesh::ground_depth(header);
@@ -23,6 +25,7 @@ pub fn build_table(t: &mut [i32], v: &mut [f64], cap: usize, header: Header) -> 
     let r = grow::grow_levels(t, cap, header, d);
     let a = r.ground;
     let b = r.next;
+    seam::seam_rows(t, cap, header, d, a, b);
     ground::put_ground(t, header, a, b);
     ground::wall_rows(t, cap, d, a, b);
     ground::mark_rows(t, cap, a, b);

@@ -4,18 +4,21 @@
 use Prim.Native.Nat.{ℕ, zero, suc}
 use native.Mathlib.Omega.{arith}
 use mathlib.Core.Path.{_≡_, refl, ap, _∙_, subst}
-use mathlib.Core.Bool.{cond}
-use mathlib.Core.List.{[], _∷_}
+use mathlib.Core.Bool.{Bool, true, false, cond}
+use mathlib.Core.List.{List, [], _∷_}
 use lib.Dec.{eqb}
+use lib.IntN.{ℤ}
+use lib.Ieee.{Float}
 use borrow.Author.Tests.{ne-eqb}
 use Rattle.mesh.specs.Tools.{any}
-use Rattle.mesh.specs.Place.{base}
+use Rattle.mesh.specs.Place.{Grid, base}
 use Rattle.mesh.specs.State.{State, Value, blank, measured, carried, status, amount, valueOf, entry, gridOf, capacity}
 use Rattle.mesh.specs.Valid.{Valid}
 use Rattle.mesh.specs.Picture.{table, amounts}
 use Rattle.mesh.specs.Refusal.{_if_, refusal}
-use Rattle.mesh.specs.Lookup.{tries, lookup, lookupChecks}
+use Rattle.mesh.specs.Lookup.{tries, beyond, lookup, lookupChecks}
 use Rattle.mesh.specs.Call.{Lent, Found, lentChecks, stateOf, unless, lookupCall}
+use Rattle.walk.specs.Rows.{rowLookup}
 use Rattle.walk.specs.Calls.{rowValue, rowLookupOut}
 use Rattle.pictures.proofs.Rows.{amounts-at}
 use Rattle.pictures.proofs.Pictured.{word-status}
@@ -49,16 +52,27 @@ module _ (u v : ℕ) where
   abbrev answer : State → ℕ → Found
   answer s r = answered r (lookup s u v) (valueOf (entry (s .entries) (lookup s u v)))
 
-  lookup-picture : (s : State) → Valid s → answer s (refusal (lookupChecks s u v)) ≡ rowLookupOut (table s) (amounts s) (capacity s) (base (gridOf s)) u v
-  unfolding lookupChecks rowLookupOut
-  lookup-picture s x = rw (row-lookup s x u v, value-there s (lookup s u v))
+  -- by the rows, but for points past the last row of a ring
+  abbrev byRows : Grid → List ℤ → List Float → ℕ → Found
+  byRows g t w cap = cond (beyond g v) (record { why = 19; leaf = 0; value = blank }) (rowLookupOut t w cap (base g) u v)
 
-  -- the lookup call, by rows
-  pub lookup-call : (cap : ℕ) (l : Lent) → refusal (lentChecks cap l) ≡ 0 → lookupCall cap l u v ≡ rowLookupOut (l .words) (l .values) cap (base (l .header .grid)) u v
+  lookup-picture : (s : State) → Valid s → answer s (refusal (lookupChecks s u v)) ≡ byRows (gridOf s) (table s) (amounts s) (capacity s)
+  unfolding lookupChecks rowLookupOut refusal unless
+  lookup-picture s x = rw (← value-there s (lookup s u v), row-lookup s x u v) (go (beyond (gridOf s) v))
+    where
+      go : (b : Bool) → let n = cond b 0 (rowLookup (table s) (capacity s) (base (gridOf s)) u v) in
+          answered (refusal ((19 if eqb n 0) ∷ [])) n (rowValue (table s) (amounts s) n)
+          ≡ cond b (record { why = 19; leaf = 0; value = blank }) (rowLookupOut (table s) (amounts s) (capacity s) (base (gridOf s)) u v)
+      go true = refl
+      go false = refl
+
+  -- the lookup call
+  pub lookup-call : (cap : ℕ) (l : Lent) → refusal (lentChecks cap l) ≡ 0
+      → lookupCall cap l u v ≡ cond (beyond (l .header .grid) v) (record { why = 19; leaf = 0; value = blank }) (rowLookupOut (l .words) (l .values) cap (base (l .header .grid)) u v)
   unfolding lookupCall
   lookup-call cap l h =
       ap (answer (stateOf l)) (checks-after cap l h (lookupChecks (stateOf l) u v))
-      ∙ by-picture cap l h (λ s. answer s (refusal (lookupChecks s u v))) (λ g t w c. rowLookupOut t w c (base (g .grid)) u v) lookup-picture
+      ∙ by-picture cap l h (λ s. answer s (refusal (lookupChecks s u v))) (λ g t w c. byRows (g .grid) t w c) lookup-picture
 
   -- the leaf that the tries find first, and 19 exactly where none of them reaches the area
   pub lookup-finds : (cap : ℕ) (l : Lent) → refusal (lentChecks cap l) ≡ 0

@@ -22,7 +22,7 @@ use Rattle.mesh.specs.Picture.{table, amounts}
 use Rattle.mesh.specs.Page.{leaves, leafLine, body, page}
 use Rattle.table.specs.Words.{code, wordOf}
 use Rattle.walk.specs.Rows.{leafRow, rowWalk}
-use Rattle.page.specs.Rows.{bitsOf, rowLine, leavesFrom, linesOf, headLine, footLine, bodyOf, pageOf, rowPage}
+use Rattle.page.specs.Rows.{bitsOf, rowLine, leavesFrom, linesOf, footLine, bodyOf, pageOf, rowPage}
 use Rattle.geometry.proofs.Bools.{yes-is, or-left, or-right}
 use Rattle.geometry.proofs.Kids.{leaf-cell}
 use Rattle.numbering.proofs.Numbers.{valid-numbered, place-number}
@@ -107,7 +107,7 @@ module _ (s : State) (v : Valid s) where
   row-lines = rw row-leaves (ap flat (map-where (rowLine (table s) (amounts s)) (leafLine s) (leaves s) row-line))
 
   row-body : bodyOf (s .header) (table s) (amounts s) (leavesFrom (table s) (capacity s) (base g + 12) 1) ≡ body s
-  unfolding bodyOf headLine body
+  unfolding bodyOf body
   row-body = rw row-lines
 
   -- the page by rows is the page

@@ -18,7 +18,7 @@ use Rattle.mesh.specs.Place.{Place, Grid, at, root, base, parent, Wind, NE, SE,
 use Rattle.mesh.specs.Winds.{wordOfWind}
 use Rattle.mesh.specs.State.{plusZero}
 use Rattle.table.specs.Words.{wordOf, linkOf, depthOf}
-use Rattle.table.specs.Worked.{kidWord, sideOf}
+use Rattle.table.specs.Worked.{kidWord, sideIn}
 use Rattle.checking.specs.Rowwise.{below, isPlusZero, emptyOk, zeroOk, rootTests, rootOk, childTests, childOk, placeOk, kidTests, kidOk, kidsTests, kidsOk, sideTests, sidesOk, ghostOk, pointOk, valueOk, usedTests, usedOk, rowOk, rowwise}
 use Rattle.geometry.proofs.Bools.{and-left, and-right, or-cases}
 use Rattle.geometry.proofs.Lists.{every-at}
@@ -87,7 +87,7 @@ pub record Row (g : Grid) (cap : ℕ) (t : List ℤ) (v : List Float) (n : ℕ) 
   pub child : n ≢ 1 → Child g cap t n
   pub kid-word : (l m : ℕ) → l ≤ 1 → m ≤ 1 → wordOf t n (kidWord l m) ≡ linkOf t cap n (kidWord l m)
   pub kid : (l m : ℕ) → l ≤ 1 → m ≤ 1 → linkOf t cap n (kidWord l m) ≢ 0 → Kid cap t n (linkOf t cap n (kidWord l m)) l m
-  pub side : (w : Wind) → T (aside w) → wordOf t n (wordOfWind w) ≡ sideOf t cap n w
+  pub side : (w : Wind) → T (aside w) → wordOf t n (wordOfWind w) ≡ sideIn g t cap n w
   pub ghost : depthOf t (base g) n < base g → T (ghostOk g cap t v n)
   pub point : base g ≤ depthOf t (base g) n → T (pointOk g cap t v n)
   pub value : T (valueOk g cap t v n)
@@ -185,14 +185,14 @@ module _ (g : Grid) (cap : ℕ) (t : List ℤ) (v : List Float) where
       go zero (suc (suc m)) a b = absurd (omega arith)
       go (suc zero) (suc (suc m)) a b = absurd (omega arith)
 
-  side-facts : (n : ℕ) → T (sidesOk g cap t v n) → (w : Wind) → T (aside w) → wordOf t n (wordOfWind w) ≡ sideOf t cap n w
+  side-facts : (n : ℕ) → T (sidesOk g cap t v n) → (w : Wind) → T (aside w) → wordOf t n (wordOfWind w) ≡ sideIn g t cap n w
   unfolding sidesOk
   side-facts n h w a = go w a
     where
       nth : (i : ℕ) → T (getD (sideTests g cap t v n) i true)
       nth = every-at (sideTests g cap t v n) h
 
-      go : (w : Wind) → T (aside w) → wordOf t n (wordOfWind w) ≡ sideOf t cap n w
+      go : (w : Wind) → T (aside w) → wordOf t n (wordOfWind w) ≡ sideIn g t cap n w
       go N a = eqb→eq _ _ (nth 0)
       go E a = eqb→eq _ _ (nth 1)
       go S a = eqb→eq _ _ (nth 2)

@@ -7,21 +7,25 @@ use native.Mathlib.Decide.{ℕ-discrete}
 use mathlib.Core.Path.{_≡_, refl, sym, ap, ap₂, _∙_}
 use mathlib.Core.Logic.{_≢_, _⊎_, inl, inr}
 use mathlib.Core.Bool.{Bool, true, false, cond}
-use mathlib.Core.Option.{Option, none, some, Option·map, Option·none-ne-some, Option·some-injective}
+use mathlib.Core.Option.{Option, none, some, Option·map, Option·some-injective}
 use mathlib.Core.List.{List}
 use lib.Dec.{T, lit<}
 use lib.IntN.{ℤ}
 use lib.Ieee.{Float}
-use Rattle.mesh.specs.Tools.{isSome}
-use Rattle.mesh.specs.Place.{Place, Grid, root, parent, step, toNorth, toEast, toSouth, toWest, compass, Wind, NE, SE, SW, NW, N, E, S, W}
+use Rattle.mesh.specs.Tools.{isSome, orElse}
+use Rattle.mesh.specs.Place.{Place, Grid, at, root, base, parent, step, compass, Wind, NE, SE, SW, NW, N, E, S, W}
+use Rattle.mesh.specs.Seam.{crosses}
 use Rattle.mesh.specs.Winds.{wordOfWind}
 use Rattle.mesh.specs.Mesh.{on}
 use Rattle.mesh.specs.State.{Entry, Cell, placeOf, cellOf, entry, cells, number, numberOf}
-use Rattle.table.specs.Words.{wordOf, linkOf, flagOf}
-use Rattle.table.specs.Worked.{kidWord, sideOf}
+use Rattle.table.specs.Words.{wordOf, linkOf, flagOf, depthOf}
+use Rattle.table.specs.Worked.{kidWord, sideOf, downTo, sideIn}
 use Rattle.table.proofs.Links.{link-word}
+use Rattle.geometry.proofs.Laps.{Smooth, smooth-is}
+use Rattle.geometry.proofs.Base.{lap-many}
 use Rattle.geometry.proofs.Kids.{up, parent-depth, no-parent, up-is}
-use Rattle.geometry.proofs.Digits.{kidBy, kid-by-parent, kid-by-digits, parent-by, aside, stays, step-digits, step-depth}
+use Rattle.geometry.proofs.Digits.{kidBy, kid-by-parent, kid-by-digits, parent-by, aside, stays, step-digits, step-depth, step-other}
+use Rattle.pictures.proofs.Down.{down-from}
 use Rattle.numbering.proofs.Numbers.{number-place, place-number, cells-contents}
 use Rattle.checking.proofs.Facts.{Used, spot, link-high}
 use Rattle.checking.proofs.Climbing.{spot-col, spot-row, root-spot, not-root, child-depth, depth-zero, spot-once}
@@ -41,18 +45,6 @@ wind-small N = lit< tt
 wind-small E = lit< tt
 wind-small S = lit< tt
 wind-small W = lit< tt
-
--- no step to a side leads back to the root
-beside-root : (g : Grid) (w : Wind) → T (aside w) → step g w root ≡ some root → ⊥
-unfolding step toNorth toEast toSouth toWest
-beside-root g N t e = let z : _≡_ {A = ℕ} 1 0 = ap (λ (p : Place). p .row) (Option·some-injective _ _ e) in omega arith
-beside-root g E t e = let z : _≡_ {A = ℕ} 1 0 = ap (λ (p : Place). p .col) (Option·some-injective _ _ e) in omega arith
-beside-root g S t e = Option·none-ne-some _ e
-beside-root g W t e = Option·none-ne-some _ e
-beside-root g NE t e = t
-beside-root g SE t e = t
-beside-root g SW t e = t
-beside-root g NW t e = t
 
 module _ {g : Grid} {cap : ℕ} {t : List ℤ} {v : List Float} {es : List Entry} (o : Reads g cap t v es) where
   -- ---- numbers and rows
@@ -156,6 +148,21 @@ module _ {g : Grid} {cap : ℕ} {t : List ℤ} {v : List Float} {es : List Entry
           ∙ sym (ap (λ (n : ℕ). linkOf t cap n (kidWord l m)) e ∙ zero-link (kidWord l m) (kid-word-small l m a b))
       go (inr (u, s)) = ap (λ (p : Place). number es (kidBy l m p)) (sym s) ∙ kid-link (number es q) l m u a b
 
+  -- ---- from the root down
+
+  found : (q : Option Place) → orElse 0 (λ q. downTo t cap (q .depth) (q .col) (q .row)) q ≡ numberOf es q
+  found =
+      down-from t cap es (λ l m a b q. sym (kids-link l m a b q)) (number-spot 1 root (o .tested .root-used) (root-spot (o .tested)))
+      (λ q d z. number-none q (λ k uk f. z (sym f ∙ ap (spot g t) (depth-zero (o .tested) k uk (ap (λ (p : Place). p .depth) f ∙ d)) ∙ root-spot (o .tested))))
+
+  down-high : (q : Option Place) → orElse 0 (λ q. downTo t cap (q .depth) (q .col) (q .row)) q ≤ cap
+  down-high none = omega arith
+  down-high (some q) = rw (found (some q)) (go (number-cases q))
+    where
+      go : (number es q ≡ 0) ⊎ (Used cap t (number es q) × (spot g t (number es q) ≡ q)) → number es q ≤ cap
+      go (inl e) = rw e (omega arith)
+      go (inr (u, s)) = u .high
+
   -- ---- the neighbours
 
   number-cond : (b : Bool) (x y : Option Place) (n m : ℕ) → numberOf es x ≡ n → numberOf es y ≡ m → numberOf es (cond b x y) ≡ cond b n m
@@ -167,12 +174,18 @@ module _ {g : Grid} {cap : ℕ} {t : List ℤ} {v : List Float} {es : List Entry
   cond-same false n = refl
 
   module _ (w : Wind) (side : T (aside w)) where
-    side-word : (n : ℕ) → Used cap t n → linkOf t cap n (wordOfWind w) ≡ sideOf t cap n w
-    unfolding sideOf
+    side-high : (n : ℕ) → sideIn g t cap n w ≤ cap
+    unfolding sideIn sideOf
+    side-high n = go (crosses g w (at (depthOf t (base g) n) (wordOf t n 10) (wordOf t n 11)))
+      where
+        go : (b : Bool) → cond b (orElse 0 (λ q. downTo t cap (q .depth) (q .col) (q .row)) (step g w (at (depthOf t (base g) n) (wordOf t n 10) (wordOf t n 11)))) (sideOf t cap n w) ≤ cap
+        go true = down-high (step g w (at (depthOf t (base g) n) (wordOf t n 10) (wordOf t n 11)))
+        go false = link-high t cap _ _
+
+    side-word : (n : ℕ) → Used cap t n → linkOf t cap n (wordOfWind w) ≡ sideIn g t cap n w
     side-word n u =
         let e = o .tested .row n u .side w side in
-        let l : sideOf t cap n w ≤ cap = link-high t cap _ _ in
-        link-word t cap n (wordOfWind w) (omega arith) ∙ e
+        link-word t cap n (wordOfWind w) (omega (arith, e, side-high n)) ∙ e
 
     -- under the root there is none, and beside the root there is none
     side-none : (n : ℕ) → linkOf t cap n 0 ≡ 0 → sideOf t cap n w ≡ 0
@@ -190,29 +203,43 @@ module _ {g : Grid} {cap : ℕ} {t : List ℤ} {v : List Float} {es : List Entry
             number-none q (λ k uk f.
             let d : spot g t k .depth ≡ 0 = ap (λ (p : Place). p .depth) f ∙ step-depth g w side (spot g t n) q e ∙ ap (λ (p : Place). p .depth) s in
             let z : q ≡ root = sym f ∙ ap (spot g t) (depth-zero (o .tested) k uk d) ∙ root-spot (o .tested) in
-            beside-root g w side (ap (step g w) (sym s) ∙ e ∙ ap some z))
+            step-other g w side root (lap-many g (o .in-range) 0) (ap (step g w) (sym s) ∙ e ∙ ap some z))
 
-    side-by : (e n : ℕ) → spot g t n .depth ≡ e → Used cap t n → numberOf es (step g w (spot g t n)) ≡ sideOf t cap n w
+    -- the row by the parent's, where the step does not cross the seam of level 0
+    side-up : (e n : ℕ) → ((p : ℕ) → spot g t p .depth ≡ e → Used cap t p → numberOf es (step g w (spot g t p)) ≡ sideIn g t cap p w)
+        → spot g t n .depth ≡ suc e → Used cap t n → Smooth g w (spot g t n) → numberOf es (step g w (spot g t n)) ≡ sideOf t cap n w
     unfolding sideOf spot
-    side-by zero n d u =
-        let (a, s) = o .tested .row n u .top (depth-zero (o .tested) n u d) in
-        root-side n u s ∙ sym (side-none n (link-word t cap n 0 (omega arith) ∙ a))
-    side-by (suc e) n d u =
+    side-up e n above d u smooth =
         let z : n ≢ 1 = not-root (o .tested) n (omega arith) in
         let c = o .tested .row n u .child z in
         let p = linkOf t cap n 0 in
         let i : up (spot g t n) ≡ spot g t p = up-is (spot g t n) (spot g t p) (c .halved) in
         let ih : numberOf es (step g w (spot g t p)) ≡ linkOf t cap p (wordOfWind w) =
-        side-by e p (omega (arith, child-depth (o .tested) n u z)) (c .above) ∙ sym (side-word p (c .above)) in
+        above p (omega (arith, child-depth (o .tested) n u z)) (c .above) ∙ sym (side-word p (c .above)) in
         let (l, m) : ℕ × ℕ = ((wordOf t n 10 % 2 + compass w .east + 1) % 2, (wordOf t n 11 % 2 + compass w .north + 1) % 2) in
         let b = stays w (spot g t n) in
         let x = cond b (some (up (spot g t n))) (step g w (up (spot g t n))) in
         let s : numberOf es x ≡ cond b p (linkOf t cap p (wordOfWind w)) =
         number-cond b (some (up (spot g t n))) (step g w (up (spot g t n))) p (linkOf t cap p (wordOfWind w))
         (ap (number es) i ∙ number-used p (c .above)) (ap (λ (q : Place). numberOf es (step g w q)) i ∙ ih) in
-        ap (numberOf es) (step-digits g w side (spot g t n) (omega arith))
+        ap (numberOf es) (step-digits g w side (spot g t n) (omega arith) smooth)
         ∙ kids-link l m (omega arith) (omega arith) x
         ∙ ap (λ (k : ℕ). linkOf t cap k (kidWord l m)) s
+
+    crossed : (n : ℕ) → (crosses g w (spot g t n) ≡ false → numberOf es (step g w (spot g t n)) ≡ sideOf t cap n w) → numberOf es (step g w (spot g t n)) ≡ sideIn g t cap n w
+    unfolding sideIn spot
+    crossed n h = go (crosses g w (spot g t n)) refl
+      where
+        go : (b : Bool) → crosses g w (spot g t n) ≡ b
+            → numberOf es (step g w (spot g t n)) ≡ cond b (orElse 0 (λ q. downTo t cap (q .depth) (q .col) (q .row)) (step g w (spot g t n))) (sideOf t cap n w)
+        go true f = sym (found (step g w (spot g t n)))
+        go false f = h f
+
+    side-by : (e n : ℕ) → spot g t n .depth ≡ e → Used cap t n → numberOf es (step g w (spot g t n)) ≡ sideIn g t cap n w
+    side-by zero n d u =
+        let (a, s) = o .tested .row n u .top (depth-zero (o .tested) n u d) in
+        crossed n (λ f. root-side n u s ∙ sym (side-none n (link-word t cap n 0 (omega arith) ∙ a)))
+    side-by (suc e) n d u = crossed n (λ f. side-up e n (side-by e) d u (smooth-is g w (spot g t n) f))
 
     pub side-same : (n : ℕ) → Used cap t n → wordOf t n (wordOfWind w) ≡ linkOf t cap n (wordOfWind w)
     side-same n u = o .tested .row n u .side w side ∙ sym (side-word n u)

@@ -23,7 +23,7 @@ use Rattle.mesh.specs.Valid.{Valid, ValueRule, finite, aboveOf}
 use Rattle.mesh.specs.Picture.{table, amounts}
 use Rattle.mesh.specs.Test.{sameFloat}
 use Rattle.table.specs.Words.{wordOf, linkOf, flagOf, depthOf}
-use Rattle.table.specs.Worked.{kidWord, sideOf, flagsFrom}
+use Rattle.table.specs.Worked.{kidWord, sideIn, flagsFrom}
 use Rattle.checking.specs.Rowwise.{below, isPlusZero, emptyOk, zeroOk, rootOk, childOk, placeOk, kidTests, kidOk, kidsTests, kidsOk, sideTests, sidesOk, ghostOk, touchedOk, kidCellsAre, cellOk, sentenceTests, sentenceOk, pointTests, pointOk, blankOk, heldOk, valueOk, usedTests, usedOk, rowOk, rowwise}
 use Rattle.geometry.proofs.Bools.{is-yes, yes-is, no-is, and-both, or-left, or-right, implies, either, beq-refl}
 use Rattle.geometry.proofs.Lists.{at-every}
@@ -38,7 +38,7 @@ use Rattle.pictures.proofs.Rows.{amounts-at}
 use Rattle.pictures.proofs.Equal.{float-refl}
 use Rattle.pictures.proofs.Links.{_of_, wind-lt}
 use Rattle.pictures.proofs.Pictured.{link-word, word-status, free-flags, free-words, nil-words, word-col, word-row, word-flags, sentenced-flag, patch-not-free}
-use Rattle.pictures.proofs.Linked.{kid-word-lt, patch-numbered, corner-numbered, depth-of, link-parent, link-side, link-kid-of, kids-every, side-of}
+use Rattle.pictures.proofs.Linked.{kid-word-lt, patch-numbered, corner-numbered, depth-of, link-parent, link-side, link-kid-of, kids-every, side-in}
 use Rattle.pictures.proofs.Flagged.{sentenced-cell, cell-flag, ghost-flags, cell-of, cell-side, flags-from, cell-south}
 
 -- ---- tests
@@ -225,12 +225,12 @@ module _ (s : State) (v : Valid s) where
     sides-ok = at-every (pictured sideTests s n) (ok N tt, (ok E tt, (ok S tt, (ok W tt, tt))))
       where
         test : Wind → Bool
-        test w = eqb (word n (wordOfWind w)) (sideOf (table s) (capacity s) n w)
+        test w = eqb (word n (wordOfWind w)) (sideIn g (table s) (capacity s) n w)
 
         ok : (w : Wind) → T (w of sideWinds) → T (test w)
         ok w t =
-            is-eqb (word n (wordOfWind w)) (sideOf (table s) (capacity s) n w)
-            (sym (link-word s n (wordOfWind w) (wind-lt w)) ∙ link-side s v n p h w t ∙ sym (side-of s v w t n p h))
+            is-eqb (word n (wordOfWind w)) (sideIn g (table s) (capacity s) n w)
+            (sym (link-word s n (wordOfWind w) (wind-lt w)) ∙ link-side s v n p h w t ∙ sym (side-in s v w t n p h))
 
     -- ---- ghosts, points and cells
 

@@ -13,7 +13,7 @@ use Rattle.mesh.specs.State.{plusZero}
 use Rattle.mesh.specs.Valid.{finite}
 use Rattle.mesh.specs.Test.{sameFloat}
 use Rattle.table.specs.Words.{wordOf, linkOf, flagOf, depthOf}
-use Rattle.table.specs.Worked.{kidWord, sideOf, cellIn, flagsFrom}
+use Rattle.table.specs.Worked.{kidWord, sideIn, cellIn, flagsFrom}
 
 -- a test of the numbers below n, as a loop that counts up meets them
 abbrev pub below : ℕ → (ℕ → Bool) → Bool
@@ -93,9 +93,9 @@ module _ (g : Grid) (cap : ℕ) (t : List ℤ) (v : List Float) where
   unfoldable pub kidsOk : ℕ → Bool
   kidsOk n = every (kidsTests n)
 
-  -- each neighbour is the kid of the parent or of the parent's neighbour
+  -- each neighbour is the kid of the parent or of the parent's neighbour, but across the seam of level 0
   abbrev pub sideTests : ℕ → List Bool
-  sideTests n = eqb (word n 5) (sideOf t cap n N) ∷ eqb (word n 6) (sideOf t cap n E) ∷ eqb (word n 7) (sideOf t cap n S) ∷ eqb (word n 8) (sideOf t cap n W) ∷ []
+  sideTests n = eqb (word n 5) (sideIn g t cap n N) ∷ eqb (word n 6) (sideIn g t cap n E) ∷ eqb (word n 7) (sideIn g t cap n S) ∷ eqb (word n 8) (sideIn g t cap n W) ∷ []
 
   unfoldable pub sidesOk : ℕ → Bool
   sidesOk n = every (sideTests n)

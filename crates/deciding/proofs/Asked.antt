@@ -89,4 +89,4 @@ module _ (s : State) (v : Valid s) where
         down k =
             let there = v .each _ (kid NE p) (number-place es (kid NE p) (λ z. T-not (eqb (number es (kid NE p)) 0) k (rw z tt))) in
             let (r, near, u) = touched-corner g c (kid NE p) (patch-touched g c (kid NE p) (omega (arith, kid-depth NE p)) there) in
-            kid-has g c p r (middle-kid g r p near) u
+            kid-has g c p r (middle-kid g r p low near) u

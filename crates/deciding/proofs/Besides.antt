@@ -84,4 +84,4 @@ module _ (s : State) (v : Valid s) where
             side-row NW N tt tt,
             side-row NW W tt tt,
           )
-          (sym (finer-eight g c (v .mesh) p (v .mesh .low p here)))
+          (sym (finer-eight g c (v .mesh) (v .rectangle) p (v .mesh .low p here)))

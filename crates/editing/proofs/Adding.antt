@@ -17,6 +17,7 @@ use Rattle.mesh.specs.State.{Entry, nil, free, used, placeOf, valueOf, status, 
 use Rattle.mesh.specs.Picture.{rowWords}
 use Rattle.geometry.proofs.Bools.{yes-is, no-is, and-left}
 use Rattle.geometry.proofs.Places.{same-is, same-refl}
+use Rattle.geometry.proofs.Laps.{Smooth}
 use Rattle.geometry.proofs.Kids.{parent-depth}
 use Rattle.geometry.proofs.Digits.{kidBy, kid-by-parent, kid-by-digits, aside, step-depth, opposite-aside}
 use Rattle.numbering.proofs.Entries.{in-list, stands-in}
@@ -35,7 +36,7 @@ use Rattle.editing.proofs.Changing.{Swap, Toward, as-parent, as-side, s
 
 module _ {g : Grid} {cap : ℕ} {es : List Entry} (r : Rooted g cap es) (f : Flags) (k p l m : ℕ) (o : Place)
     (unused : entry es k ≡ free) (there : placeOf (entry es p) ≡ some o) (l-digit : l ≤ 1) (m-digit : m ≤ 1)
-    (missing : number es (kidBy l m o) ≡ 0) (room : o .depth < base g + 12) where
+    (missing : number es (kidBy l m o) ≡ 0) (room : o .depth < base g + 12) (smooth : (w : Wind) → Smooth g w (kidBy l m o)) where
   -- the new place, the new entries and the new table
   abbrev q : Place
   q = kidBy l m o
@@ -236,7 +237,7 @@ module _ {g : Grid} {cap : ℕ} {es : List Entry} (r : Rooted g cap es) (f : Fla
     }
 
     side-is : (w : Wind) → T (aside w) → sideOf t cap k w ≡ beside w
-    side-is w s = side-by (swap-rooted adding) (withFlags q 0 f) t k q q-there agrees w s ∙ beside-same adding w s
+    side-is w s = side-by (swap-rooted adding) (withFlags q 0 f) t k q q-there agrees w s (smooth w) ∙ beside-same adding w s
 
   linked-side : (w : Wind) (ws : List Wind) → T (all aside (w ∷ ws)) → (t : List ℤ) → Off t after (flat (map pair (w ∷ ws))) → Off (linkSide t cap k w) after (flat (map pair ws))
   unfolding linkSide

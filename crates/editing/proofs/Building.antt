@@ -12,17 +12,18 @@ use lib.Dec.{T}
 use lib.IntN.{ℤ}
 use lib.ListN.{length, getD, length-append}
 use Rattle.mesh.specs.Tools.{any, keep, digits, orElse}
-use Rattle.mesh.specs.Place.{Place, Grid, same, root, base}
+use Rattle.mesh.specs.Place.{Place, Grid, same, root, base, isRing}
+use Rattle.mesh.specs.Seam.{opened}
 use Rattle.mesh.specs.Mesh.{patch, flags}
 use Rattle.mesh.specs.State.{Entry, blank, status, placeOf, stands, entry, number}
 use Rattle.mesh.specs.Picture.{table}
 use Rattle.mesh.specs.Build.{full, numbered, blankCell, built}
-use Rattle.geometry.proofs.Bools.{yes-is, no-is, bool-ext}
+use Rattle.geometry.proofs.Bools.{is-yes, yes-is, no-is, bool-ext}
 use Rattle.geometry.proofs.Places.{In}
 use Rattle.geometry.proofs.Distinct.{keep-in, in-keep}
 use Rattle.geometry.proofs.Tree.{touched-patch, cell-patch}
 use Rattle.geometry.proofs.Walls.{ghost-flags}
-use Rattle.geometry.proofs.Base.{Rectangle}
+use Rattle.geometry.proofs.Base.{Rectangle, lap-many, open-is, patch-below}
 use Rattle.geometry.proofs.Full.{full-cell, full-mesh, full-depth}
 use Rattle.numbering.proofs.Entries.{stands-in}
 use Rattle.numbering.proofs.Numbers.{Numbered, number-place, numbered-not-zero}
@@ -32,7 +33,7 @@ use Rattle.numbering.proofs.Building.{built-numbered, built-contents, built-cel
 use Rattle.pictures.proofs.Pictured.{digit-at}
 use Rattle.editing.specs.Linked.{Flags, tableWith, flagsOf}
 use Rattle.editing.specs.Anew.{markRow}
-use Rattle.editing.specs.Built.{Growth, eachRow, growLevels, groundFrom, start, groundTable, buildTable}
+use Rattle.editing.specs.Built.{Growth, eachRow, growLevels, groundFrom, start, seamRow, linkedTable, groundTable, buildTable}
 use Rattle.editing.proofs.Linked.{picture-linked}
 use Rattle.editing.proofs.Setting.{flags-same}
 use Rattle.editing.proofs.Rooted.{Rooted}
@@ -43,6 +44,7 @@ use Rattle.editing.proofs.Walling.{wallsOf, meshOf, walls-cell, walls-m
 use Rattle.editing.proofs.Growing.{dark, bare, Grown, InTurn, last-in-turn}
 use Rattle.editing.proofs.Broods.{Ground, grow-levels}
 use Rattle.editing.proofs.Started.{started}
+use Rattle.editing.proofs.Sewing.{sew}
 use Rattle.editing.proofs.Grounding.{completeAt, put-ground}
 use Rattle.editing.proofs.Alike.{table-alike}
 
@@ -180,21 +182,52 @@ module _ (g : Grid) (cap : ℕ) (in-range : Rectangle g) (low : 5 ≤ cap) (high
       turn : InTurn es from (f .floor)
       turn = rw in-order (last-in-turn cap (f .ghosts) (f .floor) from e)
 
+      rooted : Rooted g cap es
+      unfolding base
+      rooted = record {
+        numbered = u .rooted .numbered;
+        long = u .rooted .long;
+        sizes = u .rooted .sizes;
+        laps = lap-many g in-range;
+        first-root = u .rooted .first-root;
+        top = u .rooted .top;
+        deepest = u .rooted .deepest;
+        parents = u .rooted .parents;
+      }
+
+      linked : linkedTable g cap (base g) ≡ tableWith g es dark
+      unfolding linkedTable
+      linked = go (isRing g) refl
+        where
+          patched : (n : ℕ) (p : Place) → placeOf (entry es n) ≡ some p → T (patch g (full g) p)
+          patched n p h = numbered-patch g in-range p (written-entry (λ p. none) (cap - length (numbered g)) (numbered g) (numbered-distinct g in-range) n p h .0)
+
+          go : (b : Bool) → isRing g ≡ b → cond b (eachRow (seamRow g cap (base g)) (end .next - from) from (end .words)) (end .words) ≡ tableWith g es dark
+          go false o = u .words-are ∙ ap (λ (h : Grid). tableWith h es dark) (open-is g in-range o)
+          go true o =
+              rw (many, u .words-are)
+              (sew rooted dark o (omega (arith, in-range .5 (is-yes (isRing g) o))) (f .floor) from turn
+              (λ n p h d. let t = patched n p h in (omega (arith, d, full-depth g p t), f .on-floor .all-of p d (full-depth g p t) t))
+              (λ n p h. patch-below g (full g) (full-mesh g in-range) p (patched n p h)) on-floor)
+
       ground : groundTable g cap (base g) ≡ tableWith g es marked
       unfolding groundTable
-      ground = rw (many, u .words-are) (put-ground (u .rooted) (f .floor) from dark turn on-floor)
+      ground = rw (many, linked) (put-ground rooted (f .floor) from dark turn on-floor)
 
       done : buildTable g cap (base g) ≡ tableWith g es finished
       unfolding buildTable
       done =
           rw (many, ground)
-          (ap (eachRow (markRow cap) (length (f .floor)) from) (pass-rows (u .rooted) (wall-step (u .rooted) (full g) (base g) (omega arith)) (f .floor) from marked turn on-floor ready)
-          ∙ pass-rows (u .rooted) (mark-step (u .rooted) (full g) (base g) (omega arith)) (f .floor) from walls turn on-floor (walled (u .rooted .numbered)))
+          (ap (eachRow (markRow cap) (length (f .floor)) from) (pass-rows rooted (wall-step rooted (full g) (base g) (omega arith)) (f .floor) from marked turn on-floor ready)
+          ∙ pass-rows rooted (mark-step rooted (full g) (base g) (omega arith)) (f .floor) from walls turn on-floor (walled (rooted .numbered)))
+
+  pub grown-linked : CellsAlone (opened g) cap (growLevels g cap (base g) (base g) 1 (start g cap (base g)) .words)
+  grown-linked = let (f, u, e) = grown in record { entries = es; flags = dark; rooted = u .rooted; is-linked = u .words-are; small = λ p. omega arith }
 
   pub ground-linked : CellsAlone g cap (groundTable g cap (base g))
   ground-linked =
       let (f, u, e) = grown in
-      record { entries = es; flags = marked f; rooted = u .rooted; is-linked = ground f u e; small = λ p. one (any (same p) (keep (full g) (f .floor))) }
+      record { entries = es; flags = marked f; rooted = rooted f u e; is-linked = ground f u e; small = λ p. one (any (same p) (keep (full g) (f .floor))) }
     where
       one : (b : Bool) → cond b 1 0 ≤ 1
       one true = omega arith

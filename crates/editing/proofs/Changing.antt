@@ -22,7 +22,7 @@ use Rattle.geometry.proofs.Bools.{no-is, is-yes}
 use Rattle.geometry.proofs.Lists.{any-set, first-set}
 use Rattle.geometry.proofs.Places.{same-is, is-same, mapped, then-some, step-back}
 use Rattle.geometry.proofs.Kids.{parent-depth}
-use Rattle.geometry.proofs.Digits.{kidBy, kid-by-parent, kid-by-digits, parent-by, aside, opposite-aside}
+use Rattle.geometry.proofs.Digits.{kidBy, kid-by-parent, kid-by-digits, parent-by, aside, opposite-aside, step-other}
 use Rattle.numbering.proofs.Entries.{stands-place}
 use Rattle.numbering.proofs.Numbers.{Numbered, number-place, place-number, numbered-not-zero}
 use Rattle.pictures.proofs.Links.{around-parent, around-side}
@@ -31,7 +31,7 @@ use Rattle.editing.specs.Linked.{Flags, fieldsWith, tableWith}
 use Rattle.editing.proofs.Spots.{word}
 use Rattle.editing.proofs.Linked.{word-link, word-field}
 use Rattle.editing.proofs.Rooted.{Rooted}
-use Rattle.editing.proofs.Sides.{around-kid-by, kid-word-lt, side-word-lt, step-other, Link, to-parent, to-kid, to-side, link-word, opposite-twice}
+use Rattle.editing.proofs.Sides.{around-kid-by, kid-word-lt, side-word-lt, Link, to-parent, to-kid, to-side, link-word, opposite-twice}
 
 -- ---- the change
 
@@ -100,6 +100,7 @@ module _ {g : Grid} {cap : ℕ} {es : List Entry} {k : ℕ} {e : Entry} {q : Pla
     numbered = swap-numbered;
     long = length-set es k e ∙ c .rooted .long;
     sizes = c .rooted .sizes;
+    laps = c .rooted .laps;
     first-root = ap placeOf (swap-other 1 not-first) ∙ c .rooted .first-root;
     top = λ n p h z. at-top n p z (place-cases n p h);
     deepest = λ n p h. in-range n p (place-cases n p h);
@@ -134,7 +135,7 @@ module _ {g : Grid} {cap : ℕ} {es : List Entry} {k : ℕ} {e : Entry} {q : Pla
     where
       go : (o : Option Place) → step g w q ≡ o → numberOf (set es k e) o ≡ numberOf es o
       go none i = refl
-      go (some p) i = swap-number p (λ z. step-other g w t q (i ∙ ap some z))
+      go (some p) i = swap-number p (λ z. step-other g w t q (c .rooted .laps (q .depth)) (i ∙ ap some z))
 
   -- a neighbour that stands
   pub beside-there : (w : Wind) → T (aside w) → numberOf es (step g w q) ≢ 0
@@ -143,7 +144,7 @@ module _ {g : Grid} {cap : ℕ} {es : List Entry} {k : ℕ} {e : Entry} {q : Pla
     where
       go : (o : Option Place) → step g w q ≡ o → numberOf es o ≢ 0 → (p : Place) × (o ≡ some p) × (placeOf (entry es (numberOf es o)) ≡ some p) × (numberOf es o ≢ k)
       go none i z = absurd (z refl)
-      go (some p) i z = let h = number-place es p z in (p, refl, h, number-other (number es p) p h (λ y. step-other g w t q (i ∙ ap some y)))
+      go (some p) i z = let h = number-place es p z in (p, refl, h, number-other (number es p) p h (λ y. step-other g w t q (c .rooted .laps (q .depth)) (i ∙ ap some y)))
 
   -- and the parent
   pub above-there : (p : Place) × (parent q ≡ some p) × (placeOf (entry es (numberOf es (parent q))) ≡ some p) × (numberOf es (parent q) ≢ k)

@@ -3,13 +3,14 @@
 use Prim.Native.Nat.{ℕ, suc, _≤_, _<_}
 use native.Mathlib.Omega.{arith}
 use mathlib.Core.Path.{_≡_, refl, ap}
-use mathlib.Core.Logic.{_≢_}
+use mathlib.Core.Logic.{_≢_, _⊎_, inl, inr}
 use mathlib.Core.Option.{some}
 use mathlib.Core.List.{List, [], _∷_}
 use lib.Dec.{lit<}
 use lib.ListN.{getD}
-use Rattle.mesh.specs.Place.{Place, Grid, root, same, toNorth, toEast, toSouth, toWest}
+use Rattle.mesh.specs.Place.{Place, Grid, root, same, lap, rowAfter, toNorth, toEast, toSouth, toWest}
 use Rattle.geometry.proofs.Lists.{any-at}
+use Rattle.geometry.proofs.Laps.{after-other, after-twice}
 use Rattle.geometry.proofs.Places.{In, same-refl, south-north, west-east}
 use Rattle.geometry.proofs.Distinct.{Distinct}
 use Rattle.geometry.proofs.Near.{Corner, c-here, c-east, c-north, c-both}
@@ -28,6 +29,13 @@ other-row x y h e = h (ap (λ (z : Place). z .row) e)
 
 more : (n : ℕ) → suc n ≢ n
 more n e = omega arith
+
+other : (n j : ℕ) → (n ≡ 0) ⊎ (3 ≤ n) → rowAfter n j ≢ j
+other n j many = after-other n j (λ e. go many e)
+  where
+    go : (n ≡ 0) ⊎ (3 ≤ n) → n ≡ 1 → ⊥
+    go (inl z) e = omega arith
+    go (inr z) e = omega arith
 
 module _ (g : Grid) (p : Place) where
   -- ---- the list
@@ -48,31 +56,39 @@ module _ (g : Grid) (p : Place) where
   pub in-corner : (q : Place) → In q corners → Corner g p q
   in-corner = each-in (Corner g p) corners (c-both, (c-north, (c-east, (c-here, tt))))
 
-  pub corners-distinct : Distinct corners
+  pub corners-distinct : (lap g (p .depth) ≡ 0) ⊎ (3 ≤ lap g (p .depth)) → Distinct corners
   unfolding toNorth toEast
-  corners-distinct =
+  corners-distinct many =
+      let up = other (lap g (p .depth)) (p .row) many in
       let n = toNorth g p in
       let e = toEast g p in
       let b = toNorth g e in (
-        apart b (n ∷ e ∷ p ∷ []) (other-col b n (more (p .col)), (other-row b e (more (p .row)), (other-row b p (more (p .row)), tt))),
+        apart b (n ∷ e ∷ p ∷ []) (other-col b n (more (p .col)), (other-row b e up, (other-row b p up, tt))),
         (
-          apart n (e ∷ p ∷ []) (other-row n e (more (p .row)), (other-row n p (more (p .row)), tt)),
+          apart n (e ∷ p ∷ []) (other-row n e up, (other-row n p up, tt)),
           (apart e (p ∷ []) (other-col e p (more (p .col)), tt), (λ i. i, tt)),
         ),
       )
 
   -- ---- what lies elsewhere
 
-  corner-past : {q : Place} → Corner g p q → (p .col ≤ q .col) × (p .row ≤ q .row)
+  corner-past : {q : Place} → Corner g p q → p .col ≤ q .col
   unfolding toNorth toEast
-  corner-past c-here = (omega arith, omega arith)
-  corner-past c-east = (omega arith, omega arith)
-  corner-past c-north = (omega arith, omega arith)
-  corner-past c-both = (omega arith, omega arith)
+  corner-past c-here = omega arith
+  corner-past c-east = omega arith
+  corner-past c-north = omega arith
+  corner-past c-both = omega arith
 
-  pub south-off : (q : Place) → toSouth g p ≡ some q → Corner g p q → ⊥
-  unfolding toNorth
-  south-off q e k = let z : suc (q .row) ≡ p .row = ap (λ (x : Place). x .row) (south-north g p q e) in omega (arith, corner-past k)
+  -- round two rows the place south would be the one north
+  pub south-off : (lap g (p .depth) ≡ 0) ⊎ (3 ≤ lap g (p .depth)) → (q : Place) → toSouth g p ≡ some q → Corner g p q → ⊥
+  unfolding toNorth toEast
+  south-off many q e k = go q k (south-north g p q e)
+    where
+      go : (q : Place) → Corner g p q → toNorth g q ≡ p → ⊥
+      go q c-here i = other (lap g (p .depth)) (p .row) many (ap (λ (x : Place). x .row) i)
+      go q c-east i = more (p .col) (ap (λ (x : Place). x .col) i)
+      go q c-north i = after-twice (lap g (p .depth)) (p .row) many (ap (λ (x : Place). x .row) i)
+      go q c-both i = more (p .col) (ap (λ (x : Place). x .col) i)
 
   pub west-off : (q : Place) → toWest g p ≡ some q → Corner g p q → ⊥
   unfolding toEast

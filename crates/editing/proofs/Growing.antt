@@ -10,9 +10,11 @@ use mathlib.Core.List.{List, [], _∷_, _++_, append-assoc, append-nil}
 use lib.ListN.{length, set, length-append}
 use Rattle.mesh.specs.Tools.{keep}
 use Rattle.mesh.specs.Place.{Place, Grid, same, base}
+use Rattle.mesh.specs.Seam.{opened}
 use Rattle.mesh.specs.Mesh.{patch}
 use Rattle.mesh.specs.State.{Entry, nil, free, used, placeOf, entry, number}
 use Rattle.mesh.specs.Build.{full}
+use Rattle.geometry.proofs.Laps.{smooth-open}
 use Rattle.geometry.proofs.Places.{In, in-here}
 use Rattle.geometry.proofs.Distinct.{Distinct, append-distinct}
 use Rattle.geometry.proofs.Digits.{kidBy}
@@ -42,10 +44,10 @@ dark-more q = fun-ext (λ p. go (same p q))
 abbrev pub bare : ℕ → List Place → List Entry
 bare cap ps = nil ∷ written (λ p. none) (cap - length ps) ps
 
--- the table so far, and the next number
+-- the table so far, and the next number: links over a seam come last, so they are those of an open grid
 pub record Grown (g : Grid) (cap : ℕ) (ps : List Place) (r : Growth) : Type 0 where
-  pub rooted : Rooted g cap (bare cap ps)
-  pub words-are : r .words ≡ tableWith g (bare cap ps) dark
+  pub rooted : Rooted (opened g) cap (bare cap ps)
+  pub words-are : r .words ≡ tableWith (opened g) (bare cap ps) dark
   pub next-is : r .next ≡ length ps + 1
 
 pub bare-longer : (cap : ℕ) (ps rs : List Place) (n : ℕ) (p : Place) → placeOf (entry (bare cap ps) n) ≡ some p → placeOf (entry (bare cap (ps ++ rs)) n) ≡ some p
@@ -88,13 +90,14 @@ module _ {g : Grid} {cap : ℕ} {ps : List Place} {r : Growth} (s : Grown g cap 
   -- a kid of a place that stands, which does not stand itself
   one-more : (In (kidBy l m o) ps → ⊥) → o .depth < base g → length ps < cap
       → Grown g cap (ps ++ (kidBy l m o ∷ [])) (record { words = linkIn (r .words) cap (base g) p l m (r .next); next = r .next + 1 })
+  unfolding base
   one-more new deep fits = record {
-    rooted = rw (next-set cap ps fits q) at (link-in-rooted (s .rooted) dark k p l m o unused there l-digit m-digit missing room);
+    rooted = rw (next-set cap ps fits q) at (link-in-rooted (s .rooted) dark k p l m o unused there l-digit m-digit missing room (λ w. smooth-open (opened g) w (kidBy l m o) refl));
     words-are =
         rw (s .words-are, s .next-is)
-        (link-in (s .rooted) dark k p l m o unused there l-digit m-digit missing room
-        ∙ ap (λ (es : List Entry). tableWith g es (withFlags q 0 dark)) (next-set cap ps fits q)
-        ∙ ap (tableWith g (bare cap (ps ++ (q ∷ [])))) (dark-more q));
+        (link-in (s .rooted) dark k p l m o unused there l-digit m-digit missing room (λ w. smooth-open (opened g) w (kidBy l m o) refl)
+        ∙ ap (λ (es : List Entry). tableWith (opened g) es (withFlags q 0 dark)) (next-set cap ps fits q)
+        ∙ ap (tableWith (opened g) (bare cap (ps ++ (q ∷ [])))) (dark-more q));
     next-is = omega (arith, s .next-is, length-append ps (q ∷ []));
   }
     where
@@ -110,7 +113,7 @@ module _ {g : Grid} {cap : ℕ} {ps : List Place} {r : Growth} (s : Grown g cap 
       missing : number (bare cap ps) q ≡ 0
       missing = written-unnumbered (λ p. none) (cap - length ps) ps q new
 
-      room : o .depth < base g + 12
+      room : o .depth < base (opened g) + 12
       room = omega arith
 
   -- the test of the rectangle is the test of a patch
@@ -118,7 +121,7 @@ module _ {g : Grid} {cap : ℕ} {ps : List Place} {r : Growth} (s : Grown g cap 
       → inFull g up (2 * wordOf (r .words) p 10 + l) (2 * wordOf (r .words) p 11 + m) ≡ patch g (full g) (kidBy l m o)
   unfolding kidBy
   in-full-patch in-range up e =
-      rw (s .words-are, col-of g (bare cap ps) dark p o there, row-of g (bare cap ps) dark p o there) (sym (full-patch g in-range up (kidBy l m o) (omega arith)))
+      rw (s .words-are, col-of (opened g) (bare cap ps) dark p o there, row-of (opened g) (bare cap ps) dark p o there) (sym (full-patch g in-range up (kidBy l m o) (omega arith)))
 
   -- the kid, if the rectangle has it
   pub grow-one : Rectangle g → (up : ℕ) → o .depth + suc up ≡ base g → Distinct (ps ++ keep (patch g (full g)) (kidBy l m o ∷ []))

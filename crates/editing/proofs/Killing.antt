@@ -27,7 +27,7 @@ use Rattle.geometry.proofs.Places.{In, in-one}
 use Rattle.geometry.proofs.Digits.{step-depth}
 use Rattle.geometry.proofs.Near.{Corner, c-here, c-east, c-north, c-both, corner-depth}
 use Rattle.geometry.proofs.Tree.{touched-patch, cell-patch, ghost-kid, kid-ghost}
-use Rattle.geometry.proofs.Base.{root-patch}
+use Rattle.geometry.proofs.Base.{root-patch, lap-size}
 use Rattle.geometry.proofs.Kids.{parent-depth}
 use Rattle.geometry.proofs.Along.{anyKid, Along, a-here}
 use Rattle.geometry.proofs.Shadow.{s-corner, shadow-same}
@@ -148,7 +148,7 @@ module _ (s : State) (v : Valid s) (n : ℕ) (h : refusal (looseChecks s (kill n
   dropped =
       cornered-all cap f₁ (mid .left-stands) (root-patch g (cells between) (mid .mesh) (v .rectangle)) ready
       (λ q d out m z e k. untouched-kidless g c (cells between) (p ∷ []) (mid .left) (v .mesh) leaves q z (omega arith) out k (mid .was-patch m z e))
-      (corners g p) (corners-distinct g p) (number es) (record { rooted = fill-rooted (p ∷ []) none r; thinned = thinned-nothing g (cells between) between }) budding
+      (corners g p) (corners-distinct g p (lap-size g (v .rectangle) (p .depth))) (number es) (record { rooted = fill-rooted (p ∷ []) none r; thinned = thinned-nothing g (cells between) between }) budding
       (λ q i.
       let k = in-corner g p q i in
       let e = fill-number (p ∷ []) none es q in
@@ -295,7 +295,7 @@ module _ (s : State) (v : Valid s) (n : ℕ) (h : refusal (looseChecks s (kill n
   border-is =
       let row : (q : Place) → Corner g p q → stillUsed (dropCorners (map (number es) (corners g p)) (tableWith g between f₁) cap (base g)) (number es q) ≡ number after q =
       λ q k. ap (λ (u : List ℤ). stillUsed u (number es q)) without-corners ∙ still q k in
-      let south : numberOf es (toSouth g p) ≡ numberOf after (toSouth g p) = beside (toSouth g p) (λ q e. (step-depth g S tt p q e ∙ ground, south-off g p q e)) in
+      let south : numberOf es (toSouth g p) ≡ numberOf after (toSouth g p) = beside (toSouth g p) (λ q e. (step-depth g S tt p q e ∙ ground, south-off g p (lap-size g (v .rectangle) (p .depth)) q e)) in
       let west : numberOf es (toWest g p) ≡ numberOf after (toWest g p) = beside (toWest g p) (λ q e. (step-depth g W tt p q e ∙ ground, west-off g p q e)) in
       λ i. refreshLevels 13 (record { own = row p c-here i; north = row (toNorth g p) c-north i; east = row (toEast g p) c-east i; both = row (toNorth g (toEast g p)) c-both i; south = south i; west = west i }) 0 (without-corners i) cap (base g)
 

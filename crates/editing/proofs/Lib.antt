@@ -38,6 +38,7 @@ pub mod Withering
 pub mod Killing
 pub mod Broods
 pub mod Started
+pub mod Sewing
 pub mod Grounding
 pub mod Alike
 pub mod Building

@@ -48,5 +48,5 @@ module _ (g : Grid) (c d : Place → Bool) (ps : List Place) (left : (r : Place)
         let (r, k, b) = touched-corner g c z (patch-touched g c z (omega (arith, parent-depth z q e)) t) in
         let deep : base g < r .depth = omega (arith, corner-depth k, parent-depth z q e) in
         let b′ : T (c (up r)) = cell-up g c m r b deep in
-        let k′ : Corner g (up r) q = subst (Corner g (up r)) (up-is z q e) (corner-up k) in
+        let k′ : Corner g (up r) q = subst (Corner g (up r)) (up-is z q e) (corner-up deep k) in
         out (corner-touched g d k′ (left (up r) b′ (λ i. leaf-kidless g c (up r) (leaves (up r) i) r (parent-up r (omega arith)) b)))

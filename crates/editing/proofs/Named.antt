@@ -10,7 +10,7 @@ use mathlib.Core.List.{List, [], _∷_, _++_, map}
 use lib.Dec.{lit<}
 use lib.ListN.{getD}
 use Rattle.mesh.specs.Tools.{any}
-use Rattle.mesh.specs.Place.{Place, Grid, same, root, compass, step, toEast, toSouth, toWest, kid, kids, Wind, NE, SE, SW, NW, N, E, S, W}
+use Rattle.mesh.specs.Place.{Place, Grid, base, same, root, compass, step, toEast, toSouth, toWest, kid, kids, Wind, NE, SE, SW, NW, N, E, S, W}
 use Rattle.mesh.specs.State.{Entry, placeOf, entry, number, numberOf}
 use Rattle.mesh.specs.Request.{wanted}
 use Rattle.mesh.proofs.Winds.{rule}
@@ -152,15 +152,15 @@ module _ {g : Grid} {cap : ℕ} {es : List Entry} (r : Rooted g cap es) (f : Fla
         (one-more (by-wind (p .depth) (linkOf t cap (linkOf t cap n 6) 5) SW (step g N q) both db) no-more)))))
 
     -- one step south or west of a kid, outside p
-    pub outside-named : AllNamed es (p .depth) (outsideSpots (tableWith g es f) cap n) (toSouth g (kid SW p) ∷ toSouth g (kid SE p) ∷ toWest g (kid SW p) ∷ toWest g (kid NW p) ∷ [])
+    pub outside-named : base g ≤ p .depth → AllNamed es (p .depth) (outsideSpots (tableWith g es f) cap n) (toSouth g (kid SW p) ∷ toSouth g (kid SE p) ∷ toWest g (kid SW p) ∷ toWest g (kid NW p) ∷ [])
     unfolding outsideSpots step
-    outside-named =
+    outside-named low =
         let t = tableWith g es f in
         let south : linkOf t cap n 7 ≡ numberOf es (step g S p) = link-side r f n p h S tt in
         let west : linkOf t cap n 8 ≡ numberOf es (step g W p) = link-side r f n p h W tt in
         let ds : (o : Place) → step g S p ≡ some o → o .depth ≡ p .depth = step-depth g S tt p in
         let dw : (o : Place) → step g W p ≡ some o → o .depth ≡ p .depth = step-depth g W tt p in
-        rw (fringe-south-sw g p, fringe-south-se g p, fringe-west-sw g p, fringe-west-nw g p)
+        rw (fringe-south-sw g p low, fringe-south-se g p low, fringe-west-sw g p low, fringe-west-nw g p low)
         (one-more (by-wind (p .depth) (linkOf t cap n 7) NW (step g S p) south ds)
         (one-more (by-wind (p .depth) (linkOf t cap n 7) NE (step g S p) south ds)
         (one-more (by-wind (p .depth) (linkOf t cap n 8) SE (step g W p) west dw)

@@ -166,7 +166,7 @@ module _ {g : Grid} {es : List Entry} {p : Place} {d : Place → Bool} {f : Flag
     marks-near : eachAt (markRow cap) cap (wantedSpots (tableWith g es f) cap n ++ outsideSpots (tableWith g es f) cap n) (tableWith g es (newAt walls kidPlaces f))
         ≡ tableWith g es (newAt marks (kidPlaces ++ besides g p) (newAt walls kidPlaces f))
     marks-near =
-        pass r (mark-step r (cells es) (suc (p .depth)) deep) (named-append (wanted-named r f n p h east) (outside-named r f n p h)) refl (newAt walls kidPlaces f) walled
+        pass r (mark-step r (cells es) (suc (p .depth)) deep) (named-append (wanted-named r f n p h east) (outside-named r f n p h (a .low))) refl (newAt walls kidPlaces f) walled
 
     pub refresh-near : refreshNear (tableWith g es f) cap (base g) n ≡ tableWith g es (flagsOf g es)
     unfolding refreshNear flagsOf

@@ -19,9 +19,10 @@ use Rattle.mesh.specs.Refusal.{refusal}
 use Rattle.mesh.specs.Request.{refine, wanted, missing, looseChecks, give, fill, inherited, kidCell, effect}
 use Rattle.geometry.proofs.Bools.{no-is}
 use Rattle.geometry.proofs.Places.{In}
-use Rattle.geometry.proofs.Kids.{up, up-is, in-parent}
+use Rattle.geometry.proofs.Kids.{parent-depth, up, up-is, in-parent}
 use Rattle.geometry.proofs.Near.{Corner, c-east, corner-up}
 use Rattle.geometry.proofs.Tree.{touched-patch}
+use Rattle.geometry.proofs.Base.{lap-many}
 use Rattle.geometry.proofs.Wanted.{wanted-corner, wanted-distinct, kid-wanted}
 use Rattle.geometry.proofs.Frames.{grown-else}
 use Rattle.numbering.proofs.Numbers.{Numbered, valid-numbered, numbered-not-zero, contents}
@@ -84,8 +85,8 @@ module _ (s : State) (v : Valid s) (n : ℕ) (p : Place) (x : Cell) (r : Refinab
   -- the places above the nine are among them
   above-stands : (q o : Place) → In q (wanted g p) → parent q ≡ some o → number es o ≢ 0
   above-stands q o i e =
-      let (k, a, c) = wanted-corner g p q i in
-      corner-numbered s v (here s v n p x r) (subst (λ (z : Place). Corner g p z) (up-is q o e) (subst (λ (z : Place). Corner g z (up q)) (up-is k p a) (corner-up c)))
+      let (k, a, c) = wanted-corner g p low q i in
+      corner-numbered s v (here s v n p x r) (subst (λ (z : Place). Corner g p z) (up-is q o e) (subst (λ (z : Place). Corner g z (up q)) (up-is k p a) (corner-up (omega (arith, low, parent-depth k p a)) c)))
 
   given-own : placeOf (entry (given .entries) n) ≡ some p
   given-own = kept-place gave n p own
@@ -160,7 +161,7 @@ module _ (s : State) (v : Valid s) (n : ℕ) (p : Place) (x : Cell) (r : Refinab
     supplied-table : Lends g cap f given supply
     supplied-table =
         let names : AllNamed es (p .depth) (wantedSpots (table s) cap n) (map some (wanted g p)) = rw (picture-start s u) (wanted-named (valid-rooted v) f n p own (corner-numbered s v (here s v n p x r) c-east)) in
-        give-lends (start-alive g es) (r .low) (wanted g p) start names above-stands (wanted-distinct g p) (r .room)
+        give-lends (start-alive g es) (r .low) low (wanted g p) start names above-stands (wanted-distinct g p (lap-many g (v .rectangle) (p .depth))) (r .room)
 
     -- ---- the kids are cells
 

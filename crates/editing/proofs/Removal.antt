@@ -8,7 +8,7 @@ use mathlib.Core.Path.{_≡_, refl, sym, ap, _∙_, subst}
 use mathlib.Core.Logic.{_≢_}
 use mathlib.Core.Bool.{Bool, false, cond}
 use mathlib.Core.Option.{none, some}
-use mathlib.Core.List.{List, _++_, map}
+use mathlib.Core.List.{List, map}
 use lib.Dec.{T}
 use lib.IntN.{ℤ}
 use Rattle.mesh.specs.Tools.{any}
@@ -163,7 +163,7 @@ module _ (s : State) (v : Valid s) (n : ℕ) (h : refusal (looseChecks s (remove
 
       go : Dec (base g ≤ q .depth) → T (patch g (cells between) q)
       go (yes l) =
-          high-left g c (cells between) (kids p) (mid .left) (wanted g p) q l (λ x i k. corner-wanted g p (in-parent x p i) k)
+          high-left g c (cells between) (kids p) (mid .left) (wanted g p) q l (λ x i k. corner-wanted g p low (in-parent x p i) k)
           (λ k. dropped .only-touched q (rw (among-all q (wanted g p)) k) (stands-in (dropped .rest .left) m q e)) was
       go (no l) = ghost-left g c (cells between) (kids p) (mid .left) ground q (omega (arith, l)) was
 

@@ -5,6 +5,7 @@ use Prim.Native.Nat.{ℕ, suc, _+_, _-_, _≤_, _<_}
 use native.Mathlib.Omega.{arith}
 use native.Mathlib.Decide.{decLt, ℕ-discrete}
 use mathlib.Core.Path.{_≡_, sym, ap, _∙_}
+use mathlib.Core.Logic.{_≢_}
 use mathlib.Core.Option.{Option, none, some, Option·map}
 use mathlib.Core.List.{List}
 use lib.Dec.{T}
@@ -12,11 +13,11 @@ use lib.IntN.{subℕ}
 use lib.ListN.{length, getD}
 use borrow.Author.Tests.{lt-ltb, le-ltb, le-leb}
 use Rattle.mesh.specs.Tools.{any}
-use Rattle.mesh.specs.Place.{Place, Grid, root, base, level, parent, around}
+use Rattle.mesh.specs.Place.{Place, Grid, root, base, level, parent, around, lap}
 use Rattle.mesh.specs.Mesh.{patch}
 use Rattle.mesh.specs.State.{State, Entry, placeOf, stands, entry, cells, number, numberOf, gridOf, capacity}
 use Rattle.mesh.specs.Valid.{Valid}
-use Rattle.geometry.proofs.Base.{base-range, depth-zero-root}
+use Rattle.geometry.proofs.Base.{base-range, depth-zero-root, lap-many}
 use Rattle.geometry.proofs.Digits.{kidBy, kid-by-parent}
 use Rattle.geometry.proofs.Near.{corner-depth, touched-corner}
 use Rattle.geometry.proofs.Tree.{patch-parent, patch-touched}
@@ -30,6 +31,7 @@ pub record Rooted (g : Grid) (cap : ℕ) (es : List Entry) : Type 0 where
   pub numbered : Numbered es
   pub long : length es ≡ cap + 1
   pub sizes : (base g ≤ 6) × (cap ≤ 4095)
+  pub laps : (e : ℕ) → lap g e ≢ 1
   pub first-root : placeOf (entry es 1) ≡ some root
   pub top : (n : ℕ) (p : Place) → placeOf (entry es n) ≡ some p → p .depth ≡ 0 → p ≡ root
   pub deepest : (n : ℕ) (p : Place) → placeOf (entry es n) ≡ some p → p .depth ≤ base g + 12
@@ -51,6 +53,7 @@ valid-rooted {s} v = record {
   numbered = valid-numbered v;
   long = omega (arith, v .sizes .0);
   sizes = (base-range (gridOf s) (v .rectangle) .1, v .sizes .1);
+  laps = lap-many (gridOf s) (v .rectangle);
   first-root = v .first-root;
   top = λ n p h e. depth-zero-root (gridOf s) (cells (s .entries)) (v .mesh) (v .rectangle) p e (v .each n p h);
   deepest = λ n p h. patch-depth s v p (v .each n p h);

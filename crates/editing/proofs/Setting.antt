@@ -116,6 +116,7 @@ fill-rooted {g} {cap} {es} ps y r = record {
   numbered = fill-numbered ps y es (r .numbered);
   long = fill-length ps y es ∙ r .long;
   sizes = r .sizes;
+  laps = r .laps;
   first-root = fill-place ps y es 1 ∙ r .first-root;
   top = λ n p h. r .top n p (sym (fill-place ps y es n) ∙ h);
   deepest = λ n p h. r .deepest n p (sym (fill-place ps y es n) ∙ h);

@@ -2,18 +2,17 @@
 -- Assumes nothing.
 use Prim.Native.Nat.{ℕ, zero, suc, _≤_, _<_}
 use native.Mathlib.Omega.{arith}
-use mathlib.Core.Path.{_≡_, refl, ap}
+use mathlib.Core.Path.{_≡_, refl}
 use mathlib.Core.Logic.{_⊎_, inl, inr}
-use mathlib.Core.Option.{Option, none, some, Option·map, Option·some-injective}
+use mathlib.Core.Option.{Option, none, Option·map}
 use mathlib.Core.List.{List, [], _∷_, map}
 use lib.Dec.{T}
 use lib.IntN.{ℤ}
 use lib.ListN.{getD}
 use Rattle.mesh.specs.Tools.{all, flat}
-use Rattle.mesh.specs.Place.{Place, Grid, at, before, toNorth, toEast, toSouth, toWest, step, kid, around, compass, sideWinds, Wind, NE, SE, SW, NW, N, E, S, W}
+use Rattle.mesh.specs.Place.{Place, Grid, kid, around, compass, sideWinds, Wind, NE, SE, SW, NW, N, E, S, W}
 use Rattle.mesh.specs.Winds.{wordOfWind}
 use Rattle.geometry.proofs.Bools.{and-left, and-right}
-use Rattle.geometry.proofs.Places.{before-is, mapped}
 use Rattle.geometry.proofs.Digits.{kidBy, aside}
 use Rattle.table.specs.Worked.{kidWord}
 use Rattle.editing.proofs.Spots.{Spot, Hit, hit-early, hit-later, hit-cases, Off}
@@ -69,24 +68,6 @@ link-word (suc (suc (suc (suc (suc (suc (suc (suc zero)))))))) l = to-side W tt 
 link-word (suc (suc (suc (suc (suc (suc (suc (suc (suc v))))))))) l = absurd (omega arith)
 
 -- ---- sides
-
--- a step leads elsewhere
-pub step-other : (g : Grid) (w : Wind) → T (aside w) → (p : Place) → step g w p ≡ some p → ⊥
-unfolding step toNorth toEast toSouth toWest
-step-other g N t p e = let h : suc (p .row) ≡ p .row = ap (λ (x : Place). x .row) (Option·some-injective _ _ e) in omega arith
-step-other g E t p e = let h : suc (p .col) ≡ p .col = ap (λ (x : Place). x .col) (Option·some-injective _ _ e) in omega arith
-step-other g S t p e =
-    let (j, b, f) = mapped (λ j. at (p .depth) (p .col) j) p (before (p .row)) e in
-    let h : j ≡ p .row = ap (λ (x : Place). x .row) f in
-    omega (arith, before-is (p .row) j b)
-step-other g W t p e =
-    let (i, b, f) = mapped (λ i. at (p .depth) i (p .row)) p (before (p .col)) e in
-    let h : i ≡ p .col = ap (λ (x : Place). x .col) f in
-    omega (arith, before-is (p .col) i b)
-step-other g NE t p e = absurd t
-step-other g SE t p e = absurd t
-step-other g SW t p e = absurd t
-step-other g NW t p e = absurd t
 
 pub opposite-twice : (w : Wind) → compass (compass w .opposite) .opposite ≡ w
 opposite-twice NE = refl

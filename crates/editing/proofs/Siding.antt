@@ -15,8 +15,9 @@ use lib.ListN.{getD}
 use Rattle.mesh.specs.Place.{Place, Grid, then, step, parent, around, Wind}
 use Rattle.mesh.specs.Winds.{wordOfWind}
 use Rattle.mesh.specs.State.{Entry, placeOf, entry, number, numberOf}
+use Rattle.geometry.proofs.Laps.{Smooth}
 use Rattle.geometry.proofs.Kids.{parent-up, no-parent, parent-depth}
-use Rattle.geometry.proofs.Digits.{kidBy, aside, colMoved, rowMoved, stays, step-digits, step-depth}
+use Rattle.geometry.proofs.Digits.{kidBy, aside, colMoved, rowMoved, stays, step-digits, step-depth, step-other}
 use Rattle.numbering.proofs.Numbers.{number-place, numbered-not-zero}
 use Rattle.pictures.proofs.Links.{around-parent, around-side}
 use Rattle.table.specs.Words.{code, wordOf, linkOf}
@@ -25,7 +26,7 @@ use Rattle.editing.specs.Linked.{Flags, tableWith}
 use Rattle.editing.proofs.Spots.{word}
 use Rattle.editing.proofs.Linked.{word-col, word-row}
 use Rattle.editing.proofs.Rooted.{Rooted, link-of, kid-read}
-use Rattle.editing.proofs.Sides.{around-kid-by, kid-word-lt, side-word-lt, step-other}
+use Rattle.editing.proofs.Sides.{around-kid-by, kid-word-lt, side-word-lt}
 
 -- ---- the words that are read
 
@@ -72,7 +73,8 @@ module _ {g : Grid} {cap : ℕ} {es : List Entry} (r : Rooted g cap es) (f : Fla
   unfolding wordOf
   own-j = ap code (a .own-row ∙ word-row g es f n p h)
 
-  module _ (w : Wind) (t : T (aside w)) where
+  -- the step does not cross the seam of level 0
+  module _ (w : Wind) (t : T (aside w)) (smooth : Smooth g w p) where
     -- the parent's neighbour
     beside : (o : Option Place) → parent p ≡ o → linkOf u cap (numberOf es o) (wordOfWind w) ≡ numberOf es (then (step g w) o)
     beside none e = link-at 0 (wordOfWind w) (side-word-lt w t .1) none zeroth never ∙ ap (numberOf es) (around-side g w t none)
@@ -105,7 +107,7 @@ module _ {g : Grid} {cap : ℕ} {es : List Entry} (r : Rooted g cap es) (f : Fla
         go (no k) =
             let s = number-place es q k in
             let top : q ≡ p = r .top (number es q) q s (step-depth g w t p q e ∙ z) ∙ sym (r .top n p h z) in
-            absurd (step-other g w t p (e ∙ ap some top))
+            absurd (step-other g w t p (r .laps (p .depth)) (e ∙ ap some top))
 
     abbrev toKid : Place → Place
     toKid = kidBy ((colMoved w p + 1) % 2) ((rowMoved w p + 1) % 2)
@@ -121,7 +123,7 @@ module _ {g : Grid} {cap : ℕ} {es : List Entry} (r : Rooted g cap es) (f : Fla
         neither false = refl
 
         go : Dec (0 < p .depth) → numberOf es (Option·map toKid from) ≡ numberOf es (step g w p)
-        go (yes l) = ap by (parent-up p l) ∙ ap (numberOf es) (sym (step-digits g w t p l))
+        go (yes l) = ap by (parent-up p l) ∙ ap (numberOf es) (sym (step-digits g w t p l smooth))
         go (no l) =
             let z : p .depth ≡ 0 = omega (arith, l) in
             ap by (no-parent p z) ∙ neither (stays w p) ∙ sym (alone z (step g w p) refl)
@@ -140,6 +142,6 @@ module _ {g : Grid} {cap : ℕ} {es : List Entry} (r : Rooted g cap es) (f : Fla
         (kid-link ((colMoved w p + 1) % 2) ((rowMoved w p + 1) % 2) (omega arith) (omega arith) from from-apart ∙ from-step)
 
 -- so it is in the linked table itself
-pub side-of : {g : Grid} {cap : ℕ} {es : List Entry} → Rooted g cap es → (f : Flags) (n : ℕ) (p : Place) → placeOf (entry es n) ≡ some p → (w : Wind) → T (aside w)
+pub side-of : {g : Grid} {cap : ℕ} {es : List Entry} → Rooted g cap es → (f : Flags) (n : ℕ) (p : Place) → placeOf (entry es n) ≡ some p → (w : Wind) → T (aside w) → Smooth g w p
     → sideOf (tableWith g es f) cap n w ≡ numberOf es (step g w p)
-side-of {g} {cap} {es} r f n p h w t = side-by r f (tableWith g es f) n p h (record { own-parent = refl; own-col = refl; own-row = refl; links = λ m v l e. refl }) w t
+side-of {g} {cap} {es} r f n p h w t smooth = side-by r f (tableWith g es f) n p h (record { own-parent = refl; own-col = refl; own-row = refl; links = λ m v l e. refl }) w t smooth

@@ -11,14 +11,15 @@ use mathlib.Core.List.{List, [], _∷_, _++_}
 use lib.Dec.{T}
 use lib.ListN.{length, length-append}
 use Rattle.mesh.specs.Place.{Place, Grid, root, base, compass, kid, Wind, NE, SE, SW, NW}
+use Rattle.mesh.specs.Seam.{opened, lastRow}
 use Rattle.mesh.specs.Mesh.{patch}
 use Rattle.mesh.specs.State.{placeOf, entry}
 use Rattle.mesh.specs.Build.{full, nextLevel, levels, numbered}
 use Rattle.mesh.proofs.Winds.{rule}
 use Rattle.geometry.proofs.Places.{In, in-here, in-there}
 use Rattle.geometry.proofs.Digits.{kidBy, kid-by}
-use Rattle.geometry.proofs.Base.{Rectangle}
-use Rattle.geometry.proofs.Extent.{patch-within}
+use Rattle.geometry.proofs.Base.{Rectangle, base-range}
+use Rattle.geometry.proofs.Extent.{patch-within, last-row}
 use Rattle.numbering.proofs.Entries.{in-list}
 use Rattle.numbering.proofs.Levels.{Patches, first-level, next-level, numbered-distinct}
 use Rattle.table.specs.Words.{wordOf, depthOf}
@@ -70,6 +71,7 @@ pub record Able (g : Grid) (cap d up p l m : ℕ) (r : Growth) : Type 0 where
   pub parent-in : p ≤ cap
   pub next-in : r .next ≤ cap + 1
   pub level-in : up < 6
+  pub tall : 1 ≤ g .rows
   pub col : wordOf (r .words) p 10 ≤ 32
   pub row : wordOf (r .words) p 11 ≤ 32
   pub depth : depthOf (r .words) d p < 6
@@ -79,13 +81,15 @@ pub record Able (g : Grid) (cap d up p l m : ℕ) (r : Growth) : Type 0 where
 
 module _ {g : Grid} {cap up p : ℕ} {w : Wind} {ws : List Wind} {r : Growth} (k : KidsToGrow g cap up p (w ∷ ws) r) where
   pub kid-able : Able g cap (base g) up p (compass w .east / 2) (compass w .north / 2) r
+  unfolding base
   kid-able = record {
     parent-in = omega (arith, in-list (bare cap (k .ps)) p (k .o) (k .there), k .grown .rooted .long);
     next-in = omega (arith, k .grown .next-is, one .1, length-append (k .ps) (toward g (k .o) (w ∷ [])));
-    level-in = omega (arith, k .deep, k .grown .rooted .sizes);
-    col = rw (k .grown .words-are, col-of g (bare cap (k .ps)) dark p (k .o) (k .there)) (omega (arith, within .0, in-range .1));
-    row = rw (k .grown .words-are, row-of g (bare cap (k .ps)) dark p (k .o) (k .there)) (omega (arith, within .1, in-range .3));
-    depth = rw (k .grown .words-are, depth-of (k .grown .rooted) dark p (k .o) (k .there)) (omega (arith, k .deep, k .grown .rooted .sizes));
+    level-in = omega (arith, k .deep, base-range g in-range .1);
+    tall = in-range .2;
+    col = rw (k .grown .words-are, col-of (opened g) (bare cap (k .ps)) dark p (k .o) (k .there)) (omega (arith, within .0, in-range .1));
+    row = rw (k .grown .words-are, row-of (opened g) (bare cap (k .ps)) dark p (k .o) (k .there)) (omega (arith, within .1, in-range .3));
+    depth = rw (k .grown .words-are, depth-of (k .grown .rooted) dark p (k .o) (k .there)) (omega (arith, k .deep, base-range g in-range .1));
     room = λ t. omega (arith, k .grown .next-is, there-is (rw (in-full-patch (k .grown) p l m (k .o) (k .there) l-digit m-digit in-range up (k .deep)) at t));
   }
     where
@@ -111,7 +115,7 @@ module _ {g : Grid} {cap up p : ℕ} {w : Wind} {ws : List Wind} {r : Growth} (k
       unscaled i n b h = omega (arith, mul-le-mul-left {m = 1} {n = 2 ^ n} i (one-le-pow n 2 (omega arith)))
 
       within : (k .o .col ≤ g .columns) × (k .o .row ≤ g .rows)
-      within = let (x, y) = patch-within g in-range (suc up) (k .o) (k .deep) (k .is-patch) in (unscaled (k .o .col) (suc up) (g .columns) x, unscaled (k .o .row) (suc up) (g .rows) y)
+      within = let (x, y) = patch-within g in-range (suc up) (k .o) (k .deep) (k .is-patch) in (unscaled (k .o .col) (suc up) (g .columns) x, omega (arith, unscaled (k .o .row) (suc up) (lastRow g) y, last-row g))
 
       there-is : T (patch g (full g) (kidBy l m (k .o))) → length (k .ps) + 1 ≤ cap
       there-is t = go (patch g (full g) (kid w (k .o))) (rw (kid-by w (k .o)) t) (one .1)

@@ -12,16 +12,17 @@ use lib.ListN.{replicate}
 use Rattle.mesh.specs.Tools.{flat}
 use Rattle.mesh.specs.Place.{Place, Grid, root, base, level, step, kid, around, Wind, N, E, S, W, NE, SE, SW, NW}
 use Rattle.mesh.specs.State.{Entry, free, used, placeOf, entry, number, numberOf}
+use Rattle.mesh.specs.Seam.{opened}
 use Rattle.geometry.proofs.Places.{in-one}
 use Rattle.geometry.proofs.Kids.{kid-depth, no-parent}
-use Rattle.geometry.proofs.Digits.{aside}
-use Rattle.geometry.proofs.Base.{Rectangle, base-range}
+use Rattle.geometry.proofs.Digits.{aside, step-other}
+use Rattle.geometry.proofs.Base.{Rectangle, base-range, lap-many}
 use Rattle.numbering.proofs.Written.{written-unnumbered, written-numbered, written-length, written-entry}
 use Rattle.table.specs.Writes.{freeRow, nilRow}
 use Rattle.editing.specs.Linked.{rowWith, fieldsWith, tableWith}
 use Rattle.editing.specs.Built.{emptyTable, rootTable, start}
 use Rattle.editing.proofs.Linked.{row-nil, row-free}
-use Rattle.editing.proofs.Sides.{step-other}
+use Rattle.editing.proofs.Rooted.{Rooted}
 use Rattle.editing.proofs.Growing.{dark, bare, Grown}
 
 -- the level, and every other word 0
@@ -39,44 +40,51 @@ module _ (g : Grid) (cap : ℕ) where
   no-kid : (w : Wind) → number es (kid w root) ≡ 0
   no-kid w = alone (kid w root) (λ e. omega (arith, kid-depth w root, ap (λ (p : Place). p .depth) e))
 
-  no-side : (w : Wind) → T (aside w) → numberOf es (step g w root) ≡ 0
-  no-side w t = go (step g w root) refl
+  no-side : Rectangle g → (w : Wind) → T (aside w) → numberOf es (step g w root) ≡ 0
+  no-side in-range w t = go (step g w root) refl
     where
       go : (o : Option Place) → step g w root ≡ o → numberOf es o ≡ 0
       go none e = refl
-      go (some q) e = alone q (λ z. step-other g w t root (e ∙ ap some z))
+      go (some q) e = alone q (λ z. step-other g w t root (lap-many g in-range 0) (e ∙ ap some z))
 
-  root-row : rowWith g es dark (used root none) ≡ rootRow g
+  root-row : Rectangle g → rowWith g es dark (used root none) ≡ rootRow g
   unfolding rowWith fieldsWith around level
-  root-row = rw (no-parent root refl, no-kid NE, no-kid SE, no-kid SW, no-kid NW, no-side N tt, no-side E tt, no-side S tt, no-side W tt)
+  root-row i = rw (no-parent root refl, no-kid NE, no-kid SE, no-kid SW, no-kid NW, no-side i N tt, no-side i E tt, no-side i S tt, no-side i W tt)
 
   free-rows : (n : ℕ) → map (rowWith g es dark) (replicate n free) ≡ replicate n freeRow
   free-rows zero = refl
   free-rows (suc n) = ap₂ _∷_ (row-free g es dark) (free-rows n)
 
-  root-table : 1 ≤ cap → rootTable cap (base g) ≡ tableWith g (bare cap (root ∷ [])) dark
+  root-table : Rectangle g → 1 ≤ cap → rootTable cap (base g) ≡ tableWith g (bare cap (root ∷ [])) dark
   unfolding rootTable emptyTable tableWith
-  root-table l = rw (row-nil g es dark, root-row, free-rows (cap - 1)) (go cap l)
+  root-table i l = rw (row-nil g es dark, root-row i, free-rows (cap - 1)) (go cap l)
     where
       go : (n : ℕ) → 1 ≤ n → rootTable n (base g) ≡ nilRow ++ (rootRow g ++ flat (replicate (n - 1) freeRow))
       go zero l = absurd (omega arith)
       go (suc n) l = let e : suc n - 1 ≡ n = omega arith in rw e
 
-  pub started : Rectangle g → 1 ≤ cap → cap ≤ 4095 → Grown g cap (root ∷ []) (start g cap (base g))
-  unfolding start
-  started in-range low high = record {
-    rooted = record {
-      numbered = written-numbered (λ p. none) (cap - 1) (root ∷ []) (λ t. t, tt);
-      long = omega (arith, written-length (λ p. none) (cap - 1) (root ∷ []));
-      sizes = (base-range g in-range .1, high);
-      first-root = refl;
-      top = λ n p h e. is-root n p h;
-      deepest = λ n p h. rw (is-root n p h) (omega arith);
-      parents = λ n q p h e. absurd (Option·none-ne-some _ (sym (no-parent q (ap (λ (x : Place). x .depth) (is-root n q h))) ∙ e));
-    };
-    words-are = root-table low;
-    next-is = refl;
+  root-rooted : Rectangle g → 1 ≤ cap → cap ≤ 4095 → Rooted g cap es
+  root-rooted in-range low high = record {
+    numbered = written-numbered (λ p. none) (cap - 1) (root ∷ []) (λ t. t, tt);
+    long = omega (arith, written-length (λ p. none) (cap - 1) (root ∷ []));
+    sizes = (base-range g in-range .1, high);
+    laps = lap-many g in-range;
+    first-root = refl;
+    top = λ n p h e. is-root n p h;
+    deepest = λ n p h. rw (is-root n p h) (omega arith);
+    parents = λ n q p h e. absurd (Option·none-ne-some _ (sym (no-parent q (ap (λ (x : Place). x .depth) (is-root n q h))) ∙ e));
   }
     where
       is-root : (n : ℕ) (p : Place) → placeOf (entry es n) ≡ some p → p ≡ root
       is-root n p h = in-one p root (written-entry (λ p. none) (cap - 1) (root ∷ []) (λ t. t, tt) n p h .0)
+
+pub started : (g : Grid) (cap : ℕ) → Rectangle g → 1 ≤ cap → cap ≤ 4095 → Grown g cap (root ∷ []) (start g cap (base g))
+unfolding start base
+started g cap (a, b, c, d, m, k) low high = record {
+  rooted = root-rooted (opened g) cap open-range low high;
+  words-are = root-table (opened g) cap open-range low;
+  next-is = refl;
+}
+  where
+    open-range : Rectangle (opened g)
+    open-range = (a, b, c, d, omega arith, λ t. absurd t)

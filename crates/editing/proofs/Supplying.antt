@@ -14,10 +14,11 @@ use lib.IntN.{ℤ, pos}
 use lib.ListN.{getD, set}
 use lib.Seq.{getD-set-same, getD-set-other}
 use borrow.Author.Tests.{eq-eqb, ne-eqb}
-use Rattle.mesh.specs.Place.{Place, Grid, base, same, parent}
+use Rattle.mesh.specs.Place.{Place, Grid, base, same, parent, Wind}
 use Rattle.mesh.specs.State.{State, Entry, nil, free, used, placeOf, isFree, entry, number, numberOf, freeCount, withEntries, nextFree}
 use Rattle.mesh.specs.Request.{supply, give}
 use Rattle.geometry.proofs.Bools.{is-yes}
+use Rattle.geometry.proofs.Laps.{Smooth, smooth-above}
 use Rattle.geometry.proofs.Places.{In, same-is, mapped, in-here, in-there, in-one}
 use Rattle.geometry.proofs.Digits.{kidBy, kid-by-parent}
 use Rattle.geometry.proofs.Distinct.{Distinct}
@@ -84,13 +85,18 @@ pub record Lends (g : Grid) (cap : ℕ) (f : Flags) (s : State) (l : Lending) : 
 -- ---- one patch
 
 module _ {g : Grid} {cap : ℕ} {f : Flags} (alive : Alive f) {s : State} {l : Lending} (le : Lends g cap f s l) (x : Spot) (o : Place)
-    (is-row : x .row ≡ number (s .entries) o) (there : number (s .entries) o ≢ 0) (l-digit : x .l ≤ 1) (m-digit : x .m ≤ 1) (room : o .depth < base g + 12)
+    (is-row : x .row ≡ number (s .entries) o) (there : number (s .entries) o ≢ 0) (l-digit : x .l ≤ 1) (m-digit : x .m ≤ 1) (room : o .depth < base g + 12) (low : base g ≤ o .depth)
     (enough : lacking (s .entries) (kidBy (x .l) (x .m) o ∷ []) ≤ freeCount (s .entries)) where
   abbrev es : List Entry
   es = s .entries
 
   abbrev q : Place
   q = kidBy (x .l) (x .m) o
+
+  -- above level 0 a step goes as the parent's does
+  smooth : (w : Wind) → Smooth g w (kidBy (x .l) (x .m) o)
+  unfolding kidBy
+  smooth w = smooth-above g w (kidBy (x .l) (x .m) o) (omega arith)
 
   kid-number : kidAt (l .words) cap x ≡ number es q
   kid-number = rw (le .is-table, is-row) (kid-link (le .rooted) f (x .l) (x .m) l-digit m-digit (some o))
@@ -128,11 +134,11 @@ module _ {g : Grid} {cap : ℕ} {f : Flags} (alive : Alive f) {s : State} {l : L
     new-table : linkIn (l .words) cap (base g) (x .row) (x .l) (x .m) (freeFrom (l .words) (cap + 1 - l .low) (l .low)) ≡ tableWith g more f
     new-table =
         rw (number-found next, le .is-table)
-        (link-in (le .rooted) f (nextFree s) (x .row) (x .l) (x .m) o (next .is-free) own l-digit m-digit z room ∙ ap (tableWith g more) no-flags)
+        (link-in (le .rooted) f (nextFree s) (x .row) (x .l) (x .m) o (next .is-free) own l-digit m-digit z room smooth ∙ ap (tableWith g more) no-flags)
 
     new-lends : Blank more f → Lends g cap f (withEntries s more) (record { words = tableWith g more f; low = nextFree s + 1 })
     new-lends b = record {
-      rooted = link-in-rooted (le .rooted) f (nextFree s) (x .row) (x .l) (x .m) o (next .is-free) own l-digit m-digit z room;
+      rooted = link-in-rooted (le .rooted) f (nextFree s) (x .row) (x .l) (x .m) o (next .is-free) own l-digit m-digit z room smooth;
       is-table = refl;
       blank = b;
       none-below = λ k h. go k h (ℕ-discrete k (nextFree s));
@@ -158,12 +164,12 @@ module _ {g : Grid} {cap : ℕ} {f : Flags} (alive : Alive f) {s : State} {l : L
 
 -- ---- several patches
 
-pub give-lends : {g : Grid} {cap : ℕ} {f : Flags} → Alive f → {e : ℕ} → e < base g + 12 → {xs : List Spot} (qs : List Place) {s : State} {l : Lending} → Lends g cap f s l
+pub give-lends : {g : Grid} {cap : ℕ} {f : Flags} → Alive f → {e : ℕ} → e < base g + 12 → base g ≤ e → {xs : List Spot} (qs : List Place) {s : State} {l : Lending} → Lends g cap f s l
     → AllNamed (s .entries) e xs (map some qs) → ((q o : Place) → In q qs → parent q ≡ some o → number (s .entries) o ≢ 0)
     → Distinct qs → lacking (s .entries) qs ≤ freeCount (s .entries) → Lends g cap f (give s qs) (suppliedAll cap (base g) xs l)
 unfolding give suppliedAll
-give-lends alive room [] le no-more there d enough = le
-give-lends {g} {cap} {f} alive {e} room (q ∷ qs) {s} {l} le (one-more {x = x} n ns) there d enough =
+give-lends alive room low [] le no-more there d enough = le
+give-lends {g} {cap} {f} alive {e} room low (q ∷ qs) {s} {l} le (one-more {x = x} n ns) there d enough =
     let (o, a, k) = mapped (kidBy (x .l) (x .m)) q (n .above) (n .is-kid) in
     let above : parent q ≡ some o = ap parent (sym k) ∙ kid-by-parent (x .l) (x .m) o (n .l-digit) (n .m-digit) in
     let sum = lacking-append (s .entries) (q ∷ []) qs in
@@ -171,7 +177,7 @@ give-lends {g} {cap} {f} alive {e} room (q ∷ qs) {s} {l} le (one-more {x = x} 
     let apart : (p : Place) → In p (q ∷ []) → In p qs → ⊥ = λ p i j. d .0 (rw (in-one p q i) at j) in
     let stay : (p : Place) → p .depth ≡ e → number (s .entries) p ≡ number (supply s q .entries) p =
     λ p h. sym (first .elsewhere p (λ i. omega (arith, named-depth n, ap (λ (z : Place). z .depth) (in-one p q i)))) in
-    let one = supply-lends alive le x o (n .is-row ∙ ap (numberOf (s .entries)) a) (there q o (in-here q q qs refl) above) (n .l-digit) (n .m-digit) (rw (n .level o a) room) (rw k (omega arith)) in
-    give-lends alive room qs (rw k at one) (named-same stay ns)
+    let one = supply-lends alive le x o (n .is-row ∙ ap (numberOf (s .entries)) a) (there q o (in-here q q qs refl) above) (n .l-digit) (n .m-digit) (rw (n .level o a) room) (rw (n .level o a) low) (rw k (omega arith)) in
+    give-lends alive room low qs (rw k at one) (named-same stay ns)
     (λ p r i h z. let y = there p r (in-there p q qs i) h in y (sym (kept-number first r y) ∙ z)) (d .1)
     (omega (arith, lacking-after (q ∷ []) qs first apart, first .free-fewer))

@@ -1,16 +1,18 @@
--- The table of a build as the code makes it: every row free, then the root, and then patch after patch linked in, level by level; at last the
--- cells of level 0 and the flags of its rows, walls first.
+-- The table of a build as the code makes it: every row free, then the root, and then patch after patch linked in, level by level; the seam, if
+-- there is one; at last the cells of level 0 and the flags of its rows, walls first.
 -- Assumes nothing.
 use Prim.Native.Nat.{ℕ, zero, suc, _+_, _-_, _*_, _^_}
 use mathlib.Core.Bool.{Bool, _&&_, cond}
 use mathlib.Core.List.{List, _++_}
-use lib.Dec.{leb, ltb}
+use lib.Dec.{eqb, leb, ltb}
 use lib.ListN.{set, replicate}
 use lib.IntN.{ℤ, subℕ}
 use Rattle.mesh.specs.Tools.{flat}
-use Rattle.mesh.specs.Place.{Grid}
+use Rattle.mesh.specs.Place.{Grid, isRing}
+use Rattle.mesh.specs.Seam.{lastRow}
 use Rattle.mesh.specs.Picture.{rowWords}
 use Rattle.table.specs.Words.{wordOf}
+use Rattle.table.specs.Worked.{downTo}
 use Rattle.table.specs.Writes.{freeRow, nilRow}
 use Rattle.editing.specs.Steps.{putWord, linkIn}
 use Rattle.editing.specs.Anew.{wallRow, markRow}
@@ -35,7 +37,14 @@ eachRow f (suc n) p a = eachRow f n (p + 1) (f a p)
 
 -- a patch of the full rectangle, so many levels below level 0
 abbrev pub inFull : Grid → ℕ → ℕ → ℕ → Bool
-inFull g up i j = leb (i * 2 ^ up) (g .columns) && leb (j * 2 ^ up) (g .rows)
+inFull g up i j = leb (i * 2 ^ up) (g .columns) && leb (j * 2 ^ up) (lastRow g)
+
+-- over the seam a row of the last row of level 0 names that of the first, and the other way round: the parents are no neighbours there
+abbrev pub seamRow : Grid → ℕ → ℕ → List ℤ → ℕ → List ℤ
+seamRow g cap d t p =
+    let i = wordOf t p 10 in
+    let j = wordOf t p 11 in
+    cond (eqb j (g .rows - 1)) (putWord t p 5 (downTo t cap d i 0)) (cond (eqb j 0) (putWord t p 7 (downTo t cap d i (g .rows - 1))) t)
 
 -- a row of level 0 is a cell, if the rectangle has it
 abbrev pub groundRow : Grid → List ℤ → ℕ → List ℤ
@@ -69,12 +78,18 @@ module _ (g : Grid) (cap d : ℕ) where
   unfoldable pub start : Growth
   start = record { words = rootTable cap d; next = 2 }
 
+  -- the patches, linked as in an open grid and, in a ring, over the seam
+  unfoldable pub linkedTable : List ℤ
+  linkedTable =
+      let r = growLevels d 1 start in
+      let a = groundFrom d 1 start in
+      cond (isRing g) (eachRow (seamRow g cap d) (r .next - a) a (r .words)) (r .words)
+
   -- the cells of level 0
   unfoldable pub groundTable : List ℤ
   groundTable =
-      let r = growLevels d 1 start in
       let a = groundFrom d 1 start in
-      eachRow (groundRow g) (r .next - a) a (r .words)
+      eachRow (groundRow g) (growLevels d 1 start .next - a) a linkedTable
 
   -- and then its walls, since points and cells are worked out from walls
   unfoldable pub buildTable : List ℤ

@@ -26,7 +26,7 @@ use Rattle.face.proofs.grid_page as grid-page
 
 module _ {h : Header} {t : List ℤ} {v : List Float} {cap : ℕ} where
   module _ (h₁ h₂ : Header) (t₁ t₂ : List ℤ) (v₁ v₂ : List Float) where
-    pub build-unique : {columns rows : ℕ} (n m r s : ℕ) → Builds h t v cap columns rows h₁ t₁ v₁ n r → Builds h t v cap columns rows h₂ t₂ v₂ m s → (r ≡ s) × (n ≡ m) × (h₁ ≡ h₂) × (t₁ ≡ t₂) × (v₁ ≡ v₂)
+    pub build-unique : {columns rows mode : ℕ} (n m r s : ℕ) → Builds h t v cap columns rows mode h₁ t₁ v₁ n r → Builds h t v cap columns rows mode h₂ t₂ v₂ m s → (r ≡ s) × (n ≡ m) × (h₁ ≡ h₂) × (t₁ ≡ t₂) × (v₁ ≡ v₂)
     build-unique n m r s a b =
         let e = a .is ∙ sym (b .is) in
         let (x, y, z) = lent-same h₁ h₂ t₁ t₂ v₁ v₂ (λ i. e i .lent) in
@@ -55,12 +55,12 @@ module _ {h : Header} {t : List ℤ} {v : List Float} {cap : ℕ} where
 -- answer and of what is lent, and no more; and two outcomes of which it says so are equal
 
 module _ (w : World) (h : RefT Header) (t : RefT (List ℤ)) (v : RefT (List Float)) (cap : ℕ) where
-  module _ (κs : Lfts 4) (columns rows : ℕ) (n : RefT ℕ) where
+  module _ (κs : Lfts 4) (columns rows mode : ℕ) (n : RefT ℕ) where
     abbrev BuildSays : ℕ → Header → List ℤ → List Float → ℕ → Pr w
-    BuildSays r h′ t′ v′ n′ = grid-build.clauses (w .𝓤) (w .H) (w .𝓖 .A) (w .𝓜 .mem) (w .𝓡 .run) κs (h, (t, (v, (cap, (columns, (rows, (n, tt))))))) .ensures tt r (at-last h h′, (at-last t t′, (at-last v v′, (cap, (columns, (rows, (at-last n n′, tt)))))))
+    BuildSays r h′ t′ v′ n′ = grid-build.clauses (w .𝓤) (w .H) (w .𝓖 .A) (w .𝓜 .mem) (w .𝓡 .run) κs (h, (t, (v, (cap, (columns, (rows, (mode, (n, tt)))))))) .ensures tt r (at-last h h′, (at-last t t′, (at-last v v′, (cap, (columns, (rows, (mode, (at-last n n′, tt))))))))
 
-    pub build-says : (r : ℕ) → grid-build.spec (w .𝓤) (w .H) (w .𝓖 .A) (w .𝓜 .mem) (w .𝓡 .run) κs (h, (t, (v, (cap, (columns, (rows, (n, tt))))))) .ensures tt r
-        ≡ exits (w .𝓤) (w .H) (w .𝓖 .A) grid-build.signature (grid-build.ended .kept) κs (h, (t, (v, (cap, (columns, (rows, (n, tt))))))) (λ e. fact (w .𝓤) (Builds (h .now) (t .now) (v .now) cap columns rows (e .0 .now) (e .1 .0 .now) (e .1 .1 .0 .now) (e .1 .1 .1 .1 .1 .1 .0 .now) r))
+    pub build-says : (r : ℕ) → grid-build.spec (w .𝓤) (w .H) (w .𝓖 .A) (w .𝓜 .mem) (w .𝓡 .run) κs (h, (t, (v, (cap, (columns, (rows, (mode, (n, tt)))))))) .ensures tt r
+        ≡ exits (w .𝓤) (w .H) (w .𝓖 .A) grid-build.signature (grid-build.ended .kept) κs (h, (t, (v, (cap, (columns, (rows, (mode, (n, tt)))))))) (λ e. fact (w .𝓤) (Builds (h .now) (t .now) (v .now) cap columns rows mode (e .0 .now) (e .1 .0 .now) (e .1 .1 .0 .now) (e .1 .1 .1 .1 .1 .1 .1 .0 .now) r))
     build-says r = refl
 
     pub build-once : (P : Pr w) (r s : ℕ) (h₁ h₂ : Header) (t₁ t₂ : List ℤ) (v₁ v₂ : List Float) (n₁ n₂ : ℕ) → ent (w .𝓤) P (BuildSays r h₁ t₁ v₁ n₁) → ent (w .𝓤) P (BuildSays s h₂ t₂ v₂ n₂)

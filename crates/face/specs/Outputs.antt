@@ -9,7 +9,6 @@ use lib.Dec.{eqb}
 use lib.ListN.{length}
 use lib.IntN.{ℤ}
 use lib.Ieee.{Float}
-use Rattle.mesh.specs.Place.{rectangle}
 use Rattle.mesh.specs.State as State
 use Rattle.mesh.specs.Call as Call
 use Rattle.mesh.specs.Headers.{lentOf}
@@ -30,8 +29,8 @@ abbrev pub told : Call.Found → Told
 told f = record { why = f .why; leaf = f .leaf; status = State.status (f .value); value = State.amount (f .value) }
 
 module _ (h : Header) (t : List ℤ) (v : List Float) (cap : ℕ) where
-  pub record Builds (columns rows : ℕ) (h′ : Header) (t′ : List ℤ) (v′ : List Float) (in-use r : ℕ) : Type 0 where
-    pub is : record { why = r; in-use = in-use; lent = lentOf h′ t′ v′ } ≡ Call.buildCall cap (lentOf h t v) (rectangle columns rows)
+  pub record Builds (columns rows mode : ℕ) (h′ : Header) (t′ : List ℤ) (v′ : List Float) (in-use r : ℕ) : Type 0 where
+    pub is : record { why = r; in-use = in-use; lent = lentOf h′ t′ v′ } ≡ Call.buildCall cap (lentOf h t v) (record { columns = columns; rows = rows; mode = mode })
 
   pub record Tapes (bytes : List ℕ) (h′ : Header) (t′ : List ℤ) (v′ : List Float) (done offset r : ℕ) : Type 0 where
     pub is : record { done = done; why = r; offset = offset; lent = lentOf h′ t′ v′ } ≡ Call.tapeCall cap (lentOf h t v) bytes

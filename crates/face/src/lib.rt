@@ -20,11 +20,12 @@ fn build_core(
     capacity: u32,
     columns: u32,
     rows: u32,
+    mode: u32,
     in_use: &mut u32,
 ) -> Left
-    ensures { λ r. ⌜ Builds header (now (table .entry)) (now (values .entry)) capacity columns rows (r .header) (now (table .exit)) (now (values .exit)) (now (in_use .exit)) (r .answer) ⌝ }
+    ensures { λ r. ⌜ Builds header (now (table .entry)) (now (values .entry)) capacity columns rows mode (r .header) (now (table .exit)) (now (values .exit)) (now (in_use .exit)) (r .answer) ⌝ }
 {
-    let out = grid::build_core(header, table, values, capacity, columns, rows);
+    let out = grid::build_core(header, table, values, capacity, columns, rows, mode);
     let left = out.header;
     let built = out.answer;
     *in_use = built.used as u32;
@@ -34,7 +35,7 @@ fn build_core(
     }
 }
 
-// Builds the rectangle of level-0 cells, and says the number in use.
+// Builds the rectangle of level-0 cells, open or closed to a ring, and says the number in use.
 #[no_mangle]
 pub extern "C" fn grid_build(
     header: &mut Header,
@@ -43,11 +44,21 @@ pub extern "C" fn grid_build(
     capacity: u32,
     columns: u32,
     rows: u32,
+    mode: u32,
     in_use: &mut u32,
 ) -> u32
-    ensures { λ r. ⌜ Builds (now (header .entry)) (now (table .entry)) (now (values .entry)) capacity columns rows (now (header .exit)) (now (table .exit)) (now (values .exit)) (now (in_use .exit)) r ⌝ }
+    ensures { λ r. ⌜ Builds (now (header .entry)) (now (table .entry)) (now (values .entry)) capacity columns rows mode (now (header .exit)) (now (table .exit)) (now (values .exit)) (now (in_use .exit)) r ⌝ }
 {
-    let out = build_core(*header, table, values, capacity, columns, rows, in_use);
+    let out = build_core(
+        *header,
+        table,
+        values,
+        capacity,
+        columns,
+        rows,
+        mode,
+        in_use,
+    );
     *header = out.header;
     out.answer
 }

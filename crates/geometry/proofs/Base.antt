@@ -1,24 +1,55 @@
 -- The depth of level 0 is the bit length of the larger side, so the patches there halve down to the one root.
 -- Assumes nothing.
 use Prim.Native.Nat.{ℕ, zero, suc, _+_, _-_, _*_, _/_, _^_, _≤_, _<_, max}
-use native.Mathlib.Nat.{pow-suc, mul-assoc}
+use native.Mathlib.Nat.{pow-suc, mul-assoc, mul-le-mul-right, one-le-pow}
 use native.Mathlib.Omega.{arith}
-use native.Mathlib.Decide.{decLt}
-use mathlib.Core.Path.{_≡_, sym, ap, subst}
-use mathlib.Core.Bool.{Bool}
+use native.Mathlib.Decide.{decLt, decLe, ℕ-discrete}
+use mathlib.Core.Path.{_≡_, refl, sym, ap, _∙_, subst}
+use mathlib.Core.Logic.{_⊎_, inl, inr}
+use mathlib.Core.Bool.{Bool, true, false, _&&_, _||_}
 use mathlib.Core.Option.{some}
-use lib.Dec.{T}
-use Rattle.mesh.specs.Place.{Place, Grid, root, base, toNorth, toEast, parent}
+use lib.Dec.{T, ltb, ltb→lt}
+use borrow.Author.Tests.{eq-eqb, le-ltb, ltb-false}
+use Rattle.mesh.specs.Place.{Place, Grid, isRing, root, base, lap, toNorth, toEast, parent}
+use Rattle.mesh.specs.Seam.{opened}
 use Rattle.mesh.specs.Mesh.{Mesh, patch}
+use Rattle.mesh.specs.Call.{outside, misfit}
 use Rattle.mesh.proofs.Depth.{LeastPower, ground-power}
+use Rattle.geometry.proofs.Bools.{is-yes, yes-is, no-is, and-left, and-right, neither}
+use Rattle.geometry.proofs.Ranges.{within-outside, outside-within}
+use Rattle.geometry.proofs.Laps.{Below, after-near, after-within, lap-ghost, lap-open, lap-ring}
 use Rattle.geometry.proofs.Places.{place-path}
 use Rattle.geometry.proofs.Kids.{up, parent-up, up-is, up-depth, parent-depth}
 use Rattle.geometry.proofs.Near.{Corner, c-here, c-east, c-north, c-both, corner-depth, touched-corner}
 use Rattle.geometry.proofs.Tree.{patch-touched, ghost-kid, cell-patch, cell-up, patch-up}
 
--- "columns and rows 1 to 32 each"
+-- "columns and rows 1 to 32 each"; open or a ring, and a ring has 3 rows at least
 abbrev pub Rectangle : Grid → Type 0
-Rectangle g = (1 ≤ g .columns) × (g .columns ≤ 32) × (1 ≤ g .rows) × (g .rows ≤ 32)
+Rectangle g = (1 ≤ g .columns) × (g .columns ≤ 32) × (1 ≤ g .rows) × (g .rows ≤ 32) × (g .mode ≤ 1) × (T (isRing g) → 3 ≤ g .rows)
+
+-- what refusal 2 asks of a header's grid
+pub fits-range : (g : Grid) → misfit g ≡ false → Rectangle g
+fits-range g e =
+    let (a, f) = neither (outside 1 32 (g .columns)) (outside 1 32 (g .rows) || (ltb 1 (g .mode) || (isRing g && ltb (g .rows) 3))) e in
+    let (b, h) = neither (outside 1 32 (g .rows)) (ltb 1 (g .mode) || (isRing g && ltb (g .rows) 3)) f in
+    let (m, r) = neither (ltb 1 (g .mode)) (isRing g && ltb (g .rows) 3) h in
+    let (p, q) = outside-within 1 32 (g .columns) a in
+    let (u, w) = outside-within 1 32 (g .rows) b in
+    (p, q, u, w, ltb-false 1 (g .mode) m, λ t. ltb-false (g .rows) 3 (rw (yes-is (isRing g) t) at r))
+
+pub range-fits : (g : Grid) → Rectangle g → misfit g ≡ false
+range-fits g (p, q, u, w, m, r) = rw (within-outside 1 32 (g .columns) p q, within-outside 1 32 (g .rows) u w, le-ltb 1 (g .mode) m) short
+  where
+    short : (isRing g && ltb (g .rows) 3) ≡ false
+    short = no-is (isRing g && ltb (g .rows) 3) (λ t. omega (arith, r (and-left (isRing g) (ltb (g .rows) 3) t), ltb→lt (g .rows) 3 (and-right (isRing g) (ltb (g .rows) 3) t)))
+
+-- a grid in range that is no ring is open
+pub open-is : (g : Grid) → Rectangle g → isRing g ≡ false → opened g ≡ g
+open-is g r o = λ i. record { columns = g .columns; rows = g .rows; mode = zeroth (ℕ-discrete (g .mode) 1) i }
+  where
+    zeroth : Dec (g .mode ≡ 1) → 0 ≡ g .mode
+    zeroth (yes e) = absurd (is-yes false (sym (sym (eq-eqb (g .mode) 1 e) ∙ o)))
+    zeroth (no f) = omega (arith, r .4, f)
 
 -- ---- the bit length
 
@@ -43,6 +74,24 @@ module _ (g : Grid) (in-range : Rectangle g) where
       go (yes h) = absurd (omega (arith, power .least (base g - 1) h, base-range .0))
       go (no h) = omega arith
 
+  -- a level that goes round has three rows at least
+  pub lap-size : (e : ℕ) → (lap g e ≡ 0) ⊎ (3 ≤ lap g e)
+  lap-size e = go (isRing g) refl (decLe (base g) e)
+    where
+      go : (b : Bool) → isRing g ≡ b → Dec (base g ≤ e) → (lap g e ≡ 0) ⊎ (3 ≤ lap g e)
+      go false o l = inl (lap-open g e o)
+      go true o (no l) = inl (lap-ghost g e (omega arith))
+      go true o (yes l) =
+          let h : 3 * 2 ^ (e - base g) ≤ g .rows * 2 ^ (e - base g) = mul-le-mul-right (2 ^ (e - base g)) (in-range .5 (is-yes (isRing g) o)) in
+          inr (omega (arith, lap-ring g e o l, one-le-pow (e - base g) 2 (omega arith)))
+
+  pub lap-many : (e : ℕ) → lap g e ≡ 1 → ⊥
+  lap-many e one = go (lap-size e)
+    where
+      go : (lap g e ≡ 0) ⊎ (3 ≤ lap g e) → ⊥
+      go (inl z) = omega arith
+      go (inr z) = omega arith
+
 -- ---- where cells and patches can stand
 
 -- a corner of a cell lies at most one step on
@@ -50,8 +99,16 @@ pub corner-near : {g : Grid} {r q : Place} → Corner g r q → (q .col ≤ suc 
 unfolding toNorth toEast
 corner-near c-here = (omega arith, omega arith)
 corner-near c-east = (omega arith, omega arith)
-corner-near c-north = (omega arith, omega arith)
-corner-near c-both = (omega arith, omega arith)
+corner-near {g} {r} c-north = (omega arith, after-near (lap g (r .depth)) (r .row))
+corner-near {g} {r} c-both = (omega arith, after-near (lap g (r .depth)) (r .row))
+
+-- and in a ring within its rows
+pub corner-within : {g : Grid} {r q : Place} → Corner g r q → r .row < lap g (r .depth) → q .row < lap g (r .depth)
+unfolding toNorth toEast
+corner-within c-here h = h
+corner-within c-east h = h
+corner-within {g} {r} c-north h = after-within (lap g (r .depth)) (r .row) h
+corner-within {g} {r} c-both h = after-within (lap g (r .depth)) (r .row) h
 
 -- "halve the indices, rounding down"
 pub halved : (q p : Place) → parent q ≡ some p → (p .col ≡ q .col / 2) × (p .row ≡ q .row / 2)
@@ -81,6 +138,40 @@ module _ (g : Grid) (c : Place → Bool) (m : Mesh g c) where
       let (x, y) = corner-near k in
       let (i, j) = rw (sym (corner-depth k)) at (cell-inside r b) in
       (omega arith, omega arith)
+
+  -- a level of a ring has its cells below its last row
+  pub cell-below : (r : Place) → T (c r) → Below g r
+  cell-below r b = go (isRing g) refl
+    where
+      go : (o : Bool) → isRing g ≡ o → Below g r
+      go false o = inl (lap-open g (r .depth) o)
+      go true o = inr (rw (lap-ring g (r .depth) o (m .low r b)) (cell-inside r b .1))
+
+  -- and its patches: none stands after the last row
+  pub patch-below : (p : Place) → T (patch g c p) → Below g p
+  patch-below p t = go (decLe (base g) (p .depth))
+    where
+      corner : {r : Place} → Corner g r p → Below g r → Below g p
+      corner k (inl z) = inl (ap (lap g) (corner-depth k) ∙ z)
+      corner k (inr l) = inr (rw (corner-depth k) (corner-within k l))
+
+      go : Dec (base g ≤ p .depth) → Below g p
+      go (no l) = inl (lap-ghost g (p .depth) (omega arith))
+      go (yes l) = let (r, k, b) = touched-corner g c p (patch-touched g c p l t) in corner k (cell-below r b)
+
+  pub patch-ring : (p : Place) → base g ≤ p .depth → T (patch g c p) → isRing g ≡ true → p .row < g .rows * 2 ^ (p .depth - base g)
+  patch-ring p h t o = rw (← l) (go (patch-below p t))
+    where
+      l : lap g (p .depth) ≡ g .rows * 2 ^ (p .depth - base g)
+      l = lap-ring g (p .depth) o h
+
+      -- there is a cell, so the level has a row
+      go : Below g p → p .row < lap g (p .depth)
+      go (inr k) = k
+      go (inl z) =
+          let (r, k, b) = touched-corner g c p (patch-touched g c p h t) in
+          let d : r .depth ≡ p .depth = sym (corner-depth k) in
+          absurd (omega (arith, rw d at (cell-inside r b .1), l))
 
   module _ (in-range : Rectangle g) where
     -- a patch up to level 0 has its indices below 2 ^ depth

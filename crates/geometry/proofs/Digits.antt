@@ -4,13 +4,15 @@
 use Prim.Native.Nat.{ℕ, zero, suc, pred, _+_, _*_, _/_, _%_, _≤_, _<_}
 use native.Mathlib.Omega.{arith}
 use mathlib.Core.Path.{_≡_, refl, ap, _∙_}
+use mathlib.Core.Logic.{_≢_}
 use mathlib.Core.Bool.{Bool, true, _&&_, cond}
 use mathlib.Core.Option.{Option, none, some, Option·map, Option·some-injective}
 use lib.Dec.{T, eqb, leb}
 use Rattle.mesh.specs.Tools.{any}
-use Rattle.mesh.specs.Place.{Place, Grid, at, before, toNorth, toEast, toSouth, toWest, then, step, kid, parent, compass, sideWinds, Wind, NE, SE, SW, NW, N, E, S, W}
+use Rattle.mesh.specs.Place.{Place, Grid, at, before, lap, rowAfter, rowBefore, toNorth, toEast, toSouth, toWest, then, step, kid, parent, compass, sideWinds, Wind, NE, SE, SW, NW, N, E, S, W}
 use Rattle.mesh.specs.Winds.{wordOfWind}
-use Rattle.geometry.proofs.Places.{place-path, mapped}
+use Rattle.geometry.proofs.Laps.{Smooth, Paired, paired, after-other, after-even, after-odd, before-odd, before-even}
+use Rattle.geometry.proofs.Places.{place-path, mapped, south-north, west-east}
 use Rattle.geometry.proofs.Kids.{up, up-is, parent-depth}
 
 -- ---- a kid by its digits
@@ -97,11 +99,12 @@ module _ (g : Grid) where
   abbrev ByDigits : Wind → Place → Type 0
   ByDigits w p = step g w p ≡ Option·map (kidBy ((colMoved w p + 1) % 2) ((rowMoved w p + 1) % 2)) (cond (stays w p) (some (up p)) (step g w (up p)))
 
-  north-digits : (d i j : ℕ) → 0 < d → ByDigits N (at d i j)
+  north-digits : (d i j : ℕ) → 0 < d → Paired N (lap g d) (lap g (pred d)) j → ByDigits N (at d i j)
   unfolding step toNorth up
-  north-digits d i j h =
-      digit j (λ e. rw (within-still i, e) (is-kid d i (suc j) (i / 2) (j / 2) ((i % 2 + 1 + 1) % 2) 1 h (omega arith) (omega arith)))
-      (λ e. rw (within-still i, e) (is-kid d i (suc j) (i / 2) (suc (j / 2)) ((i % 2 + 1 + 1) % 2) 0 h (omega arith) (omega arith)))
+  north-digits d i j h k =
+      digit j (λ e. rw (within-still i, e, after-even j k e) (is-kid d i (suc j) (i / 2) (j / 2) ((i % 2 + 1 + 1) % 2) 1 h (omega arith) (omega arith)))
+      (λ e. rw (within-still i, e)
+      (is-kid d i (rowAfter (lap g d) j) (i / 2) (rowAfter (lap g (pred d)) (j / 2)) ((i % 2 + 1 + 1) % 2) 0 h (omega arith) (omega (arith, after-odd j k e))))
 
   east-digits : (d i j : ℕ) → 0 < d → ByDigits E (at d i j)
   unfolding step toEast up
@@ -109,14 +112,17 @@ module _ (g : Grid) where
       digit i (λ e. rw (within-still j, e) (is-kid d (suc i) j (i / 2) (j / 2) 1 ((j % 2 + 1 + 1) % 2) h (omega arith) (omega arith)))
       (λ e. rw (within-still j, e) (is-kid d (suc i) j (suc (i / 2)) (j / 2) 0 ((j % 2 + 1 + 1) % 2) h (omega arith) (omega arith)))
 
-  south-digits : (d i j : ℕ) → 0 < d → ByDigits S (at d i j)
+  south-digits : (d i j : ℕ) → 0 < d → Paired S (lap g d) (lap g (pred d)) j → ByDigits S (at d i j)
   unfolding step toSouth up
-  south-digits d i zero h = rw (within-still i)
-  south-digits d i (suc j) h =
-      digit (suc j) (λ e.
-      let k : suc j / 2 ≡ suc (j / 2) = omega arith in
-      rw (within-still i, e, k) (is-kid d i j (i / 2) (j / 2) ((i % 2 + 1 + 1) % 2) 1 h (omega arith) (omega arith)))
-      (λ e. rw (within-still i, e) (is-kid d i j (i / 2) (suc j / 2) ((i % 2 + 1 + 1) % 2) 0 h (omega arith) (omega arith)))
+  south-digits d i j h k = digit j (λ e. rw (within-still i, e, before-even j k e) (out (rowBefore (lap g (pred d)) (j / 2)))) (λ e. within-pair j e k)
+    where
+      out : (o : Option ℕ) → Option·map (λ y. at d i y) (Option·map (λ y. 2 * y + 1) o) ≡ Option·map (kidBy ((i % 2 + 1 + 1) % 2) 1) (Option·map (λ y. at (pred d) (i / 2) y) o)
+      out none = refl
+      out (some y) = is-kid d i (2 * y + 1) (i / 2) y ((i % 2 + 1 + 1) % 2) 1 h (omega arith) refl
+
+      within-pair : (j : ℕ) → j % 2 ≡ 1 → Paired S (lap g d) (lap g (pred d)) j → ByDigits S (at d i j)
+      within-pair zero e k = absurd (omega arith)
+      within-pair (suc j) e k = rw (within-still i, e, before-odd j k e) (is-kid d i j (i / 2) (suc j / 2) ((i % 2 + 1 + 1) % 2) 0 h (omega arith) (omega arith))
 
   west-digits : (d i j : ℕ) → 0 < d → ByDigits W (at d i j)
   unfolding step toWest up
@@ -127,20 +133,20 @@ module _ (g : Grid) where
       rw (within-still j, e, k) (is-kid d i j (i / 2) (j / 2) 1 ((j % 2 + 1 + 1) % 2) h (omega arith) (omega arith)))
       (λ e. rw (within-still j, e) (is-kid d i j (suc i / 2) (j / 2) 0 ((j % 2 + 1 + 1) % 2) h (omega arith) (omega arith)))
 
-  pub step-digits : (w : Wind) → T (aside w) → (p : Place) → 0 < p .depth
+  pub step-digits : (w : Wind) → T (aside w) → (p : Place) → 0 < p .depth → Smooth g w p
       → step g w p ≡ Option·map (kidBy ((colMoved w p + 1) % 2) ((rowMoved w p + 1) % 2)) (cond (stays w p) (some (up p)) (step g w (up p)))
-  step-digits N t p h = north-digits (p .depth) (p .col) (p .row) h
-  step-digits E t p h = east-digits (p .depth) (p .col) (p .row) h
-  step-digits S t p h = south-digits (p .depth) (p .col) (p .row) h
-  step-digits W t p h = west-digits (p .depth) (p .col) (p .row) h
-  step-digits NE t p h = absurd t
-  step-digits SE t p h = absurd t
-  step-digits SW t p h = absurd t
-  step-digits NW t p h = absurd t
+  step-digits N t p h s = north-digits (p .depth) (p .col) (p .row) h (paired g N p h s)
+  step-digits E t p h s = east-digits (p .depth) (p .col) (p .row) h
+  step-digits S t p h s = south-digits (p .depth) (p .col) (p .row) h (paired g S p h s)
+  step-digits W t p h s = west-digits (p .depth) (p .col) (p .row) h
+  step-digits NE t p h s = absurd t
+  step-digits SE t p h s = absurd t
+  step-digits SW t p h s = absurd t
+  step-digits NW t p h s = absurd t
 
   -- the parent's place of where a step leads
-  pub step-up : (w : Wind) → T (aside w) → (p : Place) → 0 < p .depth → Option·map up (step g w p) ≡ cond (stays w p) (some (up p)) (step g w (up p))
-  step-up w t p h = rw (step-digits w t p h) (back ((colMoved w p + 1) % 2) ((rowMoved w p + 1) % 2) (omega arith) (omega arith) (cond (stays w p) (some (up p)) (step g w (up p))))
+  pub step-up : (w : Wind) → T (aside w) → (p : Place) → 0 < p .depth → Smooth g w p → Option·map up (step g w p) ≡ cond (stays w p) (some (up p)) (step g w (up p))
+  step-up w t p h s = rw (step-digits w t p h s) (back ((colMoved w p + 1) % 2) ((rowMoved w p + 1) % 2) (omega arith) (omega arith) (cond (stays w p) (some (up p)) (step g w (up p))))
     where
       back : (l m : ℕ) → l ≤ 1 → m ≤ 1 → (o : Option Place) → Option·map up (Option·map (kidBy l m) o) ≡ o
       back l m a b none = refl
@@ -150,12 +156,24 @@ module _ (g : Grid) where
   unfolding step toNorth toEast toSouth toWest
   step-depth N t p q e = rw (← Option·some-injective _ _ e)
   step-depth E t p q e = rw (← Option·some-injective _ _ e)
-  step-depth S t p q e = let (j, b, f) = mapped (λ j. at (p .depth) (p .col) j) q (before (p .row)) e in rw (← f)
+  step-depth S t p q e = let (j, b, f) = mapped (λ j. at (p .depth) (p .col) j) q (rowBefore (lap g (p .depth)) (p .row)) e in rw (← f)
   step-depth W t p q e = let (i, b, f) = mapped (λ i. at (p .depth) i (p .row)) q (before (p .col)) e in rw (← f)
   step-depth NE t p q e = absurd t
   step-depth SE t p q e = absurd t
   step-depth SW t p q e = absurd t
   step-depth NW t p q e = absurd t
+
+  -- a step leads elsewhere, unless the level has one row alone and goes round
+  pub step-other : (w : Wind) → T (aside w) → (p : Place) → lap g (p .depth) ≢ 1 → step g w p ≡ some p → ⊥
+  unfolding step toNorth toEast toSouth toWest
+  step-other N t p one e = after-other (lap g (p .depth)) (p .row) one (ap (λ (x : Place). x .row) (Option·some-injective _ _ e))
+  step-other E t p one e = let h : suc (p .col) ≡ p .col = ap (λ (x : Place). x .col) (Option·some-injective _ _ e) in omega arith
+  step-other S t p one e = after-other (lap g (p .depth)) (p .row) one (ap (λ (x : Place). x .row) (south-north g p p e))
+  step-other W t p one e = let h : suc (p .col) ≡ p .col = ap (λ (x : Place). x .col) (west-east g p p e) in omega arith
+  step-other NE t p one e = absurd t
+  step-other SE t p one e = absurd t
+  step-other SW t p one e = absurd t
+  step-other NW t p one e = absurd t
 
   -- a step to a corner is one to each side
   pub southwest : (p : Place) → step g SW p ≡ then (step g S) (step g W p)

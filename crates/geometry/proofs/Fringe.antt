@@ -11,6 +11,7 @@ use lib.Dec.{T}
 use Rattle.mesh.specs.Place.{Place, Grid, base, step, toNorth, toEast, toSouth, toWest, kid, kids, parent, compass, Wind, NE, SE, SW, NW, S, W}
 use Rattle.mesh.specs.Mesh.{wallH, wallV, derived}
 use Rattle.mesh.specs.Request.{wanted}
+use Rattle.geometry.proofs.Laps.{smooth-above}
 use Rattle.geometry.proofs.Places.{In, south-north, west-east, north-south, east-west}
 use Rattle.geometry.proofs.Kids.{parent-kid, parent-in, parent-depth, up-kid, kid-depth}
 use Rattle.geometry.proofs.Digits.{kidBy, kid-by, kid-by-digits, aside, within, step-digits}
@@ -44,13 +45,13 @@ module _ (g : Grid) (p q : Place) where
   is-kid w e = ap parent e ∙ parent-kid w p
 
   -- and a place beside a kid in this way is a kid itself, or one of the four
-  pub beside-north : parent (toNorth g q) ≡ some p → (parent q ≡ some p) ⊎ Fringe g p q
-  beside-north k =
+  pub beside-north : base g ≤ p .depth → parent (toNorth g q) ≡ some p → (parent q ≡ some p) ⊎ Fringe g p q
+  beside-north low k =
       by-kid (λ r. toNorth g q ≡ r → (parent q ≡ some p) ⊎ Fringe g p q)
-      (λ e. inl (is-kid SE (north-once g q (kid SE p) (e ∙ sym (north-se g p)))))
+      (λ e. inl (is-kid SE (north-once g q (kid SE p) (e ∙ sym (north-se g p low)))))
       (λ e. inr (south-of-se (rw (← e) (north-south g q))))
       (λ e. inr (south-of-sw (rw (← e) (north-south g q))))
-      (λ e. inl (is-kid SW (north-once g q (kid SW p) (e ∙ sym (north-sw g p)))))
+      (λ e. inl (is-kid SW (north-once g q (kid SW p) (e ∙ sym (north-sw g p low)))))
       (toNorth g q) k refl
 
   pub beside-east : parent (toEast g q) ≡ some p → (parent q ≡ some p) ⊎ Fringe g p q
@@ -63,7 +64,7 @@ module _ (g : Grid) (p q : Place) where
       (toEast g q) k refl
 
 -- they are kids of the places south and west of p
-module _ (g : Grid) (p : Place) where
+module _ (g : Grid) (p : Place) (low : base g ≤ p .depth) where
   beside-kid : (w v : Wind) → T (aside w) → compass v .east / 2 ≤ 1 → compass v .north / 2 ≤ 1
       → step g w (kid v p)
       ≡ Option·map (kidBy ((compass v .east / 2 + compass w .east + 1) % 2) ((compass v .north / 2 + compass w .north + 1) % 2))
@@ -72,7 +73,7 @@ module _ (g : Grid) (p : Place) where
       let (x, y) = kid-by-digits (compass v .east / 2) (compass v .north / 2) p a b in
       let e : kid v p .col % 2 ≡ compass v .east / 2 = ap (λ (r : Place). r .col % 2) (kid-by v p) ∙ x in
       let f : kid v p .row % 2 ≡ compass v .north / 2 = ap (λ (r : Place). r .row % 2) (kid-by v p) ∙ y in
-      step-digits g w t (kid v p) (omega (arith, kid-depth v p)) ∙ rw (e, f, up-kid v p)
+      step-digits g w t (kid v p) (omega (arith, kid-depth v p)) (smooth-above g w (kid v p) (omega (arith, kid-depth v p))) ∙ rw (e, f, up-kid v p)
 
   pub fringe-south-sw : toSouth g (kid SW p) ≡ Option·map (kid NW) (toSouth g p)
   unfolding step kid kidBy
@@ -100,15 +101,15 @@ module _ (g : Grid) (c d : Place → Bool) (p : Place) (low : base g ≤ p .dept
   -- the walls of a place that is no corner of a kid
   pub kids-walls : (q : Place) → (In q (wanted g p) → ⊥) → (c q ≡ d q) × (wallH g c (some q) ≡ wallH g d (some q)) × (wallV g c (some q) ≡ wallV g d (some q))
   kids-walls q out =
-      let touch : (r : Place) → Corner g r q → AgreeAt g c d r = λ r k. agree r (λ e. out (corner-wanted g p e k)) in
+      let touch : (r : Place) → Corner g r q → AgreeAt g c d r = λ r k. agree r (λ e. out (corner-wanted g p low e k)) in
       let (h, v) = walls-frame g c d q touch in
       (touch q c-here .0, h, v)
 
   pub kids-same : (q : Place) → (In q (wanted g p) → ⊥) → (T (c q) → Fringe g p q → ⊥) → derived g c q ≡ derived g d q
   kids-same q out off =
-      derived-frame g c d q (λ r k. agree r (λ e. out (corner-wanted g p e k)))
-      (λ t. (agree (toNorth g q) (λ k. no-place t (beside-north g p q k)), agree (toEast g q) (λ k. no-place t (beside-east g p q k))))
+      derived-frame g c d q (λ r k. agree r (λ e. out (corner-wanted g p low e k)))
+      (λ t. (agree (toNorth g q) (λ k. no-place t (beside-north g p q low k)), agree (toEast g q) (λ k. no-place t (beside-east g p q k))))
     where
       no-place : T (c q) → (parent q ≡ some p) ⊎ Fringe g p q → ⊥
-      no-place t (inl e) = out (corner-wanted g p e c-here)
+      no-place t (inl e) = out (corner-wanted g p low e c-here)
       no-place t (inr f) = off t f

@@ -34,7 +34,7 @@ module _ (g : Grid) where
 
   -- the cells stand on one level
   pub full-mesh : Rectangle g → Mesh g (full g)
-  full-mesh (a, b, c, d) = record {
+  full-mesh (a, b, c, d, _, _) = record {
     some-cell = (at (base g) 0 0, refl, cell-full (at (base g) 0 0) refl a c);
     inside = λ p t e. let (d, x, y) = full-cell p t in (x, y);
     low = λ p t. omega (arith, full-cell p t .0);

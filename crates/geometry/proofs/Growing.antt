@@ -91,7 +91,7 @@ module _ (g : Grid) (c : Place → Bool) (m : Mesh g c) (p : Place) (here : T (c
     where
       go : (r : Place) → Corner g r q → T (c r) ⊎ (parent r ≡ some p) → T (patch g c q) ⊎ In q (wanted g p)
       go r k (inl a) = inl (corner-patch g c (m .low r a) k a)
-      go r k (inr e) = inr (corner-wanted g p e k)
+      go r k (inr e) = inr (corner-wanted g p (m .low p here) e k)
 
   -- on level 0 and below nothing is new
   low-patch : (n : ℕ) (q : Place) → q .depth + n ≡ base g → T (patch g (grown c (kids p)) q) → T (patch g c q)
@@ -114,7 +114,7 @@ module _ (g : Grid) (c : Place → Bool) (m : Mesh g c) (p : Place) (here : T (c
   pub grown-patch : (q : Place) → T (patch g c q) ⊎ In q (wanted g p) → T (patch g (grown c (kids p)) q)
   grown-patch q (inl a) = patch-more g c (grown c (kids p)) (grown-old c (kids p)) q a
   grown-patch q (inr i) =
-      let (r, e, k) = wanted-corner g p q i in
+      let (r, e, k) = wanted-corner g p (m .low p here) q i in
       corner-patch g (grown c (kids p)) (omega (arith, kid-above r e)) k (grown-new c p r e)
 
   -- one at least is new: the point in the middle of p
@@ -122,4 +122,4 @@ module _ (g : Grid) (c : Place → Bool) (m : Mesh g c) (p : Place) (here : T (c
   middle-new kidless t =
       let h : base g ≤ kid NE p .depth = omega (arith, kid-depth NE p, m .low p here) in
       let (r, k, a) = touched-corner g c (kid NE p) (patch-touched g c (kid NE p) h t) in
-      kidless r (middle-kid g r p k) a
+      kidless r (middle-kid g r p (m .low p here) k) a

@@ -2,6 +2,7 @@
 pub mod Bools
 pub mod Ranges
 pub mod Lists
+pub mod Laps
 pub mod Places
 pub mod Counting
 pub mod Distinct

@@ -1,6 +1,6 @@
 -- The cells that touch a point, and the points that a cell touches; both go up the tree.
 -- Assumes nothing.
-use Prim.Native.Nat.{ℕ, suc, _/_, _%_, _<_}
+use Prim.Native.Nat.{ℕ, suc, pred, _*_, _/_, _%_, _<_}
 use native.Mathlib.Omega.{arith}
 use native.Mathlib.Decide.{decLt}
 use mathlib.Core.Path.{_≡_, refl, sym, ap, _∙_}
@@ -8,11 +8,12 @@ use mathlib.Core.Logic.{_⊎_, inl, inr}
 use mathlib.Core.Bool.{Bool, _||_}
 use mathlib.Core.Option.{Option, none, some}
 use lib.Dec.{T}
-use Rattle.mesh.specs.Place.{Place, Grid, toNorth, toEast, toSouth, toWest, then, step, SW, S, W}
+use Rattle.mesh.specs.Place.{Place, Grid, at, base, toNorth, toEast, toSouth, toWest, then, step, lap, rowAfter, SW, N, S, W}
 use Rattle.mesh.specs.Mesh.{on, touched}
 use Rattle.geometry.proofs.Bools.{or-left, or-right, or-cases}
 use Rattle.geometry.proofs.Places.{then-some, south-north, west-east, north-south, east-west, east-north, west-of-north}
 use Rattle.geometry.proofs.Kids.{up}
+use Rattle.geometry.proofs.Laps.{Smooth, smooth-above, Paired, paired, after-even, after-odd}
 
 -- ---- the four points of a cell
 
@@ -42,13 +43,15 @@ halves n = go (decLt (n % 2) 1)
     go (yes h) = inl (omega arith)
     go (no h) = inr (omega arith)
 
-pub north-up : (g : Grid) (p : Place) → (up (toNorth g p) ≡ up p) ⊎ (up (toNorth g p) ≡ toNorth g (up p))
+-- north, unless the seam of level 0 is crossed
+pub north-up : (g : Grid) (p : Place) → 0 < p .depth → Smooth g N p → (up (toNorth g p) ≡ up p) ⊎ (up (toNorth g p) ≡ toNorth g (up p))
 unfolding toNorth up
-north-up g p = go (halves (p .row))
+north-up g p l s = go (lap g (p .depth)) (lap g (pred (p .depth))) (paired g N p l s) (decLt (p .row % 2) 1)
   where
-    go : (suc (p .row) / 2 ≡ p .row / 2) ⊎ (suc (p .row) / 2 ≡ suc (p .row / 2)) → (up (toNorth g p) ≡ up p) ⊎ (up (toNorth g p) ≡ toNorth g (up p))
-    go (inl h) = inl (rw h)
-    go (inr h) = inr (rw h)
+    go : (n m : ℕ) → Paired N n m (p .row) → Dec (p .row % 2 < 1)
+        → (at (pred (p .depth)) (p .col / 2) (rowAfter n (p .row) / 2) ≡ up p) ⊎ (at (pred (p .depth)) (p .col / 2) (rowAfter n (p .row) / 2) ≡ at (pred (p .depth)) (p .col / 2) (rowAfter m (p .row / 2)))
+    go n m k (yes h) = let e : suc (p .row) / 2 ≡ p .row / 2 = omega arith in inl (rw (after-even (p .row) k (omega arith), e))
+    go n m k (no h) = let e : 2 * rowAfter m (p .row / 2) / 2 ≡ rowAfter m (p .row / 2) = omega arith in inr (rw (after-odd (p .row) k (omega arith), e))
 
 pub east-up : (g : Grid) (p : Place) → (up (toEast g p) ≡ up p) ⊎ (up (toEast g p) ≡ toEast g (up p))
 unfolding toEast up
@@ -59,19 +62,20 @@ east-up g p = go (halves (p .col))
     go (inr h) = inr (rw h)
 
 -- the parent's place of a corner is a corner of the cell's parent's place
-pub corner-up : {g : Grid} {r q : Place} → Corner g r q → Corner g (up r) (up q)
-corner-up c-here = c-here
-corner-up {g} {r} c-east = go (east-up g r)
+pub corner-up : {g : Grid} {r q : Place} → base g < r .depth → Corner g r q → Corner g (up r) (up q)
+unfolding toEast
+corner-up l c-here = c-here
+corner-up {g} {r} l c-east = go (east-up g r)
   where
     go : (up (toEast g r) ≡ up r) ⊎ (up (toEast g r) ≡ toEast g (up r)) → Corner g (up r) (up (toEast g r))
     go (inl h) = corner-cast (sym h) c-here
     go (inr h) = corner-cast (sym h) c-east
-corner-up {g} {r} c-north = go (north-up g r)
+corner-up {g} {r} l c-north = go (north-up g r (omega arith) (smooth-above g N r l))
   where
     go : (up (toNorth g r) ≡ up r) ⊎ (up (toNorth g r) ≡ toNorth g (up r)) → Corner g (up r) (up (toNorth g r))
     go (inl h) = corner-cast (sym h) c-here
     go (inr h) = corner-cast (sym h) c-north
-corner-up {g} {r} c-both = go (east-up g r) (north-up g (toEast g r))
+corner-up {g} {r} l c-both = go (east-up g r) (north-up g (toEast g r) (omega arith) (smooth-above g N (toEast g r) l))
   where
     go : (up (toEast g r) ≡ up r) ⊎ (up (toEast g r) ≡ toEast g (up r)) → (up (toNorth g (toEast g r)) ≡ up (toEast g r)) ⊎ (up (toNorth g (toEast g r)) ≡ toNorth g (up (toEast g r))) → Corner g (up r) (up (toNorth g (toEast g r)))
     go (inl h) (inl k) = corner-cast (sym (k ∙ h)) c-here

@@ -8,8 +8,9 @@ use mathlib.Core.Option.{Option, none, some, Option·map, Option·none-ne-some, 
 use mathlib.Core.List.{List, [], _∷_}
 use lib.Dec.{T, eqb, eqb→eq, eqb-refl}
 use Rattle.mesh.specs.Tools.{any, all}
-use Rattle.mesh.specs.Place.{Place, Grid, at, same, before, toNorth, toEast, toSouth, toWest, then, step, compass, Wind, NE, SE, SW, NW, N, E, S, W}
+use Rattle.mesh.specs.Place.{Place, Grid, at, same, before, lap, rowAfter, rowBefore, toNorth, toEast, toSouth, toWest, then, step, compass, Wind, NE, SE, SW, NW, N, E, S, W}
 use Rattle.geometry.proofs.Bools.{yes-is, and-both, and-left, and-right, or-left, or-right, or-cases}
+use Rattle.geometry.proofs.Laps.{after-before, before-after}
 
 pub place-path : (p q : Place) → p .depth ≡ q .depth → p .col ≡ q .col → p .row ≡ q .row → p ≡ q
 place-path p q a b c = λ i. record { depth = a i; col = b i; row = c i }
@@ -101,7 +102,9 @@ then-some f (some m) q e = (m, refl, e)
 -- south and west lead back, and so do north and east
 pub south-north : (g : Grid) (p q : Place) → toSouth g p ≡ some q → toNorth g q ≡ p
 unfolding toSouth toNorth
-south-north g p q e = let (j, b, f) = mapped (λ j. at (p .depth) (p .col) j) q (before (p .row)) e in rw (← f, ← before-is (p .row) j b)
+south-north g p q e =
+    let (j, b, f) = mapped (λ j. at (p .depth) (p .col) j) q (rowBefore (lap g (p .depth)) (p .row)) e in
+    ap (toNorth g) (sym f) ∙ place-path (at (p .depth) (p .col) (rowAfter (lap g (p .depth)) j)) p refl refl (before-after (lap g (p .depth)) (p .row) j b)
 
 pub west-east : (g : Grid) (p q : Place) → toWest g p ≡ some q → toEast g q ≡ p
 unfolding toWest toEast
@@ -109,7 +112,7 @@ west-east g p q e = let (i, b, f) = mapped (λ i. at (p .depth) i (p .row)) q (b
 
 pub north-south : (g : Grid) (p : Place) → toSouth g (toNorth g p) ≡ some p
 unfolding toSouth toNorth
-north-south g p = refl
+north-south g p = ap (Option·map (λ j. at (p .depth) (p .col) j)) (after-before (lap g (p .depth)) (p .row))
 
 pub east-west : (g : Grid) (p : Place) → toWest g (toEast g p) ≡ some p
 unfolding toWest toEast
@@ -124,7 +127,7 @@ pub west-of-north : (g : Grid) (p : Place) → toWest g (toNorth g p) ≡ Option
 unfolding toNorth toWest
 west-of-north g p = go (before (p .col))
   where
-    go : (o : Option ℕ) → Option·map (λ i. at (p .depth) i (suc (p .row))) o ≡ Option·map (λ q. at (q .depth) (q .col) (suc (q .row))) (Option·map (λ i. at (p .depth) i (p .row)) o)
+    go : (o : Option ℕ) → Option·map (λ i. at (p .depth) i (rowAfter (lap g (p .depth)) (p .row))) o ≡ Option·map (toNorth g) (Option·map (λ i. at (p .depth) i (p .row)) o)
     go none = refl
     go (some i) = refl
 

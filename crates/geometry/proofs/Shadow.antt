@@ -11,6 +11,7 @@ use lib.Dec.{T, eqb}
 use Rattle.mesh.specs.Place.{Place, Grid, base, home, step, toNorth, toEast, toSouth, toWest, Wind, NE, SE, SW, NW, N, E, S, W}
 use Rattle.mesh.specs.Mesh.{derived}
 use Rattle.geometry.proofs.Bools.{and-both, and-left, and-right}
+use Rattle.geometry.proofs.Laps.{smooth-above}
 use Rattle.geometry.proofs.Places.{south-north, west-east, north-south, east-west, step-back}
 use Rattle.geometry.proofs.Kids.{up, parent-up, up-depth}
 use Rattle.geometry.proofs.Digits.{aside, stays, within-still, digit, step-up, step-depth}
@@ -54,8 +55,8 @@ module _ (g : Grid) where
   abbrev Beside : Wind → Place → Place → Type 0
   Beside w q r = (up q ≡ up r) ⊎ (T (chosen (edge w) q) × (step g w (up q) ≡ some (up r)))
 
-  by-side : (w : Wind) → T (aside w) → (q r : Place) → 0 < q .depth → step g w q ≡ some r → Beside w q r
-  by-side w t q r h e = go (stays w q) (leaves w t q) (ap (Option·map up) (sym e) ∙ step-up g w t q h)
+  by-side : (w : Wind) → T (aside w) → (q r : Place) → base g < q .depth → step g w q ≡ some r → Beside w q r
+  by-side w t q r h e = go (stays w q) (leaves w t q) (ap (Option·map up) (sym e) ∙ step-up g w t q (omega arith) (smooth-above g w q h))
     where
       go : (b : Bool) → not b ≡ chosen (edge w) q → some (up r) ≡ cond b (some (up q)) (step g w (up q)) → Beside w q r
       go true f s = inl (sym (Option·some-injective _ _ s))
@@ -67,7 +68,7 @@ module _ (g : Grid) where
   abbrev Under : (r q : Place) → Corner g r q → Type 0
   Under r q k = (t : Place) × (j : Corner g (up r) t) × (up q ≡ t) × T (chosen (facing j) q) × ((l m : ℕ) → T (facing k l m) → T (facing j l m))
 
-  corner-under : {r q : Place} → 0 < r .depth → (k : Corner g r q) → Under r q k
+  corner-under : {r q : Place} → base g < r .depth → (k : Corner g r q) → Under r q k
   unfolding step toNorth toEast
   corner-under {r} h c-here = (up r, c-here, refl, tt, λ l m t. tt)
   corner-under {r} h c-east = go (by-side W tt (toEast g r) r h (east-west g r))

@@ -75,7 +75,7 @@ module _ (g : Grid) (c : Place → Bool) where
         go (no a) =
             let (r, k, b) = touched-corner g c p (patch-touched p (omega arith) t) in
             let d : r .depth ≡ p .depth = sym (corner-depth k) in
-            corner-patch (omega (arith, up-depth r (omega (arith, d)))) (corner-up k) (cell-up r b (omega arith))
+            corner-patch (omega (arith, up-depth r (omega (arith, d)))) (corner-up (omega arith) k) (cell-up r b (omega arith))
 
     pub patch-parent : (q p : Place) → parent q ≡ some p → T (patch g c q) → T (patch g c p)
     patch-parent q p e t =

@@ -15,6 +15,7 @@ use Rattle.mesh.specs.Tools.{digits}
 use Rattle.mesh.specs.Place.{Place, Grid, at, base, home, step, then, Wind, SW, S, W}
 use Rattle.mesh.specs.Mesh.{Mesh, Wall, absent, isWall, isBoundary, isGreen, wallOf, on, inArea, touched, wallH, wallV, ends, sides, derived, flags}
 use Rattle.geometry.proofs.Bools.{no-is, or-left, or-right, or-cases}
+use Rattle.geometry.proofs.Laps.{smooth-above}
 use Rattle.geometry.proofs.Places.{place-path}
 use Rattle.geometry.proofs.Kids.{up, up-depth}
 use Rattle.geometry.proofs.Digits.{aside, stays, digit, within-still, step-up, step-depth}
@@ -156,7 +157,7 @@ module _ (g : Grid) (c : Place → Bool) where
         (ground-of (on g c (step g w p)) (c p))
 
     wall-above : (p : Place) → base g < p .depth → isBoundary (wall g c w (some p)) ≡ (not (Bool·beq (c p) (on g c (step g w p))) && (not (stays w p) && isBoundary (wall g c w (some (up p)))))
-    wall-above p h = go (stays w p) (step-up g w side p (omega arith))
+    wall-above p h = go (stays w p) (step-up g w side p (omega arith) (smooth-above g w p h))
       where
         deep : (q : Place) → step g w p ≡ some q → base g < q .depth
         deep q e = omega (arith, step-depth g w side p q e)

@@ -1,23 +1,24 @@
 -- The nine places that a refinement wants are the corners of the kids, each once.
 -- Assumes nothing.
-use Prim.Native.Nat.{ℕ, suc, _+_, _-_, _*_, _<_}
+use Prim.Native.Nat.{ℕ, suc, _+_, _-_, _*_, _/_, _≤_, _<_}
 use native.Mathlib.Omega.{arith}
 use mathlib.Core.Path.{_≡_, refl, sym, ap, _∙_, subst}
 use mathlib.Core.Logic.{_⊎_, inl, inr}
-use mathlib.Core.Bool.{Bool, true, not, _&&_}
+use mathlib.Core.Bool.{Bool, true, false, not, _&&_, cond}
 use mathlib.Core.Option.{some, Option·some-injective}
 use mathlib.Core.List.{List, [], _∷_, map}
-use lib.Dec.{T, T-not, eqb, eqb-refl, lit<}
+use lib.Dec.{T, T-not, eqb, eqb→eq, eqb-refl, lit<}
 use lib.ListN.{getD}
 use Rattle.mesh.specs.Tools.{any}
-use Rattle.mesh.specs.Place.{Place, Grid, same, root, toNorth, toEast, toSouth, toWest, kid, kids, parent, Wind, NE, SE, SW, NW}
+use Rattle.mesh.specs.Place.{Place, Grid, same, root, base, lap, rowAfter, toNorth, toEast, toSouth, toWest, kid, kids, parent, Wind, NE, SE, SW, NW, N}
 use Rattle.mesh.specs.Request.{wanted}
-use Rattle.geometry.proofs.Bools.{and-left, and-right}
+use Rattle.geometry.proofs.Bools.{yes-is, no-is, and-left, and-right}
 use Rattle.geometry.proofs.Lists.{any-at, any-map}
+use Rattle.geometry.proofs.Laps.{Paired, lap-next, after-even, after-odd, after-other}
 use Rattle.geometry.proofs.Places.{In, in-cases, in-any, is-same, north-south, east-west}
-use Rattle.geometry.proofs.Kids.{in-parent, parent-in, parent-kid, parent-depth}
+use Rattle.geometry.proofs.Kids.{parent-in, parent-kid}
 use Rattle.geometry.proofs.Distinct.{Distinct}
-use Rattle.geometry.proofs.Near.{Corner, c-here, c-east, c-north, c-both, corner-cast, corner-depth}
+use Rattle.geometry.proofs.Near.{Corner, c-here, c-east, c-north, c-both, corner-cast}
 
 -- ---- steps among kids
 
@@ -27,6 +28,38 @@ to-odd n = omega arith
 
 to-next : (n : ℕ) → suc (2 * n + 1) ≡ 2 * suc n + 0
 to-next n = omega arith
+
+-- from level 0 up
+module _ (g : Grid) (p : Place) (low : base g ≤ p .depth) where
+  -- a level above level 0 has two rows for each of the one below
+  kid-rows : (j : ℕ) → Paired N (lap g (suc (p .depth))) (lap g (p .depth)) j
+  kid-rows j = inl (lap-next g (p .depth) low)
+
+  odd-row : rowAfter (lap g (suc (p .depth))) (2 * p .row + 0) ≡ 2 * p .row + 1
+  odd-row = after-even (2 * p .row + 0) (kid-rows (2 * p .row + 0)) (omega arith) ∙ to-odd (p .row)
+
+  next-row : rowAfter (lap g (suc (p .depth))) (2 * p .row + 1) ≡ 2 * rowAfter (lap g (p .depth)) (p .row) + 0
+  next-row =
+      let e : (2 * p .row + 1) / 2 ≡ p .row = omega arith in
+      rw e at (after-odd (2 * p .row + 1) (kid-rows (2 * p .row + 1)) (omega arith)) ∙ omega arith
+
+  -- one step within the four
+  pub north-sw : toNorth g (kid SW p) ≡ kid NW p
+  unfolding toNorth kid
+  north-sw = rw odd-row
+
+  pub north-se : toNorth g (kid SE p) ≡ kid NE p
+  unfolding toNorth kid
+  north-se = rw odd-row
+
+  -- and out of them
+  pub north-nw : toNorth g (kid NW p) ≡ kid SW (toNorth g p)
+  unfolding toNorth kid
+  north-nw = rw next-row
+
+  pub north-ne : toNorth g (kid NE p) ≡ kid SE (toNorth g p)
+  unfolding toNorth kid
+  north-ne = rw next-row
 
 module _ (g : Grid) (p : Place) where
   -- one step within the four
@@ -38,14 +71,6 @@ module _ (g : Grid) (p : Place) where
   unfolding toEast kid
   east-nw = rw (to-odd (p .col))
 
-  pub north-sw : toNorth g (kid SW p) ≡ kid NW p
-  unfolding toNorth kid
-  north-sw = rw (to-odd (p .row))
-
-  pub north-se : toNorth g (kid SE p) ≡ kid NE p
-  unfolding toNorth kid
-  north-se = rw (to-odd (p .row))
-
   -- and out of them
   pub east-se : toEast g (kid SE p) ≡ kid SW (toEast g p)
   unfolding toEast kid
@@ -55,14 +80,6 @@ module _ (g : Grid) (p : Place) where
   unfolding toEast kid
   east-ne = rw (to-next (p .col))
 
-  pub north-nw : toNorth g (kid NW p) ≡ kid SW (toNorth g p)
-  unfolding toNorth kid
-  north-nw = rw (to-next (p .row))
-
-  pub north-ne : toNorth g (kid NE p) ≡ kid SE (toNorth g p)
-  unfolding toNorth kid
-  north-ne = rw (to-next (p .row))
-
 -- one place alone leads to a place by a step east, and one by a step north
 pub east-once : (g : Grid) (p q : Place) → toEast g p ≡ toEast g q → p ≡ q
 east-once g p q e = Option·some-injective _ _ (sym (east-west g p) ∙ ap (toWest g) e ∙ east-west g q)
@@ -71,8 +88,8 @@ pub north-once : (g : Grid) (p q : Place) → toNorth g p ≡ toNorth g q → p 
 north-once g p q e = Option·some-injective _ _ (sym (north-south g p) ∙ ap (toSouth g) e ∙ north-south g q)
 
 -- the point in the middle of p is a corner of the kids alone
-pub middle-kid : (g : Grid) (r p : Place) → Corner g r (kid NE p) → parent r ≡ some p
-middle-kid g r p k = go (kid NE p) refl k
+pub middle-kid : (g : Grid) (r p : Place) → base g ≤ p .depth → Corner g r (kid NE p) → parent r ≡ some p
+middle-kid g r p low k = go (kid NE p) refl k
   where
     is : (w : Wind) → r ≡ kid w p → parent r ≡ some p
     is w e = ap parent e ∙ parent-kid w p
@@ -80,8 +97,8 @@ middle-kid g r p k = go (kid NE p) refl k
     go : (q : Place) → q ≡ kid NE p → Corner g r q → parent r ≡ some p
     go q e c-here = is NE e
     go q e c-east = is NW (east-once g r (kid NW p) (e ∙ sym (east-nw g p)))
-    go q e c-north = is SE (north-once g r (kid SE p) (e ∙ sym (north-se g p)))
-    go q e c-both = is SW (east-once g r (kid SW p) (north-once g (toEast g r) (kid SE p) (e ∙ sym (north-se g p)) ∙ sym (east-sw g p)))
+    go q e c-north = is SE (north-once g r (kid SE p) (e ∙ sym (north-se g p low)))
+    go q e c-both = is SW (east-once g r (kid SW p) (north-once g (toEast g r) (kid SE p) (e ∙ sym (north-se g p low)) ∙ sym (east-sw g p)))
 
 -- ---- a property of each place of a list
 
@@ -100,8 +117,27 @@ each-in P (p ∷ ps) h q t = go (in-cases q p ps t) (each-in P ps (h .1) q)
 -- ---- the nine are the corners of the kids
 
 module _ (g : Grid) (p : Place) where
+  -- the one at an index
+  nth : (i : ℕ) (q : Place) → i < 9 → q ≡ getD (wanted g p) i root → In q (wanted g p)
+  unfolding wanted
+  nth i q l e = any-at (same q) root (wanted g p) i l (is-same q (getD (wanted g p) i root) e)
+
+  pub kid-wanted : (q : Place) → In q (kids p) → In q (wanted g p)
+  unfolding wanted kids
+  kid-wanted = each-in (λ q. In q (wanted g p)) (kids p) (nth 3 _ (lit< tt) refl, (nth 1 _ (lit< tt) refl, (nth 0 _ (lit< tt) refl, (nth 2 _ (lit< tt) refl, tt))))
+
+  pub wanted-depth : (q : Place) → In q (wanted g p) → q .depth ≡ suc (p .depth)
+  unfolding wanted kid toNorth toEast
+  wanted-depth = each-in (λ q. q .depth ≡ suc (p .depth)) (wanted g p) (refl, (refl, (refl, (refl, (refl, (refl, (refl, (refl, (refl, tt)))))))))
+
+module _ (g : Grid) (p : Place) (low : base g ≤ p .depth) where
+  -- the place east is as deep
+  low-east : base g ≤ toEast g p .depth
+  unfolding toEast
+  low-east = low
+
   far : toNorth g (toEast g (kid NE p)) ≡ kid SW (toNorth g (toEast g p))
-  far = ap (toNorth g) (east-ne g p) ∙ north-nw g (toEast g p)
+  far = ap (toNorth g) (east-ne g p) ∙ north-nw g (toEast g p) low-east
 
   pub wanted-corner : (q : Place) → In q (wanted g p) → (r : Place) × (parent r ≡ some p) × Corner g r q
   unfolding wanted
@@ -114,9 +150,9 @@ module _ (g : Grid) (p : Place) where
         (
           here NE,
           (
-            of NW (north-nw g p) c-north,
+            of NW (north-nw g p low) c-north,
             (
-              of NE (north-ne g p) c-north,
+              of NE (north-ne g p low) c-north,
               (of NE (east-ne g p) c-east, (of SE (east-se g p) c-east, (of NE far c-both, tt))),
             ),
           ),
@@ -131,11 +167,6 @@ module _ (g : Grid) (p : Place) where
       here : (w : Wind) → (r : Place) × (parent r ≡ some p) × Corner g r (kid w p)
       here w = of w refl c-here
 
-  -- the one at an index
-  nth : (i : ℕ) (q : Place) → i < 9 → q ≡ getD (wanted g p) i root → In q (wanted g p)
-  unfolding wanted
-  nth i q l e = any-at (same q) root (wanted g p) i l (is-same q (getD (wanted g p) i root) e)
-
   -- of each kid the point itself, and the points east, north and both
   abbrev Corners : Place → Type 0
   Corners r = In r (wanted g p) × In (toEast g r) (wanted g p) × In (toNorth g r) (wanted g p) × In (toNorth g (toEast g r)) (wanted g p)
@@ -143,13 +174,13 @@ module _ (g : Grid) (p : Place) where
   kid-corners : (r : Place) → In r (kids p) → Corners r
   unfolding wanted kids
   kid-corners = each-in Corners (kids p) (
-    (nth 3 _ (lit< tt) refl, nth 6 _ (lit< tt) (east-ne g p), nth 5 _ (lit< tt) (north-ne g p), nth 8 _ (lit< tt) far),
+    (nth g p 3 _ (lit< tt) refl, nth g p 6 _ (lit< tt) (east-ne g p), nth g p 5 _ (lit< tt) (north-ne g p low), nth g p 8 _ (lit< tt) far),
     (
-      (nth 1 _ (lit< tt) refl, nth 7 _ (lit< tt) (east-se g p), nth 3 _ (lit< tt) (north-se g p), nth 6 _ (lit< tt) (ap (toNorth g) (east-se g p) ∙ north-sw g (toEast g p))),
+      (nth g p 1 _ (lit< tt) refl, nth g p 7 _ (lit< tt) (east-se g p), nth g p 3 _ (lit< tt) (north-se g p low), nth g p 6 _ (lit< tt) (ap (toNorth g) (east-se g p) ∙ north-sw g (toEast g p) low-east)),
       (
-        (nth 0 _ (lit< tt) refl, nth 1 _ (lit< tt) (east-sw g p), nth 2 _ (lit< tt) (north-sw g p), nth 3 _ (lit< tt) (ap (toNorth g) (east-sw g p) ∙ north-se g p)),
+        (nth g p 0 _ (lit< tt) refl, nth g p 1 _ (lit< tt) (east-sw g p), nth g p 2 _ (lit< tt) (north-sw g p low), nth g p 3 _ (lit< tt) (ap (toNorth g) (east-sw g p) ∙ north-se g p low)),
         (
-          (nth 2 _ (lit< tt) refl, nth 3 _ (lit< tt) (east-nw g p), nth 4 _ (lit< tt) (north-nw g p), nth 5 _ (lit< tt) (ap (toNorth g) (east-nw g p) ∙ north-ne g p)),
+          (nth g p 2 _ (lit< tt) refl, nth g p 3 _ (lit< tt) (east-nw g p), nth g p 4 _ (lit< tt) (north-nw g p low), nth g p 5 _ (lit< tt) (ap (toNorth g) (east-nw g p) ∙ north-ne g p low)),
           tt,
         ),
       ),
@@ -161,12 +192,6 @@ module _ (g : Grid) (p : Place) where
   corner-wanted {r} e c-east = kid-corners r (parent-in r p e) .1
   corner-wanted {r} e c-north = kid-corners r (parent-in r p e) .2
   corner-wanted {r} e c-both = kid-corners r (parent-in r p e) .3
-
-  pub kid-wanted : (q : Place) → In q (kids p) → In q (wanted g p)
-  kid-wanted q i = corner-wanted (in-parent q p i) c-here
-
-  pub wanted-depth : (q : Place) → In q (wanted g p) → q .depth ≡ suc (p .depth)
-  wanted-depth q i = let (r, e, k) = wanted-corner q i in corner-depth k ∙ parent-depth r p e
 
 -- ---- each once
 
@@ -193,8 +218,28 @@ at-odd n = omega arith
 at-next : (n : ℕ) → 2 * suc n + 0 - 2 * n ≡ 2
 at-next n = omega arith
 
--- counted along the rows from the south-west
-pub wanted-distinct : (g : Grid) (p : Place) → Distinct (wanted g p)
+-- which of the three rows
+abbrev rowOf : ℕ → ℕ → ℕ
+rowOf n j = cond (eqb j (2 * n + 0)) 0 (cond (eqb j (2 * n + 1)) 1 2)
+
+row-even : (n : ℕ) → rowOf n (2 * n + 0) ≡ 0
+row-even n = rw (yes-is (eqb (2 * n + 0) (2 * n + 0)) (eqb-refl (2 * n + 0)))
+
+row-odd : (n : ℕ) → rowOf n (2 * n + 1) ≡ 1
+row-odd n =
+    let e : eqb (2 * n + 1) (2 * n + 0) ≡ false = no-is (eqb (2 * n + 1) (2 * n + 0)) (λ t. omega (arith, eqb→eq (2 * n + 1) (2 * n + 0) t)) in
+    rw (e, yes-is (eqb (2 * n + 1) (2 * n + 1)) (eqb-refl (2 * n + 1)))
+
+row-next : (n m : ℕ) → (m ≡ n → ⊥) → rowOf n (2 * m + 0) ≡ 2
+row-next n m f =
+    let e : eqb (2 * m + 0) (2 * n + 0) ≡ false = no-is (eqb (2 * m + 0) (2 * n + 0)) (λ t. f (omega (arith, eqb→eq (2 * m + 0) (2 * n + 0) t))) in
+    let d : eqb (2 * m + 0) (2 * n + 1) ≡ false = no-is (eqb (2 * m + 0) (2 * n + 1)) (λ t. omega (arith, eqb→eq (2 * m + 0) (2 * n + 1) t)) in
+    rw (e, d)
+
+-- counted along the rows from the south-west, unless the level has one row alone and goes round
+pub wanted-distinct : (g : Grid) (p : Place) → (lap g (p .depth) ≡ 1 → ⊥) → Distinct (wanted g p)
 unfolding wanted kid toNorth toEast
-wanted-distinct g p =
-    numbers-distinct (λ q. q .col - 2 * p .col + 3 * (q .row - 2 * p .row)) (wanted g p) (simp (at-even, at-odd, at-next) tt)
+wanted-distinct g p one =
+    let x = rowAfter (lap g (p .depth)) (p .row) in
+    numbers-distinct (λ q. q .col - 2 * p .col + 3 * rowOf (p .row) (q .row)) (wanted g p)
+    (simp (at-even, at-odd, at-next, row-even (p .row), row-odd (p .row), row-next (p .row) x (after-other (lap g (p .depth)) (p .row) one)) tt)

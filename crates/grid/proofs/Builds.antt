@@ -9,7 +9,7 @@ use lib.ListN.{length}
 use lib.IntN.{ℤ}
 use lib.Ieee.{Float}
 use borrow.Author.Tests.{lt-ltb, le-ltb}
-use Rattle.mesh.specs.Place.{Grid, rectangle}
+use Rattle.mesh.specs.Place.{Grid}
 use Rattle.mesh.specs.State as State
 use Rattle.mesh.specs.Picture.{rowWords}
 use Rattle.mesh.specs.Refusal.{_if_, refusal}
@@ -22,7 +22,7 @@ use Rattle.sound.proofs.Checking.{both-pass}
 use Rattle.build.specs.Steps.{Made}
 use Rattle.laws.proofs.Refusals.{unless-accepted, unless-refused}
 use Rattle.laws.proofs.Calls.{Buildable, build-checked}
-use Rattle.grid.specs.Calls.{builtOf, Builds}
+use Rattle.grid.specs.Calls.{builtOf, asked, Builds}
 use Rattle.grid.proofs.First.{lengths}
 
 -- ---- the refusal
@@ -42,14 +42,14 @@ module _ (cap : ℕ) (l : Lent) (g : Grid) (size : length (l .words) ≡ rowWord
 
 -- ---- the call
 
-module _ (h : Header) (t : List ℤ) (v : List Float) (cap columns rows : ℕ) {new : Header} (new-is : new ≡ freshHeader columns rows) (n : ℕ) (is : n ≡ refusal (buildChecks cap (lentOf h t v) (headerOf new .grid))) where
-  grid-is : headerOf new .grid ≡ rectangle columns rows
+module _ (h : Header) (t : List ℤ) (v : List Float) (cap columns rows mode : ℕ) {new : Header} (new-is : new ≡ freshHeader columns rows mode) (n : ℕ) (is : n ≡ refusal (buildChecks cap (lentOf h t v) (headerOf new .grid))) where
+  grid-is : headerOf new .grid ≡ asked columns rows mode
   grid-is = ap (λ (x : Header). headerOf x .grid) new-is
 
-  checked : n ≡ refusal (buildChecks cap (lentOf h t v) (rectangle columns rows))
+  checked : n ≡ refusal (buildChecks cap (lentOf h t v) (asked columns rows mode))
   checked = is ∙ ap (λ (g : Grid). refusal (buildChecks cap (lentOf h t v) g)) grid-is
 
-  pub build-refused : n ≢ 0 → Builds h t v cap columns rows h t v (record { refusal = n; used = 0 })
+  pub build-refused : n ≢ 0 → Builds h t v cap columns rows mode h t v (record { refusal = n; used = 0 })
   unfolding buildCall
   build-refused some = record { is = sym (rw (sym checked) (unless-refused _ _ n some)) }
 
@@ -61,12 +61,12 @@ module _ (h : Header) (t : List ℤ) (v : List Float) (cap columns rows : ℕ) {
     pub buildable : Buildable cap (headerOf new .grid)
     buildable = build-checked cap (lentOf h t v) (headerOf new .grid) (sym is ∙ none)
 
-    pub build-made : (t′ : List ℤ) (v′ : List Float) (k : ℕ) → Made (headerOf new .grid) cap t′ v′ k → Builds h t v cap columns rows new t′ v′ (record { refusal = 0; used = k })
+    pub build-made : (t′ : List ℤ) (v′ : List Float) (k : ℕ) → Made (headerOf new .grid) cap t′ v′ k → Builds h t v cap columns rows mode new t′ v′ (record { refusal = 0; used = k })
     unfolding buildCall built
     build-made t′ v′ k m = record { is = made ∙ sym (unless-accepted _ _ _ (sym checked ∙ none)) }
       where
-        its : Made (rectangle columns rows) cap t′ v′ k
+        its : Made (asked columns rows mode) cap t′ v′ k
         its = subst (λ (g : Grid). Made g cap t′ v′ k) grid-is m
 
-        made : builtOf (record { refusal = 0; used = k }) new t′ v′ ≡ record { why = 0; in-use = State.inUse (built (rectangle columns rows) cap .entries); lent = picture (built (rectangle columns rows) cap) }
+        made : builtOf (record { refusal = 0; used = k }) new t′ v′ ≡ record { why = 0; in-use = State.inUse (built (asked columns rows mode) cap .entries); lent = picture (built (asked columns rows mode) cap) }
         made = λ i. record { why = 0; in-use = its .in-use-is i; lent = record { header = headerOf (new-is i); words = its .words-are i; values = its .values-are i } }

@@ -11,7 +11,6 @@ use lib.ListN.{length, take}
 use lib.IntN.{ℤ}
 use lib.Ieee.{Float}
 use Rattle.mesh.specs.Tools.{any}
-use Rattle.mesh.specs.Place.{rectangle}
 use Rattle.mesh.specs.Picture.{Sound}
 use Rattle.mesh.specs.Tape.{run}
 use Rattle.mesh.specs.State.{blank}
@@ -38,7 +37,7 @@ use Rattle.laws.proofs.Demand as laws
 use Rattle.grid.specs.declared.Wrote.{Wrote}
 use Rattle.grid.specs.declared.Built.{Built}
 use Rattle.grid.specs.declared.Taped.{Taped}
-use Rattle.grid.specs.Calls.{wroteOf, Builds, Tapes}
+use Rattle.grid.specs.Calls.{wroteOf, asked, Builds, Tapes}
 use Rattle.grid.proofs.First.{Sizes, sizes, check-sound, sound-check, ranOf, tape-ran}
 use Rattle.grid.proofs.Unique.{lent-same}
 
@@ -49,11 +48,11 @@ module _ (h : Header) (t : List ℤ) (v : List Float) (cap : ℕ) where
   check-ends r e = subst (λ (n : ℕ). T (among (0 ∷ 1 ∷ 2 ∷ 3 ∷ []) n)) (sym e) (check-answers cap (lentOf h t v))
 
   module _ (h′ : Header) (t′ : List ℤ) (v′ : List Float) where
-    pub build-ends : (columns rows : ℕ) (r : Built) → Builds h t v cap columns rows h′ t′ v′ r
+    pub build-ends : (columns rows mode : ℕ) (r : Built) → Builds h t v cap columns rows mode h′ t′ v′ r
         → T (among (0 ∷ 1 ∷ 2 ∷ 11 ∷ []) (r .refusal)) × (r .refusal ≢ 0 → (r .used ≡ 0) × (h′ ≡ h) × (t′ ≡ t) × (v′ ≡ v))
-    build-ends columns rows r b =
+    build-ends columns rows mode r b =
         let l = lentOf h t v in
-        let g = rectangle columns rows in
+        let g = asked columns rows mode in
         let why : r .refusal ≡ buildCall cap l g .why = ap (λ (x : Call.Built). x .why) (b .is) in (
           subst (λ (n : ℕ). T (among (0 ∷ 1 ∷ 2 ∷ 11 ∷ []) n)) (sym why) (build-answers cap l g),
           λ refused.
@@ -153,21 +152,21 @@ unfolding afterCalls
 served-calls cap none-more = refl
 served-calls cap (one-more {ts = ts} b s) = served-calls cap s ∙ ap (λ (r : Call.Taped). afterCalls cap (r .lent) ts) (b .is)
 
-pub demand-3 : {h h₀ h′ : Header} {t t₀ t′ : List ℤ} {v v₀ v′ : List Float} (cap columns rows : ℕ) (r : Built) (ts : List (List ℕ))
-    → Builds h t v cap columns rows h₀ t₀ v₀ r → r .refusal ≡ 0 → Served cap h₀ t₀ v₀ ts h′ t′ v′
-    → let s₀ = built (rectangle columns rows) cap in
-    (lentOf h′ t′ v′ ≡ picture (after s₀ ts)) × Demand3 (rectangle columns rows) (deeds s₀ ts) (after s₀ ts)
-demand-3 {h} {t = t} {v = v} cap columns rows r ts b ok s =
-    let g = rectangle columns rows in
+pub demand-3 : {h h₀ h′ : Header} {t t₀ t′ : List ℤ} {v v₀ v′ : List Float} (cap columns rows mode : ℕ) (r : Built) (ts : List (List ℕ))
+    → Builds h t v cap columns rows mode h₀ t₀ v₀ r → r .refusal ≡ 0 → Served cap h₀ t₀ v₀ ts h′ t′ v′
+    → let s₀ = built (asked columns rows mode) cap in
+    (lentOf h′ t′ v′ ≡ picture (after s₀ ts)) × Demand3 (asked columns rows mode) (deeds s₀ ts) (after s₀ ts)
+demand-3 {h} {t = t} {v = v} cap columns rows mode r ts b ok s =
+    let g = asked columns rows mode in
     let l = lentOf h t v in
     let (is, d) = laws.demand-3 cap l g (ap (λ (x : Call.Built). x .why) (sym (b .is)) ∙ ok) ts in
     (served-calls cap s ∙ ap (λ (x : Call.Built). afterCalls cap (x .lent) ts) (b .is) ∙ is, d)
 
 -- "accepted, a build returns the number in use": ghosts plus distinct corner points of the full rectangle, and nothing else
-pub build-counts : {h h′ : Header} {t t′ : List ℤ} {v v′ : List Float} (cap columns rows : ℕ) (r : Built) → Builds h t v cap columns rows h′ t′ v′ r → r .refusal ≡ 0
-    → r .used ≡ total (rectangle columns rows) (full (rectangle columns rows))
-build-counts {h} {t = t} {v = v} cap columns rows r b ok =
-    ap (λ (x : Call.Built). x .in-use) (b .is) ∙ laws.build-counts cap (lentOf h t v) (rectangle columns rows) (ap (λ (x : Call.Built). x .why) (sym (b .is)) ∙ ok)
+pub build-counts : {h h′ : Header} {t t′ : List ℤ} {v v′ : List Float} (cap columns rows mode : ℕ) (r : Built) → Builds h t v cap columns rows mode h′ t′ v′ r → r .refusal ≡ 0
+    → r .used ≡ total (asked columns rows mode) (full (asked columns rows mode))
+build-counts {h} {t = t} {v = v} cap columns rows mode r b ok =
+    ap (λ (x : Call.Built). x .in-use) (b .is) ∙ laws.build-counts cap (lentOf h t v) (asked columns rows mode) (ap (λ (x : Call.Built). x .why) (sym (b .is)) ∙ ok)
 
 -- ---- 02, No. 2: "the first leaf found is the answer, 19 if none"
 

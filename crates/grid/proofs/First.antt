@@ -1,12 +1,12 @@
 -- The first checks of a call: where one refuses, the call's own do not matter; where none does, the lists have their lengths.
 -- Assumes nothing.
-use Prim.Native.Nat.{ℕ, _+_, _*_, _≤_}
+use Prim.Native.Nat.{ℕ, _+_, _*_, _/_, _≤_}
 use native.Mathlib.Omega.{arith}
 use mathlib.Core.Path.{_≡_, sym, ap, _∙_}
 use mathlib.Core.Logic.{_≢_}
-use mathlib.Core.Bool.{not}
+use mathlib.Core.Bool.{Bool, true, false, not, _&&_}
 use mathlib.Core.List.{List, _∷_, _++_}
-use lib.Dec.{eqb}
+use lib.Dec.{eqb, leb, leb→le, le→leb}
 use lib.ListN.{length}
 use borrow.Author.Tests.{eqb-true, eq-eqb, not-false}
 use Rattle.mesh.specs.Picture.{rowWords, Sound}
@@ -15,20 +15,20 @@ use Rattle.mesh.specs.Tape.{Run, run}
 use Rattle.mesh.specs.Refusal.{Check, refusal}
 use Rattle.mesh.specs.State.{blank}
 use Rattle.mesh.specs.Scan.{scanChecks}
-use Rattle.mesh.specs.Lookup.{lookupChecks}
+use Rattle.mesh.specs.Lookup.{beyond, lookupChecks}
 use Rattle.mesh.specs.Call.{Lent, picture, stateOf, outside, no1, lentChecks, checkCall, Taped, tapeCall, Wrote, Found, scanCall, lookupCall, pageCall}
 use Rattle.geometry.proofs.Ranges.{within-outside, outside-within}
-use Rattle.geometry.proofs.Base.{base-range}
+use Rattle.geometry.proofs.Base.{Rectangle, fits-range, range-fits, base-range}
 use lib.IntN.{ℤ}
 use Rattle.walk.specs.Plain.{Plain}
 use Rattle.walk.specs.Calls.{Few, rowScanOut, rowLookupOut}
 use Rattle.calling.proofs.Scanned.{scan-call, few-lent, plain-lent}
 use Rattle.calling.proofs.Looked.{lookup-call}
-use Rattle.mesh.specs.Place.{base}
+use Rattle.mesh.specs.Place.{Grid, isRing, base}
 use Rattle.page.specs.Rows.{leavesFrom, rowOut}
 use Rattle.calling.proofs.Paged.{page-call, page-few}
 use Rattle.mesh.specs.Page.{pageChecks}
-use Rattle.geometry.proofs.Bools.{neither, yes-is, is-yes}
+use Rattle.geometry.proofs.Bools.{bool-ext, neither, yes-is, is-yes}
 use Rattle.numbering.proofs.Checks.{passes, kept}
 use Rattle.laws.proofs.Refusals.{unless-refused, unless-accepted}
 use Rattle.pictures.proofs.Soundness.{sound-test, test-sound}
@@ -46,8 +46,7 @@ pub record Sizes (cap : ℕ) (l : Lent) : Type 0 where
   pub values : length (l .values) ≡ cap + 1
   pub low : 5 ≤ cap
   pub high : cap ≤ 4095
-  pub columns : (1 ≤ l .header .grid .columns) × (l .header .grid .columns ≤ 32)
-  pub rows : (1 ≤ l .header .grid .rows) × (l .header .grid .rows ≤ 32)
+  pub rectangle : Rectangle (l .header .grid)
 
 pub sizes : (cap : ℕ) (l : Lent) → checkCall cap l ≡ 0 → Sizes cap l
 unfolding checkCall lentChecks
@@ -57,15 +56,13 @@ sizes cap l h =
     let (_, r) = neither (not (eqb (length (l .words)) (rowWords * (cap + 1)))) _ a₁ in
     let (_, c) = neither (not (eqb (length (l .values)) (cap + 1))) (outside 5 4095 cap) r in
     let (words, values) = lengths cap l _ h in
-    let (d, e) = neither (outside 1 32 (l .header .grid .columns)) (outside 1 32 (l .header .grid .rows)) a₂ in
     let (low, high) = outside-within 5 4095 cap c in
     record {
       words = words;
       values = values;
       low = low;
       high = high;
-      columns = outside-within 1 32 (l .header .grid .columns) d;
-      rows = outside-within 1 32 (l .header .grid .rows) e;
+      rectangle = fits-range (l .header .grid) a₂;
     }
 
 -- the checker's yes, both ways
@@ -84,8 +81,7 @@ sound-check cap l s o =
       eq-eqb (length (l .words)) (rowWords * (cap + 1)) (s .words),
       eq-eqb (length (l .values)) (cap + 1) (s .values),
       within-outside 5 4095 cap (s .low) (s .high),
-      within-outside 1 32 (l .header .grid .columns) (s .columns .0) (s .columns .1),
-      within-outside 1 32 (l .header .grid .rows) (s .rows .0) (s .rows .1),
+      range-fits (l .header .grid) (s .rectangle),
       yes-is (sound (l .header) (l .words) (l .values)) (sound-test (l .header) (l .words) (l .values) o),
     )
 
@@ -117,7 +113,7 @@ module _ (cap : ℕ) (l : Lent) (r : ℕ) (is : r ≡ checkCall cap l) (some : r
 
 -- the depth of level 0, where they let a call through
 pub shallow : (cap : ℕ) (l : Lent) → Sizes cap l → base (l .header .grid) ≤ 6
-shallow cap l s = base-range (l .header .grid) (s .columns .0, s .columns .1, s .rows .0, s .rows .1) .1
+shallow cap l s = base-range (l .header .grid) (s .rectangle) .1
 
 -- a scan and a lookup that they let through; the levels are passed on as words
 pub scan-done : (cap : ℕ) (l : Lent) (n : ℕ) (o : List ℕ) (k : ℕ) {from to from′ to′ : ℤ} (out : List ℕ) (d : ℕ) (w : Wrote) → checkCall cap l ≡ 0 → d ≡ base (l .header .grid)
@@ -137,10 +133,25 @@ pub lent-few : (cap : ℕ) (l : Lent) (n : ℕ) (o : List ℕ) (k : ℕ) {from t
 unfolding checkCall
 lent-few cap l n o k {from} {to} {from′} {to′} d ok e f g = rw (e, f, g) (few-lent n o k from to cap l ok)
 
-pub lookup-done : (cap : ℕ) (l : Lent) (x y : ℕ) (d : ℕ) (w : Found) → checkCall cap l ≡ 0 → d ≡ base (l .header .grid)
-    → w ≡ rowLookupOut (l .words) (l .values) cap d x y → w ≡ lookupCall cap l x y
-unfolding checkCall
-lookup-done cap l x y d w ok e h = h ∙ ap (λ (d : ℕ). rowLookupOut (l .words) (l .values) cap d x y) e ∙ sym (lookup-call x y cap l ok)
+module _ (cap : ℕ) (l : Lent) (x y : ℕ) (ok : checkCall cap l ≡ 0) where
+  -- past the last row of a ring
+  pub lookup-beyond : beyond (l .header .grid) y ≡ true → record { why = 19; leaf = 0; value = blank } ≡ lookupCall cap l x y
+  unfolding checkCall
+  lookup-beyond b = sym (lookup-call x y cap l ok ∙ rw b)
+
+  pub lookup-done : (d : ℕ) (w : Found) → beyond (l .header .grid) y ≡ false → d ≡ base (l .header .grid) → w ≡ rowLookupOut (l .words) (l .values) cap d x y → w ≡ lookupCall cap l x y
+  unfolding checkCall
+  lookup-done d w b e h = h ∙ ap (λ (d : ℕ). rowLookupOut (l .words) (l .values) cap d x y) e ∙ sym (lookup-call x y cap l ok ∙ rw b)
+
+-- as a load is asked for, by rows of level 0
+pub beyond-is : (g : Grid) (y : ℕ) {b : Bool} → b ≡ isRing g → (b && leb (g .rows) (y / 4096)) ≡ beyond g y
+beyond-is g y e = rw e (ap (λ (c : Bool). isRing g && c) (bool-ext (leb (g .rows) (y / 4096)) (leb (g .rows * 4096) y) (λ t. le→leb _ _ (low (leb→le _ _ t))) (λ t. le→leb _ _ (high (leb→le _ _ t)))))
+  where
+    low : g .rows ≤ y / 4096 → g .rows * 4096 ≤ y
+    low h = omega arith
+
+    high : g .rows * 4096 ≤ y → g .rows ≤ y / 4096
+    high h = omega arith
 
 -- a page call that they let through
 pub page-listed : (cap : ℕ) (l : Lent) (d : ℕ) → checkCall cap l ≡ 0 → cap ≤ 4095 → d ≡ base (l .header .grid) → length (leavesFrom (l .words) cap (d + 12) 1) ≤ 4096

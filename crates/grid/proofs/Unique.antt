@@ -40,7 +40,7 @@ use Rattle.grid.specs.Calls.{wroteOf, Builds, Tapes}
 module _ (h h′ : Header) (t t′ : List ℤ) (v v′ : List Float) where
   pub lent-same : lentOf h t v ≡ lentOf h′ t′ v′ → (h ≡ h′) × (t ≡ t′) × (v ≡ v′)
   lent-same e =
-      let x : h ≡ h′ = λ i. record { columns = e i .header .grid .columns; rows = e i .header .grid .rows; mark = e i .header .mark } in
+      let x : h ≡ h′ = λ i. record { columns = e i .header .grid .columns; rows = e i .header .grid .rows; mode = e i .header .grid .mode; mark = e i .header .mark } in
       (x, (λ i. e i .words), λ i. e i .values)
 
 -- ---- scan and page
@@ -73,7 +73,7 @@ found-unique r s a b =
 -- ---- build and tape
 
 module _ {h : Header} {t : List ℤ} {v : List Float} {cap : ℕ} (h₁ h₂ : Header) (t₁ t₂ : List ℤ) (v₁ v₂ : List Float) where
-  pub build-unique : {columns rows : ℕ} (r s : Built) → Builds h t v cap columns rows h₁ t₁ v₁ r → Builds h t v cap columns rows h₂ t₂ v₂ s → (r ≡ s) × (h₁ ≡ h₂) × (t₁ ≡ t₂) × (v₁ ≡ v₂)
+  pub build-unique : {columns rows mode : ℕ} (r s : Built) → Builds h t v cap columns rows mode h₁ t₁ v₁ r → Builds h t v cap columns rows mode h₂ t₂ v₂ s → (r ≡ s) × (h₁ ≡ h₂) × (t₁ ≡ t₂) × (v₁ ≡ v₂)
   build-unique r s a b =
       let e = a .is ∙ sym (b .is) in
       let x : r ≡ s = λ i. record { refusal = e i .why; used = e i .in-use } in
@@ -104,9 +104,9 @@ module _ (h : Header) (t : RefT (List ℤ)) (v : RefT (List Float)) (cap : ℕ) 
       pub lookup-once : (r s : Found) → LookupAllows r → LookupAllows s → r ≡ s
       lookup-once r s p q = found-unique r s p q
 
-    module _ (columns rows : ℕ) where
+    module _ (columns rows mode : ℕ) where
       abbrev BuildAllows : BuildOut → List ℤ → List Float → Type 0
-      BuildAllows r t′ v′ = build-core.Post κs (h, (t, (v, (cap, (columns, (rows, tt)))))) r (h, (at-last t t′, (at-last v v′, (cap, (columns, (rows, tt))))))
+      BuildAllows r t′ v′ = build-core.Post κs (h, (t, (v, (cap, (columns, (rows, (mode, tt))))))) r (h, (at-last t t′, (at-last v v′, (cap, (columns, (rows, (mode, tt)))))))
 
       pub build-once : (r s : BuildOut) (t₁ t₂ : List ℤ) (v₁ v₂ : List Float) → BuildAllows r t₁ v₁ → BuildAllows s t₂ v₂
           → (r .answer ≡ s .answer) × (r .header ≡ s .header) × (t₁ ≡ t₂) × (v₁ ≡ v₂)
@@ -144,13 +144,13 @@ pub both-told : (w : World) (P : Pr w) (F G : Type 0) {D : Type 0} → (F → G 
 both-told w P F G {D} k p q = fact-use (w .𝓤) F p (λ x. fact-use (w .𝓤) G q (λ y. factI (w .𝓤) D P (k x y)))
 
 module _ (w : World) (h : RefT Header) (t : RefT (List ℤ)) (v : RefT (List Float)) (cap : ℕ) where
-  module _ (κs : Lfts 3) (columns rows : ℕ) where
+  module _ (κs : Lfts 3) (columns rows mode : ℕ) where
     abbrev BuildSays : Built → Header → List ℤ → List Float → Pr w
     BuildSays r h′ t′ v′ =
-        build.clauses (w .𝓤) (w .H) (w .𝓖 .A) (w .𝓜 .mem) (w .𝓡 .run) κs (h, (t, (v, (cap, (columns, (rows, tt)))))) .ensures tt r (at-last h h′, (at-last t t′, (at-last v v′, (cap, (columns, (rows, tt))))))
+        build.clauses (w .𝓤) (w .H) (w .𝓖 .A) (w .𝓜 .mem) (w .𝓡 .run) κs (h, (t, (v, (cap, (columns, (rows, (mode, tt))))))) .ensures tt r (at-last h h′, (at-last t t′, (at-last v v′, (cap, (columns, (rows, (mode, tt)))))))
 
-    pub build-says : (r : Built) → build.spec (w .𝓤) (w .H) (w .𝓖 .A) (w .𝓜 .mem) (w .𝓡 .run) κs (h, (t, (v, (cap, (columns, (rows, tt)))))) .ensures tt r
-        ≡ exits (w .𝓤) (w .H) (w .𝓖 .A) build.signature (build.ended .kept) κs (h, (t, (v, (cap, (columns, (rows, tt)))))) (λ e. fact (w .𝓤) (Builds (h .now) (t .now) (v .now) cap columns rows (e .0 .now) (e .1 .0 .now) (e .1 .1 .0 .now) r))
+    pub build-says : (r : Built) → build.spec (w .𝓤) (w .H) (w .𝓖 .A) (w .𝓜 .mem) (w .𝓡 .run) κs (h, (t, (v, (cap, (columns, (rows, (mode, tt))))))) .ensures tt r
+        ≡ exits (w .𝓤) (w .H) (w .𝓖 .A) build.signature (build.ended .kept) κs (h, (t, (v, (cap, (columns, (rows, (mode, tt))))))) (λ e. fact (w .𝓤) (Builds (h .now) (t .now) (v .now) cap columns rows mode (e .0 .now) (e .1 .0 .now) (e .1 .1 .0 .now) r))
     build-says r = refl
 
     pub build-entry-once : (P : Pr w) (r s : Built) (h₁ h₂ : Header) (t₁ t₂ : List ℤ) (v₁ v₂ : List Float) → ent (w .𝓤) P (BuildSays r h₁ t₁ v₁) → ent (w .𝓤) P (BuildSays s h₂ t₂ v₂)

@@ -5,7 +5,7 @@ use mathlib.Core.Path.{_≡_}
 use mathlib.Core.List.{List}
 use lib.IntN.{ℤ}
 use lib.Ieee.{Float}
-use Rattle.mesh.specs.Place.{rectangle}
+use Rattle.mesh.specs.Place.{Grid}
 use Rattle.mesh.specs.State as State
 use Rattle.mesh.specs.Call as Call
 use Rattle.mesh.specs.Headers.{lentOf}
@@ -27,9 +27,13 @@ lists h t v = record { header = h; words = t; values = v }
 abbrev pub builtOf : Built → Header → List ℤ → List Float → Call.Built
 builtOf r h t v = record { why = r .refusal; in-use = r .used; lent = lentOf h t v }
 
--- what a build may do: the header, the lists, the capacity, columns and rows at entry; the header, the lists and the answer at exit
-pub record Builds (h : Header) (t : List ℤ) (v : List Float) (cap columns rows : ℕ) (h′ : Header) (t′ : List ℤ) (v′ : List Float) (r : Built) : Type 0 where
-  pub is : builtOf r h′ t′ v′ ≡ Call.buildCall cap (lentOf h t v) (rectangle columns rows)
+-- the grid that it is asked for
+abbrev pub asked : ℕ → ℕ → ℕ → Grid
+asked columns rows mode = record { columns = columns; rows = rows; mode = mode }
+
+-- what a build may do: the header, the lists, the capacity, columns, rows and mode at entry; the header, the lists and the answer at exit
+pub record Builds (h : Header) (t : List ℤ) (v : List Float) (cap columns rows mode : ℕ) (h′ : Header) (t′ : List ℤ) (v′ : List Float) (r : Built) : Type 0 where
+  pub is : builtOf r h′ t′ v′ ≡ Call.buildCall cap (lentOf h t v) (asked columns rows mode)
 
 -- ---- tape
 

@@ -3,12 +3,15 @@ ghost use mathlib.Core.Path.{_≡_};
 ghost use Prim.Native.Nat.{_<_};
 ghost use Rattle.mesh.specs.State as State;
 ghost use Rattle.mesh.specs.Refusal.{refusal};
+ghost use Rattle.mesh.specs.Lookup as Lookup;
 ghost use Rattle.mesh.specs.Call.{checkCall, scanCall, lookupCall, pageCall, buildChecks};
 ghost use Rattle.mesh.specs.Headers.{headerOf, lentOf};
 ghost use Rattle.walk.specs.Calls.{foundOf};
 ghost use Rattle.grid.specs.Calls.{lists, wroteOf, Builds, Tapes};
 use mesh::header::Header;
 use mesh::header::fresh;
+use mesh::header::is_ring;
+use mesh::header::misfit;
 use mesh::header::with_mark;
 use table::words::ROW_WORDS;
 use walk::calls::Found;
@@ -75,6 +78,13 @@ pub fn scan(
     }
 }
 
+// Whether a load, in 1/4096 of a level-0 cell, lies past the last row of a ring.
+fn beyond(header: Header, load: u32) -> bool
+    ensures { λ r. ⌜ r ≡ Lookup.beyond (headerOf header .grid) load ⌝ }
+{
+    is_ring(header) & (header.rows <= load / 4096)
+}
+
 // The leaf that holds a point, given in 1/4096 of a level-0 cell, and its value.
 pub fn lookup(header: Header, table: &[i32], values: &[f64], capacity: u32, x: u32, y: u32) -> Found
     ensures { λ r. ⌜ foundOf r ≡ lookupCall capacity (lentOf header (now (table .entry)) (now (values .entry))) x y ⌝ }
@@ -83,6 +93,13 @@ pub fn lookup(header: Header, table: &[i32], values: &[f64], capacity: u32, x: u
     if refusal != 0 {
         return Found {
             why: refusal,
+            leaf: 0,
+            reading: Reading::Blank,
+        };
+    }
+    if beyond(header, y) {
+        return Found {
+            why: 19,
             leaf: 0,
             reading: Reading::Blank,
         };
@@ -124,16 +141,7 @@ fn build_refusal(table: &[i32], values: &[f64], capacity: u32, header: Header) -
     if values.len() != cap + 1 {
         return 1;
     }
-    if header.columns < 1 {
-        return 2;
-    }
-    if 32 < header.columns {
-        return 2;
-    }
-    if header.rows < 1 {
-        return 2;
-    }
-    if 32 < header.rows {
+    if misfit(header) {
         return 2;
     }
     let d = mesh::ground_depth(header);
@@ -151,10 +159,11 @@ pub fn build_core(
     capacity: u32,
     columns: u32,
     rows: u32,
+    mode: u32,
 ) -> BuildOut
-    ensures { λ r. ⌜ Builds header (now (table .entry)) (now (values .entry)) capacity columns rows (r .header) (now (table .exit)) (now (values .exit)) (r .answer) ⌝ }
+    ensures { λ r. ⌜ Builds header (now (table .entry)) (now (values .entry)) capacity columns rows mode (r .header) (now (table .exit)) (now (values .exit)) (r .answer) ⌝ }
 {
-    let new = fresh(columns, rows);
+    let new = fresh(columns, rows, mode);
     let refusal = build_refusal(table, values, capacity, new);
     if refusal != 0 {
         return BuildOut {
@@ -223,7 +232,7 @@ pub fn tape_core(
     }
 }
 
-// Builds the rectangle of level-0 cells: the header, all rows and all values.
+// Builds the rectangle of level-0 cells, open or closed to a ring: the header, all rows and all values.
 pub fn build(
     header: &mut Header,
     table: &mut [i32],
@@ -231,10 +240,11 @@ pub fn build(
     capacity: u32,
     columns: u32,
     rows: u32,
+    mode: u32,
 ) -> Built
-    ensures { λ r. ⌜ Builds (now (header .entry)) (now (table .entry)) (now (values .entry)) capacity columns rows (now (header .exit)) (now (table .exit)) (now (values .exit)) r ⌝ }
+    ensures { λ r. ⌜ Builds (now (header .entry)) (now (table .entry)) (now (values .entry)) capacity columns rows mode (now (header .exit)) (now (table .exit)) (now (values .exit)) r ⌝ }
 {
-    let out = build_core(*header, table, values, capacity, columns, rows);
+    let out = build_core(*header, table, values, capacity, columns, rows, mode);
     *header = out.header;
     out.answer
 }

@@ -2,21 +2,22 @@
 -- Assumes nothing.
 use Prim.Native.Nat.{ℕ, zero, suc, _/_, _<_}
 use native.Mathlib.Omega.{arith}
-use mathlib.Core.Path.{_≡_, sym, ap}
+use mathlib.Core.Path.{_≡_, sym, ap, _∙_}
 use mathlib.Core.Logic.{_↔_}
 use mathlib.Core.Option.{none, some, Option·none-ne-some, Option·some-injective}
 use lib.ListN.{getD}
-use Rattle.mesh.specs.Place.{Place, Grid, Wind, NE, SE, SW, NW, at, compass, toNorth, toEast, toSouth, toWest, step, kid, parent, around}
+use Rattle.mesh.specs.Place.{Place, Grid, Wind, NE, SE, SW, NW, at, compass, lap, rowAfter, toNorth, toEast, toSouth, toWest, step, kid, parent, around}
 use Rattle.mesh.proofs.Winds.{rule}
+use Rattle.geometry.proofs.Laps.{Below, after-modulo}
 use Rattle.geometry.proofs.Places.{place-path, south-north, west-east, north-south, east-west}
 use Rattle.geometry.proofs.Kids.{up, parent-up, parent-depth, up-depth, up-is, parent-kid}
 use Rattle.laws.specs.Adjacent.{NorthOf, EastOf, KidOf, KidAt, Adjacent}
 
-north-is : (g : Grid) (p q : Place) → (toNorth g p ≡ q) ↔ NorthOf g q p
+north-is : (g : Grid) (p q : Place) → Below g p → (toNorth g p ≡ q) ↔ NorthOf g q p
 unfolding toNorth
-north-is g p q = (
-  λ e. (ap (λ (x : Place). x .depth) (sym e), ap (λ (x : Place). x .col) (sym e), let h : suc (p .row) ≡ q .row = ap (λ (x : Place). x .row) e in omega arith),
-  λ (d, c, r). place-path (at (p .depth) (p .col) (suc (p .row))) q (sym d) (sym c) (omega arith),
+north-is g p q b = (
+  λ e. (ap (λ (x : Place). x .depth) (sym e), ap (λ (x : Place). x .col) (sym e), ap (λ (x : Place). x .row) (sym e) ∙ after-modulo (lap g (p .depth)) (p .row) b),
+  λ (d, c, r). place-path (at (p .depth) (p .col) (rowAfter (lap g (p .depth)) (p .row))) q (sym d) (sym c) (after-modulo (lap g (p .depth)) (p .row) b ∙ sym r),
 )
 
 east-is : (g : Grid) (p q : Place) → (toEast g p ≡ q) ↔ EastOf g q p
@@ -27,10 +28,10 @@ east-is g p q = (
 )
 
 -- south and west lead back
-south-is : (g : Grid) (p q : Place) → (toSouth g p ≡ some q) ↔ NorthOf g p q
-south-is g p q = (
-  λ e. north-is g q p .0 (south-north g p q e),
-  λ h. rw (← north-is g q p .1 h) (north-south g q),
+south-is : (g : Grid) (p q : Place) → Below g q → (toSouth g p ≡ some q) ↔ NorthOf g p q
+south-is g p q b = (
+  λ e. north-is g q p b .0 (south-north g p q e),
+  λ h. rw (← north-is g q p b .1 h) (north-south g q),
 )
 
 west-is : (g : Grid) (p q : Place) → (toWest g p ≡ some q) ↔ EastOf g p q
@@ -56,15 +57,16 @@ kid-is w p q = (
 of-some : {p q : Place} {A : Type 0} → (p ≡ q) ↔ A → (some p ≡ some q) ↔ A
 of-some h = (λ e. h .0 (Option·some-injective _ _ e), λ a. ap some (h .1 a))
 
-pub around-adjacent : (g : Grid) (w : ℕ) (p q : Place) → (getD (around g (some p)) w none ≡ some q) ↔ Adjacent g w p q
+-- between rows that a level has
+pub around-adjacent : (g : Grid) (w : ℕ) (p q : Place) → Below g p → Below g q → (getD (around g (some p)) w none ≡ some q) ↔ Adjacent g w p q
 unfolding around step
-around-adjacent g zero p q = parent-is p q
-around-adjacent g (suc zero) p q = of-some (kid-is NE p q)
-around-adjacent g (suc (suc zero)) p q = of-some (kid-is SE p q)
-around-adjacent g (suc (suc (suc zero))) p q = of-some (kid-is SW p q)
-around-adjacent g (suc (suc (suc (suc zero)))) p q = of-some (kid-is NW p q)
-around-adjacent g (suc (suc (suc (suc (suc zero))))) p q = of-some (north-is g p q)
-around-adjacent g (suc (suc (suc (suc (suc (suc zero)))))) p q = of-some (east-is g p q)
-around-adjacent g (suc (suc (suc (suc (suc (suc (suc zero))))))) p q = south-is g p q
-around-adjacent g (suc (suc (suc (suc (suc (suc (suc (suc zero)))))))) p q = west-is g p q
-around-adjacent g (suc (suc (suc (suc (suc (suc (suc (suc (suc w))))))))) p q = (λ e. absurd (Option·none-ne-some _ e), λ a. absurd a)
+around-adjacent g zero p q a b = parent-is p q
+around-adjacent g (suc zero) p q a b = of-some (kid-is NE p q)
+around-adjacent g (suc (suc zero)) p q a b = of-some (kid-is SE p q)
+around-adjacent g (suc (suc (suc zero))) p q a b = of-some (kid-is SW p q)
+around-adjacent g (suc (suc (suc (suc zero)))) p q a b = of-some (kid-is NW p q)
+around-adjacent g (suc (suc (suc (suc (suc zero))))) p q a b = of-some (north-is g p q a)
+around-adjacent g (suc (suc (suc (suc (suc (suc zero)))))) p q a b = of-some (east-is g p q)
+around-adjacent g (suc (suc (suc (suc (suc (suc (suc zero))))))) p q a b = south-is g p q b
+around-adjacent g (suc (suc (suc (suc (suc (suc (suc (suc zero)))))))) p q a b = west-is g p q
+around-adjacent g (suc (suc (suc (suc (suc (suc (suc (suc (suc w))))))))) p q a b = (λ e. absurd (Option·none-ne-some _ e), λ n. absurd n)

@@ -21,7 +21,7 @@ use Rattle.mesh.specs.Tape.{run}
 use Rattle.mesh.specs.Call.{Lent, picture, stateOf, outside, lentChecks, checkCall, buildChecks, Taped, tapeCall}
 use Rattle.geometry.proofs.Bools.{yes-is, neither}
 use Rattle.geometry.proofs.Ranges.{within-outside, outside-within}
-use Rattle.geometry.proofs.Base.{Rectangle}
+use Rattle.geometry.proofs.Base.{Rectangle, fits-range, range-fits}
 use Rattle.numbering.proofs.Checks.{passes}
 use Rattle.numbering.proofs.Building.{built-valid, built-capacity}
 use Rattle.pictures.proofs.Rows.{table-length, amounts-length}
@@ -49,8 +49,7 @@ module _ (s : State) (v : Valid s) where
         eq-eqb (length (table s)) (rowWords * (capacity s + 1)) (sizes-fit .0),
         eq-eqb (length (amounts s)) (capacity s + 1) (sizes-fit .1),
         within-outside 5 4095 (capacity s) (v .sizes .0) (v .sizes .1),
-        within-outside 1 32 (gridOf s .columns) (v .rectangle .0) (v .rectangle .1),
-        within-outside 1 32 (gridOf s .rows) (v .rectangle .2) (v .rectangle .3),
+        range-fits (gridOf s) (v .rectangle),
         yes-is (sound (s .header) (table s) (amounts s)) (sound-test (s .header) (table s) (amounts s) (picture-sound v)),
       )
 
@@ -84,10 +83,7 @@ build-checked cap l g ok =
     let (a₂, h₂) = passes 2 _ _ (λ z. omega arith) h₁ in
     let (a₃, h₃) = passes 11 _ _ (λ z. omega arith) h₂ in
     let (b, c) = neither (not (eqb (length (l .values)) (cap + 1))) (outside 5 4095 cap) (neither (not (eqb (length (l .words)) (rowWords * (cap + 1)))) _ a₁ .1) in
-    let (d, e) = neither (outside 1 32 (g .columns)) (outside 1 32 (g .rows)) a₂ in
-    let (p, q) = outside-within 1 32 (g .columns) d in
-    let (u, w) = outside-within 1 32 (g .rows) e in
-    record { sizes = outside-within 5 4095 cap c; rectangle = (p, q, u, w); room = ltb-false cap (length (numbered g)) a₃ }
+    record { sizes = outside-within 5 4095 cap c; rectangle = fits-range g a₂; room = ltb-false cap (length (numbered g)) a₃ }
 
 pub build-valid : (cap : ℕ) (g : Grid) → Buildable cap g → Valid (built g cap) × (capacity (built g cap) ≡ cap)
 build-valid cap g b = (built-valid g cap (b .rectangle) (b .sizes .0) (b .sizes .1) (b .room), built-capacity g cap (b .room))

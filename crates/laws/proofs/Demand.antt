@@ -3,14 +3,17 @@
 use Prim.Native.Nat.{ℕ, _-_}
 use mathlib.Core.Path.{_≡_, refl, sym, ap, _∙_, subst, fun-ext}
 use mathlib.Core.Logic.{Iff·trans}
+use mathlib.Core.Option.{some}
 use mathlib.Core.List.{List}
-use Rattle.mesh.specs.Place.{Grid}
-use Rattle.mesh.specs.State.{State, inUse, gridOf, capacity}
+use Rattle.mesh.specs.Place.{Place, Grid}
+use Rattle.mesh.specs.State.{State, placeOf, entry, cells, inUse, gridOf, capacity}
 use Rattle.mesh.specs.Valid.{Valid}
 use Rattle.mesh.specs.Refusal.{refusal}
 use Rattle.mesh.specs.Request.{Request, accepted, request}
 use Rattle.mesh.specs.Build.{full, built}
 use Rattle.mesh.specs.Call.{Lent, picture, Built, buildChecks, buildCall}
+use Rattle.geometry.proofs.Laps.{Below}
+use Rattle.geometry.proofs.Base.{patch-below}
 use Rattle.geometry.proofs.Tiling.{tiling-one}
 use Rattle.numbering.proofs.Building.{built-contents, built-cells}
 use Rattle.pictures.proofs.Links.{link-place, links-return, parent-kid-return}
@@ -41,7 +44,7 @@ demanded g cap b ds s l even = record {
   by-set-rules = l .by-rules ∙ ap (setRules ds) (fun-ext (built-contents g cap (b .rectangle)));
   first-numbers = built-numbers g (capacity s);
   numbers = subst (λ (c : ℕ). History (built g c) ds s) (sym (build-valid cap g b .1) ∙ ap (λ (n : ℕ). n - 1) (sym (l .same-length))) (l .history);
-  linked = λ n m w p q h a b. Iff·trans (link-place s (l .valid) n m w p q h a b) (around-adjacent (gridOf s) w p q);
+  linked = λ n m w p q h a b. Iff·trans (link-place s (l .valid) n m w p q h a b) (around-adjacent (gridOf s) w p q (below n p a) (below m q b));
   returned = links-return s (l .valid);
   parents = parent-kid-return s (l .valid);
   tiled = λ u v t. leaf-at-some (l .valid) u v t;
@@ -51,6 +54,9 @@ demanded g cap b ds s l even = record {
   counted = in-use-counts (l .valid);
   no-jump = even-no-jump s (l .valid) even;
 }
+  where
+    below : (n : ℕ) (p : Place) → placeOf (entry (s .entries) n) ≡ some p → Below (gridOf s) p
+    below n p h = patch-below (gridOf s) (cells (s .entries)) (l .valid .mesh) p (l .valid .each n p h)
 
 -- ---- levels side by side
 

@@ -11,3 +11,4 @@ pub mod Tapes
 pub mod Lasting
 pub mod Calls
 pub mod Demand
+pub mod Rings

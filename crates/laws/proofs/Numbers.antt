@@ -19,6 +19,7 @@ use Rattle.mesh.specs.Request.{refine, wanted, looseChecks, give, newCell, kidC
 use Rattle.geometry.proofs.Bools.{yes-is, is-yes}
 use Rattle.geometry.proofs.Places.{In}
 use Rattle.geometry.proofs.Distinct.{append-distinct}
+use Rattle.geometry.proofs.Base.{lap-many}
 use Rattle.geometry.proofs.Wanted.{wanted-distinct}
 use Rattle.numbering.proofs.Numbers.{valid-numbered, number-place, place-number}
 use Rattle.numbering.proofs.Filling.{fill-number}
@@ -72,7 +73,7 @@ module _ (s : State) (v : Valid s) (n : ℕ) (ok : refusal (looseChecks s (refin
 
     halves : Gave s between xs × Gave between (give between (q ∷ ys)) (q ∷ ys)
     halves =
-        let (a, b, apart) = append-distinct xs (q ∷ ys) (rw e at (wanted-distinct (gridOf s) (placeAt (s .entries) n))) in
+        let (a, b, apart) = append-distinct xs (q ∷ ys) (rw e at (wanted-distinct (gridOf s) (placeAt (s .entries) n) (lap-many (gridOf s) (v .rectangle) (placeAt (s .entries) n .depth)))) in
         let sum = lacking-append (s .entries) xs (q ∷ ys) in
         let fits : lacking (s .entries) (xs ++ q ∷ ys) ≤ freeCount (s .entries) = rw e at room in
         let before = gave xs a s (valid-numbered v) (omega arith) in

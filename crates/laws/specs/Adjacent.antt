@@ -5,11 +5,12 @@ use Prim.Native.Nat.{ℕ, _+_, _/_, _%_}
 use mathlib.Core.Path.{_≡_}
 use mathlib.Core.List.{List, [], _∷_}
 use lib.ListN.{getD}
-use Rattle.mesh.specs.Place.{Place, Grid}
+use Rattle.mesh.specs.Place.{Place, Grid, lap}
 
--- "one step away": q lies one step north of p, one step east of p. These two alone know how the rows and the columns of a level run.
+-- "one step away": q lies one step north of p, one step east of p. These two alone know how the rows and the columns of a level run: in a ring
+-- "row index on level k counts modulo rows × 2^k" (02, No. 4), and modulo 0, where a level has no last row, is not at all.
 abbrev pub NorthOf : Grid → Place → Place → Type 0
-NorthOf g q p = (q .depth ≡ p .depth) × (q .col ≡ p .col) × (q .row ≡ p .row + 1)
+NorthOf g q p = (q .depth ≡ p .depth) × (q .col ≡ p .col) × (q .row ≡ (p .row + 1) % lap g (p .depth))
 
 abbrev pub EastOf : Grid → Place → Place → Type 0
 EastOf g q p = (q .depth ≡ p .depth) × (q .col ≡ p .col + 1) × (q .row ≡ p .row)

@@ -8,7 +8,7 @@ use lib.Dec.{leb, ltb, eqb}
 use lib.ListN.{length, drop}
 use lib.Ieee.{Float}
 use lib.IntN.{ℤ}
-use Rattle.mesh.specs.Place.{Grid}
+use Rattle.mesh.specs.Place.{Grid, isRing}
 use Rattle.mesh.specs.State.{State, Header, Value, blank, valueOf, entry, inUse}
 use Rattle.mesh.specs.Picture.{rowWords, table, amounts}
 use Rattle.mesh.specs.Decode.{decode}
@@ -41,9 +41,12 @@ outside low high n = not (leb low n && leb n high)
 abbrev pub no1 : ℕ → Lent → Check
 no1 cap l = 1 if (not (eqb (length (l .words)) (rowWords * (cap + 1))) || (not (eqb (length (l .values)) (cap + 1)) || outside 5 4095 cap))
 
--- 2: "columns or rows outside 1 to 32"
+-- 2: "columns or rows outside 1 to 32"; "2 also for a mode that is neither, or a ring with fewer than 3 rows"
+abbrev pub misfit : Grid → Bool
+misfit g = outside 1 32 (g .columns) || (outside 1 32 (g .rows) || (ltb 1 (g .mode) || (isRing g && ltb (g .rows) 3)))
+
 abbrev pub no2 : Grid → Check
-no2 g = 2 if (outside 1 32 (g .columns) || outside 1 32 (g .rows))
+no2 g = 2 if misfit g
 
 -- 3: "table, values and header are not sound"
 abbrev pub no3 : Lent → Check

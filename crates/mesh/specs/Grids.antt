@@ -1,4 +1,5 @@
--- The reference grids P1 to P11 and the page of 07 01 01 (01, 'Reference grids'): one list of what the calls' rules give and what 01 says.
+-- The reference grids P1 to P11 and the page of 07 01 01 (01, 'Reference grids'), and those of the change requests: one list of what the calls'
+-- rules give and what is said.
 -- Assumes nothing.
 use Prim.Native.Nat.{ℕ, _+_, _*_, _%_}
 use mathlib.Core.Path.{_≡_}
@@ -10,6 +11,7 @@ use Rattle.mesh.specs.Tools.{keep}
 use Rattle.mesh.specs.Place.{rectangle}
 use Rattle.mesh.specs.State.{inUse, plusZero}
 use Rattle.mesh.specs.Picture.{rowWords}
+use Rattle.mesh.specs.Page.{headLine}
 use Rattle.mesh.specs.Call.{Lent, stateOf, checkCall, Built, buildCall, Taped, tapeCall, scanCall, lookupCall}
 use Rattle.mesh.specs.Program.{program}
 
@@ -25,6 +27,22 @@ build c r cap = buildCall cap (empty cap) (rectangle c r)
 
 abbrev pub tape : ℕ → ℕ → ℕ → List ℕ → Taped
 tape c r cap bytes = tapeCall cap (build c r cap .lent) bytes
+
+-- the same in a ring, or in a mode that is neither
+abbrev inMode : ℕ → ℕ → ℕ → ℕ → Built
+inMode m c r cap = buildCall cap (empty cap) (record { columns = c; rows = r; mode = m })
+
+abbrev ring : ℕ → ℕ → ℕ → Built
+ring c r cap = inMode 1 c r cap
+
+abbrev ringTape : ℕ → ℕ → ℕ → List ℕ → Taped
+ringTape c r cap bytes = tapeCall cap (ring c r cap .lent) bytes
+
+-- what is lent, with the header of another mode
+abbrev withMode : ℕ → Lent → Lent
+withMode m l =
+    let g = l .header .grid in
+    record { header = record { grid = record { columns = g .columns; rows = g .rows; mode = m }; mark = l .header .mark }; words = l .words; values = l .values }
 
 -- the word w of the row n, where no sign is to be seen
 abbrev wordAt : Lent → ℕ → ℕ → ℕ
@@ -99,6 +117,13 @@ refine10 = killed ++ (1 ∷ 0 ∷ 10 ∷ [])
 abbrev refine11 : List ℕ
 refine11 = 1 ∷ 0 ∷ 11 ∷ []
 
+-- in a ring of 1×3 the cell 8 of the last row, the cell 4 of the first, and a kid of 8 beside 4
+abbrev refine8 : List ℕ
+refine8 = 1 ∷ 0 ∷ 8 ∷ []
+
+abbrev refine12 : List ℕ
+refine12 = 1 ∷ 0 ∷ 12 ∷ []
+
 -- both cells refined, then 11; the kids of 6, named and sentenced, and it is to lose them
 abbrev doom6 : List ℕ
 doom6 = refine4 ++ (1 ∷ 0 ∷ 6 ∷ []) ++ refine11 ++ (2 ∷ 0 ∷ 17 ∷ 2 ∷ 0 ∷ 19 ∷ 2 ∷ 0 ∷ 16 ∷ 2 ∷ 0 ∷ 20 ∷ 3 ∷ 0 ∷ 6 ∷ [])
@@ -143,10 +168,10 @@ grids =
     (lookup 14 (build 1 1 14 .lent) 4097 0 is (0, 19)) ∷
     -- the page of 07 01 01
     (program (7 ∷ 1 ∷ 1 ∷ []) is (
-    109 ∷ 97 ∷ 112 ∷ 32 ∷ 49 ∷ 32 ∷ 49 ∷ 32 ∷ 48 ∷ 10 ∷
+    109 ∷ 97 ∷ 112 ∷ 32 ∷ 49 ∷ 32 ∷ 49 ∷ 32 ∷ 48 ∷ 32 ∷ 111 ∷ 112 ∷ 101 ∷ 110 ∷ 10 ∷
     50 ∷ 32 ∷ 48 ∷ 32 ∷ 48 ∷ 32 ∷ 48 ∷ 32 ∷ 110 ∷ 32 ∷
     48 ∷ 48 ∷ 48 ∷ 48 ∷ 48 ∷ 48 ∷ 48 ∷ 48 ∷ 48 ∷ 48 ∷ 48 ∷ 48 ∷ 48 ∷ 48 ∷ 48 ∷ 48 ∷ 10 ∷
-    99 ∷ 101 ∷ 108 ∷ 108 ∷ 115 ∷ 32 ∷ 49 ∷ 32 ∷ 115 ∷ 117 ∷ 109 ∷ 32 ∷ 49 ∷ 56 ∷ 49 ∷ 50 ∷ 10 ∷ [])) ∷
+    99 ∷ 101 ∷ 108 ∷ 108 ∷ 115 ∷ 32 ∷ 49 ∷ 32 ∷ 115 ∷ 117 ∷ 109 ∷ 32 ∷ 50 ∷ 50 ∷ 55 ∷ 56 ∷ 10 ∷ [])) ∷
     -- 'Slips that look right': a scan from level 0 to 0 lists the inner patch at from-level; columns come before rows
     (scanCall 14 (tape 1 1 14 refine2 .lent) 1 (3 ∷ 4 ∷ 2 ∷ 1 ∷ []) 2 (pos 0) (pos 0) (7 ∷ 7 ∷ []) is record { why = 0; count = 1; out = 2 ∷ 7 ∷ [] }) ∷
     (map (λ n. wordAt (build 2 1 20 .lent) 10 n) (4 ∷ 6 ∷ []) is (0 ∷ 1 ∷ [])) ∷
@@ -162,6 +187,42 @@ grids =
     (lookup 14 (tape 2 2 14 (kill 9) .lent) 4097 4097 is (0, 19)) ∷
     (lookup 14 (tape 2 2 14 (kill 7) .lent) 0 4096 is (6, 0)) ∷
     (lookup 14 (build 1 1 14 .lent) 4096 4096 is (2, 0)) ∷
+    -- No. 4: a ring of 1×3. Its numbers: the root, two ghosts, and no patch in a row 3
+    (ring 1 3 12 .in-use is 9) ∷
+    (spotsAt (ring 1 3 12 .lent) (1 ∷ 2 ∷ 3 ∷ 4 ∷ 5 ∷ 6 ∷ 7 ∷ 8 ∷ 9 ∷ []) is
+    ((negsuc 1, 0, 0) ∷ on (negsuc 0) ((0, 0) ∷ (0, 1) ∷ []) ++ on (pos 0) ((0, 0) ∷ (0, 1) ∷ (1, 0) ∷ (1, 1) ∷ (0, 2) ∷ (1, 2) ∷ []))) ∷
+    -- its flags: every wall between two rows is internal
+    (flagsAt (ring 1 3 12 .lent) (4 ∷ 5 ∷ 8 ∷ 6 ∷ 7 ∷ 9 ∷ []) is (111 ∷ 111 ∷ 111 ∷ 44 ∷ 44 ∷ 44 ∷ [])) ∷
+    -- its links over the seam, N (word 5) of the last row and S (word 7) of the first
+    (map (wordAt (ring 1 3 12 .lent) 5) (8 ∷ 9 ∷ []) is (4 ∷ 6 ∷ [])) ∷
+    (map (wordAt (ring 1 3 12 .lent) 7) (4 ∷ 6 ∷ []) is (8 ∷ 9 ∷ [])) ∷
+    -- ghosts link as in the open mode: those of level -1 in a ring of 1×4, 3 and 4, are neighbours on one side
+    (map (wordAt (ring 1 4 16 .lent) 5) (3 ∷ 4 ∷ 10 ∷ []) is (4 ∷ 0 ∷ 5 ∷ [])) ∷
+    (map (wordAt (ring 1 4 16 .lent) 7) (3 ∷ 4 ∷ 5 ∷ []) is (0 ∷ 3 ∷ 10 ∷ [])) ∷
+    -- refine at the seam, from the last row: the patches north of the kids lie in row 0
+    (spotsAt (ringTape 1 3 18 refine8 .lent) (10 ∷ 11 ∷ 12 ∷ 13 ∷ 14 ∷ 15 ∷ 16 ∷ 17 ∷ 18 ∷ []) is
+    on (pos 1) ((0, 4) ∷ (1, 4) ∷ (0, 5) ∷ (1, 5) ∷ (0, 0) ∷ (1, 0) ∷ (2, 5) ∷ (2, 4) ∷ (2, 0) ∷ [])) ∷
+    (flagsAt (ringTape 1 3 18 refine8 .lent) (12 ∷ 14 ∷ []) is (1135 ∷ 394 ∷ [])) ∷
+    -- and from the first row as well: the wall between the two is internal
+    (flagsAt (ringTape 1 3 24 (refine8 ++ refine4) .lent) (12 ∷ 14 ∷ []) is (111 ∷ 111 ∷ [])) ∷
+    (wordAt (ringTape 1 3 24 (refine8 ++ refine4) .lent) 5 12 is 14) ∷
+    (wordAt (ringTape 1 3 24 (refine8 ++ refine4) .lent) 7 14 is 12) ∷
+    -- No. 1 over the seam: 12 lies beside the coarse leaf 4
+    (outcome (ringTape 1 3 30 (refine8 ++ refine12)) is (1, 21, 3)) ∷
+    -- kill at the seam: the wall of the cell across becomes boundary, H of 4 or of 8's place
+    (flagsAt (ringTape 1 3 12 (kill 8) .lent) (4 ∷ 8 ∷ 9 ∷ []) is (127 ∷ 26 ∷ 8 ∷ [])) ∷
+    (flagsAt (ringTape 1 3 12 (kill 4) .lent) (5 ∷ 4 ∷ 8 ∷ []) is (127 ∷ 26 ∷ 111 ∷ [])) ∷
+    -- lookups in the last row, and past it 19 at once, though the leaf 8 ends there
+    (lookup 12 (ring 1 3 12 .lent) 0 12287 is (8, 0)) ∷
+    (lookup 12 (ring 1 3 12 .lent) 0 12288 is (0, 19)) ∷
+    -- 2 for a ring of 2 rows and for a mode that is neither
+    (ring 1 2 12 .why is 2) ∷
+    (inMode 2 1 3 12 .why is 2) ∷
+    -- the page's first line: map 1 3 0 ring
+    (headLine (ring 1 3 12 .lent .header) is (109 ∷ 97 ∷ 112 ∷ 32 ∷ 49 ∷ 32 ∷ 51 ∷ 32 ∷ 48 ∷ 32 ∷ 114 ∷ 105 ∷ 110 ∷ 103 ∷ 10 ∷ [])) ∷
+    -- a table that is sound as a ring and not open, and the other way round
+    (map (checkCall 12) (ring 1 3 12 .lent ∷ withMode 0 (ring 1 3 12 .lent) ∷ build 1 3 12 .lent ∷ withMode 1 (build 1 3 12 .lent) ∷ []) is (0 ∷ 3 ∷ 0 ∷ 3 ∷ [])) ∷
     -- what these tapes leave is sound
     (map (checkCall 20) (tape 2 1 20 refine4 .lent ∷ tape 2 1 20 killed .lent ∷ []) is (0 ∷ 0 ∷ [])) ∷
+    (map (checkCall 18) (ringTape 1 3 18 refine8 .lent ∷ ringTape 1 3 18 (kill 8) .lent ∷ []) is (0 ∷ 0 ∷ [])) ∷
     []

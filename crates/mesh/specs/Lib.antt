@@ -1,6 +1,7 @@
 -- The rules of 01 as definitions that compute.
 pub mod Tools
 pub mod Place
+pub mod Seam
 pub mod Winds
 pub mod Mesh
 pub mod Jump

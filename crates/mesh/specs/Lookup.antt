@@ -1,11 +1,12 @@
--- What a lookup answers (01, 'Walks, points, page'; 02, No. 2): the leaf that holds the point, or else one of the points it is tried again at.
+-- What a lookup answers (01, 'Walks, points, page'; 02, No. 2 and No. 4): the leaf that holds the point, or else one of the points it is tried again at.
 -- Assumes nothing.
-use Prim.Native.Nat.{ℕ, _-_}
-use mathlib.Core.Bool.{_&&_, cond}
+use Prim.Native.Nat.{ℕ, _-_, _*_}
+use mathlib.Core.Bool.{Bool, _&&_, cond}
 use mathlib.Core.List.{List, [], _∷_, map}
 use lib.Dec.{leb, eqb}
 use Rattle.mesh.specs.Tools.{foremost}
-use Rattle.mesh.specs.State.{State}
+use Rattle.mesh.specs.Place.{Grid, isRing}
+use Rattle.mesh.specs.State.{State, gridOf}
 use Rattle.mesh.specs.Refusal.{Check, _if_}
 use Rattle.mesh.specs.Holding.{leafAt}
 
@@ -21,9 +22,13 @@ tried there u v (left, down) = cond (leb left u && leb down v) (there (u - left)
 unfoldable pub firstFound : (ℕ → ℕ → ℕ) → ℕ → ℕ → ℕ
 firstFound there u v = foremost (map (tried there u v) tries)
 
+-- "in a ring, lookup gives 19 at once for a load of rows × 4096 or more" (02, No. 4)
+abbrev pub beyond : Grid → ℕ → Bool
+beyond g v = isRing g && leb (g .rows * 4096) v
+
 -- "the first leaf found is the answer": its number, 0 for none
 unfoldable pub lookup : State → ℕ → ℕ → ℕ
-lookup s u v = firstFound (leafAt s) u v
+lookup s u v = cond (beyond (gridOf s) v) 0 (firstFound (leafAt s) u v)
 
 -- 19: "no leaf holds the point", "if none" is found
 unfoldable pub lookupChecks : State → ℕ → ℕ → List Check

@@ -8,9 +8,9 @@ use lib.ListN.{length}
 use lib.IntN.{natAbs}
 use lib.Ieee.{toBits, binary64}
 use Rattle.mesh.specs.Tools.{flat}
-use Rattle.mesh.specs.Place.{NE, SE, SW, NW, level, base, root}
+use Rattle.mesh.specs.Place.{Grid, isRing, NE, SE, SW, NW, level, base, root}
 use Rattle.mesh.specs.Mesh.{leaf}
-use Rattle.mesh.specs.State.{State, status, amount, valueOf, entry, cells, placeAt, gridOf}
+use Rattle.mesh.specs.State.{State, Header, status, amount, valueOf, entry, cells, placeAt, gridOf}
 use Rattle.mesh.specs.Refusal.{Check}
 use Rattle.mesh.specs.Scan.{walk, no18}
 
@@ -67,10 +67,16 @@ abbrev pub total : List ℕ → ℕ
 total [] = 0
 total (b ∷ bs) = b + total bs
 
--- "`map`, columns, rows, mark", and the leaves
+-- "`map`, columns, rows, mark", and "the page's first line ends with `open` or `ring`" (02, No. 4)
+abbrev pub modeWord : Grid → List ℕ
+modeWord g = cond (isRing g) (114 ∷ 105 ∷ 110 ∷ 103 ∷ []) (111 ∷ 112 ∷ 101 ∷ 110 ∷ [])
+
+unfoldable pub headLine : Header → List ℕ
+headLine h = line ((109 ∷ 97 ∷ 112 ∷ []) ∷ decimal (h .grid .columns) ∷ decimal (h .grid .rows) ∷ decimal (h .mark) ∷ modeWord (h .grid) ∷ [])
+
+-- and the leaves
 unfoldable pub body : State → List ℕ
-body s =
-    line ((109 ∷ 97 ∷ 112 ∷ []) ∷ decimal (gridOf s .columns) ∷ decimal (gridOf s .rows) ∷ decimal (s .header .mark) ∷ []) ++ flat (map (leafLine s) (leaves s))
+body s = headLine (s .header) ++ flat (map (leafLine s) (leaves s))
 
 -- "last `cells`, count of leaves, `sum`, and the sum of all bytes of the earlier lines, line feeds included, wrapping at 2^32"
 unfoldable pub page : State → List ℕ

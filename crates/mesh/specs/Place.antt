@@ -2,10 +2,10 @@
 -- thing for ghosts and for patches: a level is the depth less the depth of level 0.
 -- Assumes nothing.
 use Prim.Native.Nat.{ℕ, zero, suc, _+_, _-_, _*_, _/_, _^_, max}
-use mathlib.Core.Bool.{Bool, _&&_}
+use mathlib.Core.Bool.{Bool, _&&_, cond}
 use mathlib.Core.Option.{Option, none, some, Option·map}
 use mathlib.Core.List.{List, [], _∷_, _++_, map}
-use lib.Dec.{eqb}
+use lib.Dec.{eqb, leb}
 use lib.IntN.{ℤ, subℕ}
 use lib.Count.{leadingZeros}
 use Rattle.mesh.specs.Tools.{orElse}
@@ -25,9 +25,15 @@ same p q = eqb (p .depth) (q .depth) && (eqb (p .col) (q .col) && eqb (p .row) (
 pub record Grid : Type 0 where
   pub columns : ℕ
   pub rows : ℕ
+  -- 0 open, 1 ring (02, No. 4)
+  pub mode : ℕ
 
+-- an open grid
 abbrev pub rectangle : ℕ → ℕ → Grid
-rectangle c r = record { columns = c; rows = r }
+rectangle c r = record { columns = c; rows = r; mode = 0 }
+
+abbrev pub isRing : Grid → Bool
+isRing g = eqb (g .mode) 1
 
 -- "the root level is minus d, d being the bit length of the larger of columns and rows": a word's width less its leading zeros
 unfoldable pub base : Grid → ℕ
@@ -73,16 +79,29 @@ abbrev pub before : ℕ → Option ℕ
 before zero = none
 before (suc n) = some n
 
+-- "row index on level k counts modulo rows × 2^k" (02, No. 4): after so many rows a level of a ring begins anew. Ghosts' rows and those of an
+-- open grid do not: 0.
+unfoldable pub lap : Grid → ℕ → ℕ
+lap g e = cond (isRing g && leb (base g) e) (g .rows * 2 ^ (e - base g)) 0
+
+-- the row after a row, and the one before it, where the rows begin anew after n; the row n itself is none of them
+unfoldable pub rowAfter : ℕ → ℕ → ℕ
+rowAfter n j = cond (eqb (suc j) n) 0 (suc j)
+
+unfoldable pub rowBefore : ℕ → ℕ → Option ℕ
+rowBefore n zero = before n
+rowBefore n (suc j) = cond (eqb (suc j) n) none (some j)
+
 -- One step north and one step east there is always a place; south and west there is one if the indices go on there.
 -- These four definitions alone know how the indices of a level run.
 unfoldable pub toNorth : Grid → Place → Place
-toNorth g p = at (p .depth) (p .col) (suc (p .row))
+toNorth g p = at (p .depth) (p .col) (rowAfter (lap g (p .depth)) (p .row))
 
 unfoldable pub toEast : Grid → Place → Place
 toEast g p = at (p .depth) (suc (p .col)) (p .row)
 
 unfoldable pub toSouth : Grid → Place → Option Place
-toSouth g p = Option·map (λ j. at (p .depth) (p .col) j) (before (p .row))
+toSouth g p = Option·map (λ j. at (p .depth) (p .col) j) (rowBefore (lap g (p .depth)) (p .row))
 
 unfoldable pub toWest : Grid → Place → Option Place
 toWest g p = Option·map (λ i. at (p .depth) i (p .row)) (before (p .col))

@@ -7,7 +7,7 @@ use lib.Dec.{leb, ltb, eqb}
 use lib.Ieee.{Float, nan, inf, fin}
 use lib.IntN.{ℤ, pos, negsuc}
 use Rattle.mesh.specs.Tools.{any, all, every, orElse, sameList}
-use Rattle.mesh.specs.Place.{Place, Grid, root, base, parent, kids, toNorth, toEast}
+use Rattle.mesh.specs.Place.{Place, Grid, isRing, root, base, parent, kids, toNorth, toEast}
 use Rattle.mesh.specs.Mesh.{on, patch, hasKids, leaf}
 use Rattle.mesh.specs.State.{State, Header, Entry, Cell, Value, blank, measured, carried, amount, isBlank, isNil, placeOf, cellOf, stands, entry, cells, gridOf, capacity}
 use Rattle.mesh.specs.Valid.{finite, aboveOf}
@@ -79,6 +79,8 @@ tests s =
     leb (g .columns) 32 ∷
     leb 1 (g .rows) ∷
     leb (g .rows) 32 ∷
+    leb (g .mode) 1 ∷
+    (not (isRing g) || leb 3 (g .rows)) ∷
     isNil (entry es 0) ∷
     all (λ e. not (isNil e)) (tail es) ∷
     any (λ e. not (ofCell (λ p x. not (eqb (p .depth) (base g))) e)) es ∷

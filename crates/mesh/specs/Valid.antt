@@ -7,7 +7,7 @@ use mathlib.Core.Option.{some}
 use lib.Dec.{T}
 use lib.Ieee.{Float, nan, inf, fin}
 use Rattle.mesh.specs.Tools.{any}
-use Rattle.mesh.specs.Place.{Place, root, base, parent}
+use Rattle.mesh.specs.Place.{Place, isRing, root, base, parent}
 use Rattle.mesh.specs.Mesh.{Mesh, patch, leaf}
 use Rattle.mesh.specs.State.{State, nil, used, Cell, Value, blank, measured, carried, amount, isBlank, isNil, placeOf, valueOf, stands, entry, cells, numberOf, gridOf, capacity}
 
@@ -28,9 +28,9 @@ ValueRule s p (measured x) = T (finite x)
 ValueRule s p (carried x) = (base (gridOf s) < p .depth) × T (finite x) × T (not (isBlank (aboveOf s p))) × (amount (aboveOf s p) ≡ x)
 
 pub record Valid (s : State) : Type 0 where
-  -- "capacity 5 to 4,095"; "columns and rows 1 to 32 each"
+  -- "capacity 5 to 4,095"; "columns and rows 1 to 32 each"; open or a ring, and a ring has 3 rows at least
   pub sizes : (5 ≤ capacity s) × (capacity s ≤ 4095)
-  pub rectangle : (1 ≤ gridOf s .columns) × (gridOf s .columns ≤ 32) × (1 ≤ gridOf s .rows) × (gridOf s .rows ≤ 32)
+  pub rectangle : (1 ≤ gridOf s .columns) × (gridOf s .columns ≤ 32) × (1 ≤ gridOf s .rows) × (gridOf s .rows ≤ 32) × (gridOf s .mode ≤ 1) × (T (isRing (gridOf s)) → 3 ≤ gridOf s .rows)
   -- "row 0 is the nil patch", and every other number is free or a patch
   pub zeroth : entry (s .entries) 0 ≡ nil
   pub others : (n : ℕ) → 1 ≤ n → n ≤ capacity s → T (not (isNil (entry (s .entries) n)))

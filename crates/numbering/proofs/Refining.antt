@@ -23,6 +23,7 @@ use Rattle.geometry.proofs.Lists.{keep-length, count-map}
 use Rattle.geometry.proofs.Places.{In}
 use Rattle.geometry.proofs.Distinct.{in-length, in-keep}
 use Rattle.geometry.proofs.Kids.{in-parent, kid-in, parent-depth, kid-has, leaf-cell, leaf-kidless, is-leaf}
+use Rattle.geometry.proofs.Base.{lap-many}
 use Rattle.geometry.proofs.Wanted.{kid-wanted, wanted-distinct}
 use Rattle.geometry.proofs.Growing.{grown, grown-old, grown-cases, grown-mesh, patch-grown, grown-patch, middle-new}
 use Rattle.numbering.proofs.Entries.{cell-used, cell-there, cell-somewhere, in-stands, stands-in}
@@ -110,7 +111,7 @@ module _ (s : State) (v : Valid s) (n : ℕ) (p : Place) (x : Cell) (r : Refinab
   after = fill (kids p) (some (kidCell x)) (given .entries)
 
   pub have : Gave s given (wanted g p)
-  have = gave (wanted g p) (wanted-distinct g p) s (valid-numbered v) (r .room)
+  have = gave (wanted g p) (wanted-distinct g p (lap-many g (v .rectangle) (p .depth))) s (valid-numbered v) (r .room)
 
   pub here : T (c p)
   here = cell-there (s .entries) n p x (r .stood)
@@ -268,7 +269,7 @@ module _ (s : State) (v : Valid s) (n : ℕ) (p : Place) (x : Cell) (r : Refinab
 
   effect-turn : (xs ys : List Place) (q : Place) → wanted g p ≡ xs ++ q ∷ ys → number (s .entries) q ≡ 0 → Next (give s xs) × (number (effect s (refine n) .entries) q ≡ nextFree (give s xs))
   effect-turn xs ys q e z =
-      let (next, is) = give-turn xs ys q (rw e at (wanted-distinct g p)) s (valid-numbered v) (rw e at (r .room)) z in
+      let (next, is) = give-turn xs ys q (rw e at (wanted-distinct g p (lap-many g (v .rectangle) (p .depth)))) s (valid-numbered v) (rw e at (r .room)) z in
       (next, rw effect-is (fill-number (kids p) (some (kidCell x)) (given .entries) q ∙ ap (λ (l : List Place). number (give s l .entries) q) e ∙ is))
 
   effect-frame : (effect s (refine n) .header ≡ s .header) × (length (effect s (refine n) .entries) ≡ length (s .entries))

@@ -1,5 +1,5 @@
--- How many patches a build has: so many levels below level 0 they make a block, one column and one row more than the rectangle's sides halved
--- so often.
+-- How many patches a build has: so many levels below level 0 they make a block, one column and one row more than the last row and column of patches
+-- halved so often.
 -- Assumes nothing.
 use Prim.Native.Nat.{ℕ, zero, suc, _+_, _*_, _/_, _^_, _≤_, _<_}
 use native.Mathlib.Nat.{le-div-iff-mul-le, one-le-pow}
@@ -10,6 +10,7 @@ use mathlib.Core.List.{List, [], _∷_}
 use lib.Dec.{T, leb, leb→le, le→leb}
 use lib.ListN.{length, length-append}
 use Rattle.mesh.specs.Place.{Place, Grid, root, base}
+use Rattle.mesh.specs.Seam.{lastRow}
 use Rattle.mesh.specs.Build.{nextLevel, levels, numbered}
 use Rattle.geometry.proofs.Places.{In}
 use Rattle.geometry.proofs.Bools.{and-both, and-left, and-right}
@@ -20,7 +21,7 @@ use Rattle.numbering.proofs.Levels.{Patches, first-level, next-level}
 
 -- the patches so many levels below level 0; and those of n levels from level 0 down
 unfoldable pub levelSize : Grid → ℕ → ℕ
-levelSize g up = (g .columns / 2 ^ up + 1) * (g .rows / 2 ^ up + 1)
+levelSize g up = (g .columns / 2 ^ up + 1) * (lastRow g / 2 ^ up + 1)
 
 unfoldable pub levelsSize : Grid → ℕ → ℕ
 levelsSize g zero = 0
@@ -36,21 +37,21 @@ module _ (g : Grid) (in-range : Rectangle g) where
 
   level-size : (e n : ℕ) (ps : List Place) → e + n ≡ base g → Patches g in-range e e ps → length ps ≡ levelSize g n
   unfolding levelSize
-  level-size e n ps d l = block-size e (g .columns / 2 ^ n + 1) (g .rows / 2 ^ n + 1) ps (l .once) inside all
+  level-size e n ps d l = block-size e (g .columns / 2 ^ n + 1) (lastRow g / 2 ^ n + 1) ps (l .once) inside all
     where
-      inside : (q : Place) → In q ps → (q .depth ≡ e) × (q .col < g .columns / 2 ^ n + 1) × (q .row < g .rows / 2 ^ n + 1)
+      inside : (q : Place) → In q ps → (q .depth ≡ e) × (q .col < g .columns / 2 ^ n + 1) × (q .row < lastRow g / 2 ^ n + 1)
       inside q i =
           let (a, b, t) = l .holds q i in
           let x = leb (q .col * 2 ^ n) (g .columns) in
-          let y = leb (q .row * 2 ^ n) (g .rows) in
+          let y = leb (q .row * 2 ^ n) (lastRow g) in
           let u : T (x && y) = rw (full-patch g in-range n q (omega arith)) at t in
-          (omega arith, far (q .col) (g .columns) n (leb→le _ _ (and-left x y u)), far (q .row) (g .rows) n (leb→le _ _ (and-right x y u)))
+          (omega arith, far (q .col) (g .columns) n (leb→le _ _ (and-left x y u)), far (q .row) (lastRow g) n (leb→le _ _ (and-right x y u)))
 
-      all : (q : Place) → q .depth ≡ e → q .col < g .columns / 2 ^ n + 1 → q .row < g .rows / 2 ^ n + 1 → In q ps
+      all : (q : Place) → q .depth ≡ e → q .col < g .columns / 2 ^ n + 1 → q .row < lastRow g / 2 ^ n + 1 → In q ps
       all q z i j =
           l .all-of q (omega arith) (omega arith)
           (rw (full-patch g in-range n q (omega arith))
-          (and-both (leb (q .col * 2 ^ n) (g .columns)) (leb (q .row * 2 ^ n) (g .rows)) (le→leb _ _ (near (q .col) (g .columns) n i)) (le→leb _ _ (near (q .row) (g .rows) n j))))
+          (and-both (leb (q .col * 2 ^ n) (g .columns)) (leb (q .row * 2 ^ n) (lastRow g)) (le→leb _ _ (near (q .col) (g .columns) n i)) (le→leb _ _ (near (q .row) (lastRow g) n j))))
 
   levels-size : (n e : ℕ) (ps : List Place) → e + n ≡ base g → Patches g in-range e e ps → length (levels g n ps) ≡ levelsSize g (suc n)
   unfolding levels levelsSize

@@ -13,11 +13,11 @@ use lib.IntN.{ℤ}
 use lib.Ieee.{Float}
 use borrow.Author.Tests.{leb-true, leb-false, not-true, not-false, lt-ltb, le-ltb}
 use Rattle.mesh.specs.State.{Header}
-use Rattle.mesh.specs.Page.{decimal, total}
+use Rattle.mesh.specs.Page.{decimal, headLine, total}
 use Rattle.mesh.specs.Call.{unless, over}
 use Rattle.mesh.specs.Refusal.{refusal}
 use Rattle.page.specs.Puts.{Put, written}
-use Rattle.page.specs.Rows.{headLine, footLine, linesOf, bodyOf, pageOf, pageOut}
+use Rattle.page.specs.Rows.{footLine, linesOf, bodyOf, pageOf, pageOut}
 use Rattle.page.proofs.Puts.{total-append, put-more, put-as, put-front}
 use Rattle.page.proofs.Worded.{head-size, foot-size, foot-short}
 
@@ -34,7 +34,7 @@ module _ (h : Header) (t : List ℤ) (v : List Float) (ns : List ℕ) where
   unfolding bodyOf
   body-parts = length-append (headLine h) (linesOf t v ns)
 
-  pub body-size : length body ≡ length (decimal (h .grid .columns)) + length (decimal (h .grid .rows)) + length (decimal (h .mark)) + 7 + length (linesOf t v ns)
+  pub body-size : length body ≡ length (decimal (h .grid .columns)) + length (decimal (h .grid .rows)) + length (decimal (h .mark)) + 12 + length (linesOf t v ns)
   body-size = omega (arith, body-parts, head-size h)
 
   page-parts : length page ≡ length body + length (footLine (length ns) (total body % 2 ^ 32))

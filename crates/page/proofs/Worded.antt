@@ -11,15 +11,16 @@ use lib.ListN.{length, getD, take, drop, length-append, take-append-drop}
 use lib.Seq.{drop-cons}
 use lib.IntN.{ℤ}
 use lib.Ieee.{Float}
+use Rattle.mesh.specs.Place.{Grid, isRing}
 use Rattle.mesh.specs.State.{Header, plusZero}
-use Rattle.mesh.specs.Page.{decimal, hexIn, letter, line, space, lineFeed, total}
+use Rattle.mesh.specs.Page.{decimal, hexIn, letter, line, space, lineFeed, modeWord, headLine, total}
 use Rattle.geometry.proofs.Bools.{is-yes, and-left, and-right}
 use Rattle.table.specs.Words.{wordOf, linkOf}
 use Rattle.table.proofs.Links.{link-within}
 use Rattle.walk.specs.Rows.{leafRow}
 use Rattle.walk.proofs.Steps.{walk-none, walk-last, walk-on}
 use Rattle.page.specs.Puts.{Put}
-use Rattle.page.specs.Rows.{bitsOf, rowLine, leavesFrom, linesOf, ownLeaf, bareRow, headLine, footLine}
+use Rattle.page.specs.Rows.{bitsOf, rowLine, leavesFrom, linesOf, ownLeaf, bareRow, footLine}
 use Rattle.page.proofs.Puts.{total-append, take-more, put-length, put-more, put-as}
 use Rattle.page.proofs.Digits.{hex-long, decimal-long}
 
@@ -42,10 +43,22 @@ unfolding rowLine
 leaf-line t v n k i j st x a b c e h =
     line-words (decimal n) (decimal k) (decimal i) (decimal j) (letter st ∷ []) (hexIn 16 (bitsOf x) []) ∙ rw (a, b, c, e, h)
 
+-- the word of the mode and the line's end, by what was tested
+pub ring-word : (g : Grid) {b : Bool} → b ≡ true → b ≡ isRing g → (114 ∷ 105 ∷ 110 ∷ 103 ∷ 10 ∷ []) ≡ modeWord g ++ (lineFeed ∷ [])
+ring-word g h e = rw (sym e ∙ h)
+
+pub open-word : (g : Grid) {b : Bool} → b ≡ false → b ≡ isRing g → (111 ∷ 112 ∷ 101 ∷ 110 ∷ 10 ∷ []) ≡ modeWord g ++ (lineFeed ∷ [])
+open-word g h e = rw (sym e ∙ h)
+
+head-words : (a b c m : List ℕ)
+    → (109 ∷ 97 ∷ 112 ∷ 32 ∷ []) ++ (a ++ (space ∷ [])) ++ (b ++ (space ∷ [])) ++ (c ++ (space ∷ [])) ++ (m ++ (lineFeed ∷ [])) ≡ line ((109 ∷ 97 ∷ 112 ∷ []) ∷ a ∷ b ∷ c ∷ m ∷ [])
+unfolding line
+head-words a b c m = simp append-assoc
+
 pub head-line : (h : Header)
-    → (109 ∷ 97 ∷ 112 ∷ 32 ∷ []) ++ (decimal (h .grid .columns) ++ (space ∷ [])) ++ (decimal (h .grid .rows) ++ (space ∷ [])) ++ decimal (h .mark) ++ (lineFeed ∷ []) ≡ headLine h
-unfolding headLine line
-head-line h = simp append-assoc
+    → (109 ∷ 97 ∷ 112 ∷ 32 ∷ []) ++ (decimal (h .grid .columns) ++ (space ∷ [])) ++ (decimal (h .grid .rows) ++ (space ∷ [])) ++ (decimal (h .mark) ++ (space ∷ [])) ++ (modeWord (h .grid) ++ (lineFeed ∷ [])) ≡ headLine h
+unfolding headLine
+head-line h = head-words (decimal (h .grid .columns)) (decimal (h .grid .rows)) (decimal (h .mark)) (modeWord (h .grid))
 
 pub foot-line : (leaves sum : ℕ)
     → (99 ∷ 101 ∷ 108 ∷ 108 ∷ 115 ∷ 32 ∷ []) ++ (decimal leaves ++ (space ∷ [])) ++ (115 ∷ 117 ∷ 109 ∷ 32 ∷ []) ++ decimal sum ++ (lineFeed ∷ []) ≡ footLine leaves sum
@@ -67,15 +80,26 @@ words-size t v n k i j a b c = rw (a, b, c) (line-size t v n)
 pub line-short : (t : List ℤ) (v : List Float) (n : ℕ) → length (rowLine t v n) ≤ 103
 line-short t v n = omega (arith, line-size t v n, decimal-long n, decimal-long (wordOf t n 9), decimal-long (wordOf t n 10), decimal-long (wordOf t n 11))
 
-pub head-size : (h : Header) → length (headLine h) ≡ length (decimal (h .grid .columns)) + length (decimal (h .grid .rows)) + length (decimal (h .mark)) + 7
-unfolding headLine line
-head-size h = simp length-append (omega arith)
+mode-size : (g : Grid) → length (modeWord g) ≡ 4
+mode-size g = go (isRing g)
+  where
+    go : (b : Bool) → length {A = ℕ} (cond b (114 ∷ 105 ∷ 110 ∷ 103 ∷ []) (111 ∷ 112 ∷ 101 ∷ 110 ∷ [])) ≡ 4
+    go true = refl
+    go false = refl
+
+words-long : (a b c m : List ℕ) → length (line ((109 ∷ 97 ∷ 112 ∷ []) ∷ a ∷ b ∷ c ∷ m ∷ [])) ≡ length a + length b + length c + length m + 8
+unfolding line
+words-long a b c m = simp length-append (omega arith)
+
+pub head-size : (h : Header) → length (headLine h) ≡ length (decimal (h .grid .columns)) + length (decimal (h .grid .rows)) + length (decimal (h .mark)) + 12
+unfolding headLine
+head-size h = words-long (decimal (h .grid .columns)) (decimal (h .grid .rows)) (decimal (h .mark)) (modeWord (h .grid)) ∙ rw (mode-size (h .grid)) (omega arith)
 
 pub foot-size : (leaves sum : ℕ) → length (footLine leaves sum) ≡ length (decimal leaves) + length (decimal sum) + 12
 unfolding footLine line
 foot-size leaves sum = simp length-append (omega arith)
 
-pub head-short : (h : Header) → length (headLine h) ≤ 67
+pub head-short : (h : Header) → length (headLine h) ≤ 72
 head-short h = omega (arith, head-size h, decimal-long (h .grid .columns), decimal-long (h .grid .rows), decimal-long (h .mark))
 
 pub foot-short : (leaves sum : ℕ) → length (footLine leaves sum) ≤ 52

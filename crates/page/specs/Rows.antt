@@ -11,7 +11,7 @@ use Rattle.mesh.specs.Tools.{flat}
 use Rattle.mesh.specs.State.{Header, plusZero}
 use Rattle.mesh.specs.Valid.{finite}
 use Rattle.mesh.specs.Picture.{rowWords}
-use Rattle.mesh.specs.Page.{decimal, hexIn, line, letter, total}
+use Rattle.mesh.specs.Page.{decimal, hexIn, line, letter, headLine, total}
 use Rattle.mesh.specs.Refusal.{refusal}
 use Rattle.mesh.specs.Scan.{no18}
 use Rattle.mesh.specs.Call.{Wrote, wrote}
@@ -53,10 +53,6 @@ bareRow t n = eqb (wordOf t n 1) 0 && (eqb (wordOf t n 2) 0 && (eqb (wordOf t n 
 abbrev pub Listed : List ℤ → List Float → ℕ → List ℕ → Type 0
 Listed t v cap ns =
     (cap * rowWords + rowWords ≤ length t) × (cap < length v) × (cap ≤ 4095) × (length ns ≤ 4096) × ((i : ℕ) → getD ns i 0 ≤ cap)
-
--- "`map`, columns, rows, mark"
-unfoldable pub headLine : Header → List ℕ
-headLine h = line ((109 ∷ 97 ∷ 112 ∷ []) ∷ decimal (h .grid .columns) ∷ decimal (h .grid .rows) ∷ decimal (h .mark) ∷ [])
 
 -- "last `cells`, count of leaves, `sum`, and the sum"
 unfoldable pub footLine : ℕ → ℕ → List ℕ

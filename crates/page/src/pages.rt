@@ -1,13 +1,14 @@
 // The page whole.
+ghost use mathlib.Core.List.{[], _∷_, _++_};
 ghost use mathlib.Core.Path.{_≡_};
 ghost use Prim.Native.Nat.{_+_, _*_, _%_, _^_, _<_, _≤_};
 ghost use lib.Dec.{leb};
 ghost use lib.ListN.{length};
 ghost use Rattle.mesh.specs.Picture.{rowWords};
-ghost use Rattle.mesh.specs.Page.{total};
+ghost use Rattle.mesh.specs.Page.{lineFeed, modeWord, headLine, total};
 ghost use Rattle.mesh.specs.Headers.{headerOf};
 ghost use Rattle.page.specs.Puts.{Put, written};
-ghost use Rattle.page.specs.Rows.{Listed, headLine, footLine, leavesFrom, bodyOf, pageOf, pageOut, rowOut};
+ghost use Rattle.page.specs.Rows.{Listed, footLine, leavesFrom, bodyOf, pageOf, pageOut, rowOut};
 use crate::find::find_leaves;
 use crate::lines::lines_size;
 use crate::lines::lines_sum;
@@ -19,9 +20,21 @@ use crate::words::put_decimal;
 use crate::words::put_number;
 use crate::words::put_text;
 use mesh::header::Header;
+use mesh::header::is_ring;
 
 // No last line is longer.
 const LONGEST_FOOT: usize = 52;
+
+// Puts the word of the mode, and ends the line.
+fn put_mode(out: &mut [u8], at: usize, header: Header) -> usize
+    requires { ⌜ at + 5 ≤ length (now out) ⌝ }
+    ensures { λ r. ⌜ Put (now (out .entry)) at (modeWord (headerOf header .grid) ++ lineFeed ∷ []) (now (out .exit)) r ⌝ }
+{
+    if is_ring(header) {
+        return put_text(out, at, b"ring\n");
+    }
+    put_text(out, at, b"open\n")
+}
 
 // Puts the first line.
 fn put_head(out: &mut [u8], header: Header) -> usize
@@ -31,8 +44,8 @@ fn put_head(out: &mut [u8], header: Header) -> usize
     let a = put_text(out, 0, b"map ");
     let b = put_number(out, a, header.columns);
     let c = put_number(out, b, header.rows);
-    let m = put_decimal(out, c, header.mark as u32);
-    put_byte(out, m, b'\n')
+    let m = put_number(out, c, header.mark as u32);
+    put_mode(out, m, header)
 }
 
 // Puts the last line.
@@ -50,9 +63,9 @@ fn put_foot(out: &mut [u8], at: usize, leaves: u32, sum: u32) -> usize
 // The length of all lines but the last.
 fn body_size(header: Header, t: &[i32], v: &[f64], cap: usize, leaves: &[u16]) -> usize
     requires { ⌜ Listed (now t) (now v) cap (now leaves) ⌝ }
-    ensures { λ r. ⌜ (r ≤ 258085) × (r ≡ length (bodyOf (headerOf header) (now (t .entry)) (now (v .entry)) (now (leaves .entry)))) ⌝ }
+    ensures { λ r. ⌜ (r ≤ 258090) × (r ≡ length (bodyOf (headerOf header) (now (t .entry)) (now (v .entry)) (now (leaves .entry)))) ⌝ }
 {
-    let head = digits(header.columns) + digits(header.rows) + digits(header.mark as u32) + 7;
+    let head = digits(header.columns) + digits(header.rows) + digits(header.mark as u32) + 12;
     head + lines_size(t, v, cap, leaves)
 }
 
@@ -61,7 +74,7 @@ fn body_sum(header: Header, t: &[i32], v: &[f64], cap: usize, leaves: &[u16]) ->
     requires { ⌜ Listed (now t) (now v) cap (now leaves) ⌝ }
     ensures { λ r. ⌜ r ≡ total (bodyOf (headerOf header) (now (t .entry)) (now (v .entry)) (now (leaves .entry))) % 2 ^ 32 ⌝ }
 {
-    let mut line = [0u8; 67];
+    let mut line = [0u8; 72];
     let k = put_head(&mut line, header);
     lines_sum(t, v, cap, leaves, sum_of(&line[..k]))
 }

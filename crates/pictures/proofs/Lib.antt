@@ -6,6 +6,7 @@ pub mod Testing
 pub mod Soundness
 pub mod Links
 pub mod Pictured
+pub mod Down
 pub mod Linked
 pub mod Flagged
 pub mod Taken

@@ -11,21 +11,25 @@ use mathlib.Core.Option.{Option, none, some, Option·map}
 use mathlib.Core.List.{List, [], _∷_}
 use lib.Dec.{T, eqb, lit<, lit≤}
 use lib.ListN.{getD}
-use Rattle.mesh.specs.Tools.{all, every}
-use Rattle.mesh.specs.Place.{Place, Grid, at, root, Wind, NE, SE, SW, NW, N, E, S, W, kidWinds, sideWinds, base, then, step, toNorth, toEast, toSouth, toWest, kid, kids, parent, around}
+use Rattle.mesh.specs.Tools.{all, every, orElse}
+use Rattle.mesh.specs.Place.{Place, Grid, at, root, Wind, NE, SE, SW, NW, N, E, S, W, kidWinds, sideWinds, base, lap, then, step, toNorth, toEast, toSouth, toWest, kid, kids, parent, around}
+use Rattle.mesh.specs.Seam.{crosses}
 use Rattle.mesh.specs.Winds.{wordOfWind}
 use Rattle.mesh.specs.Mesh.{Mesh, touched, patch}
 use Rattle.mesh.specs.State.{State, Entry, placeOf, entry, cells, number, numberOf, gridOf, capacity}
 use Rattle.mesh.specs.Valid.{Valid}
 use Rattle.mesh.specs.Picture.{table}
 use Rattle.table.specs.Words.{linkOf, depthOf}
-use Rattle.table.specs.Worked.{kidWord, sideOf}
+use Rattle.table.specs.Worked.{kidWord, sideOf, downTo, sideIn}
+use Rattle.geometry.proofs.Places.{place-path}
 use Rattle.geometry.proofs.Kids.{parent-up, no-parent, parent-kid}
 use Rattle.geometry.proofs.Digits.{kidBy, colMoved, rowMoved, stays, step-digits}
+use Rattle.geometry.proofs.Laps.{Smooth, smooth-is, after-on, before-open, lap-ghost}
 use Rattle.geometry.proofs.Near.{Corner, touched-corner}
 use Rattle.geometry.proofs.Tree.{corner-patch, patch-parent, patch-high}
 use Rattle.geometry.proofs.Base.{base-range, depth-zero-root}
 use Rattle.numbering.proofs.Numbers.{valid-numbered, number-place, place-number, numbered-not-zero}
+use Rattle.pictures.proofs.Down.{down-from}
 use Rattle.pictures.proofs.Links.{_of_, around-parent, around-kid, around-side, wind-lt}
 use Rattle.pictures.proofs.Pictured.{link-word, link-number, nil-words, word-col, word-row, depth-within}
 
@@ -128,6 +132,9 @@ module _ (s : State) (v : Valid s) where
 
   -- ---- neighbours
 
+  root-lap : lap g 0 ≡ 0
+  root-lap = lap-ghost g 0 (base-range g (v .rectangle) .0)
+
   -- a place beside the root has no number
   off-root : (q : Place) → q .depth ≡ 0 → q .col + q .row ≢ 0 → number es q ≡ 0
   off-root q d z = go (ℕ-discrete (number es q) 0)
@@ -140,19 +147,19 @@ module _ (s : State) (v : Valid s) where
 
   beside-root : (w : Wind) → T (w of sideWinds) → numberOf es (step g w root) ≡ 0
   unfolding step toNorth toEast toSouth toWest
-  beside-root N t = off-root (at 0 0 1) refl (λ z. omega arith)
+  beside-root N t = rw (root-lap, after-on 0 0 (λ z. omega arith)) (off-root (at 0 0 1) refl (λ z. omega arith))
   beside-root E t = off-root (at 0 1 0) refl (λ z. omega arith)
-  beside-root S t = refl
+  beside-root S t = rw (root-lap, before-open 0 refl)
   beside-root W t = refl
   beside-root NE t = absurd t
   beside-root SE t = absurd t
   beside-root SW t = absurd t
   beside-root NW t = absurd t
 
-  -- the neighbour is a kid of the parent, or of the parent's neighbour
-  pub side-of : (w : Wind) → T (w of sideWinds) → (n : ℕ) (p : Place) → placeOf (entry es n) ≡ some p → sideOf (table s) (capacity s) n w ≡ numberOf es (step g w p)
+  -- the neighbour is a kid of the parent, or of the parent's neighbour, but across the seam of level 0
+  pub side-of : (w : Wind) → T (w of sideWinds) → (n : ℕ) (p : Place) → placeOf (entry es n) ≡ some p → Smooth g w p → sideOf (table s) (capacity s) n w ≡ numberOf es (step g w p)
   unfolding sideOf
-  side-of w t n p h =
+  side-of w t n p h smooth =
       rw (word-col s n p h, word-row s n p h, parent-row (stays w p))
       (kid-link ((colMoved w p + 1) % 2) ((rowMoved w p + 1) % 2) (omega arith) (omega arith) (cond (stays w p) (parent p) (then (step g w) (parent p)))
       ∙ go (decLt 0 (p .depth)))
@@ -172,8 +179,20 @@ module _ (s : State) (v : Valid s) where
 
       go : Dec (0 < p .depth) → numberOf es (Option·map (kidBy ((colMoved w p + 1) % 2) ((rowMoved w p + 1) % 2)) (cond (stays w p) (parent p) (then (step g w) (parent p))))
           ≡ numberOf es (step g w p)
-      go (yes l) = rw (parent-up p l, step-digits g w t p l)
+      go (yes l) = rw (parent-up p l, step-digits g w t p l smooth)
       go (no l) =
           let d : p .depth ≡ 0 = omega (arith, l) in
           let e : p ≡ root = depth-zero-root g c (v .mesh) (v .rectangle) p d (v .each n p h) in
           rw (no-parent p d) (nowhere (stays w p) ∙ sym (ap (λ (x : Place). numberOf es (step g w x)) e ∙ beside-root w t))
+
+  -- so every neighbour is found, over both modes
+  pub side-in : (w : Wind) → T (w of sideWinds) → (n : ℕ) (p : Place) → placeOf (entry es n) ≡ some p → sideIn g (table s) (capacity s) n w ≡ numberOf es (step g w p)
+  unfolding sideIn
+  side-in w t n p h = rw (depth-of n p h, word-col s n p h, word-row s n p h) (go (crosses g w p) refl)
+    where
+      alone : (q : Place) → q .depth ≡ 0 → q ≢ root → number es q ≡ 0
+      alone q d z = off-root q d (λ k. z (place-path q root d (omega arith) (omega arith)))
+
+      go : (b : Bool) → crosses g w p ≡ b → cond b (orElse 0 (λ q. downTo (table s) (capacity s) (q .depth) (q .col) (q .row)) (step g w p)) (sideOf (table s) (capacity s) n w) ≡ numberOf es (step g w p)
+      go true e = down-from (table s) (capacity s) es kid-link (place-number es (valid-numbered v) 1 root (v .first-root)) alone (step g w p)
+      go false e = side-of w t n p h (smooth-is g w p e)

@@ -7,12 +7,12 @@ use mathlib.Core.Path.{_≡_, refl, ap}
 use mathlib.Core.Bool.{Bool, true, not, _&&_, _||_}
 use mathlib.Core.Option.{Option, none, some, Option·none-ne-some}
 use mathlib.Core.List.{List, [], _∷_, tail}
-use lib.Dec.{T, T-not, not-T, eqb, ltb, leb→le, ltb→lt, eqb→eq, le→leb, lt→ltb}
+use lib.Dec.{T, T-not, not-T, eqb, ltb, leb, leb→le, ltb→lt, eqb→eq, le→leb, lt→ltb}
 use lib.ListN.{length, getD}
 use lib.Ieee.{Float}
 use borrow.Author.Tests.{eq-eqb}
 use Rattle.mesh.specs.Tools.{any, all, every, orElse}
-use Rattle.mesh.specs.Place.{Place, Grid, root, base, parent, kids, toNorth, toEast}
+use Rattle.mesh.specs.Place.{Place, Grid, isRing, root, base, parent, kids, toNorth, toEast}
 use Rattle.mesh.specs.Mesh.{Mesh, on, under, patch, hasKids, leaf}
 use Rattle.mesh.specs.State.{State, Entry, nil, free, used, Cell, Value, blank, measured, carried, amount, isBlank, isNil, placeOf, entry, cells, gridOf}
 use Rattle.mesh.specs.Valid.{Valid, ValueRule, finite, aboveOf}
@@ -252,20 +252,20 @@ test-valid s t =
     let nth = every-at (tests s) t in
     record {
       sizes = (leb→le _ _ (nth 0), leb→le _ _ (nth 1));
-      rectangle = (leb→le _ _ (nth 2), leb→le _ _ (nth 3), leb→le _ _ (nth 4), leb→le _ _ (nth 5));
-      zeroth = nil-is (entry es 0) (nth 6);
-      others = others-at es (λ e. not (isNil e)) (nth 7);
-      mesh = tests-mesh g es (nth 8) (nth 9);
-      each = patches-at es (patch g (cells es)) (nth 10);
-      every = tests-every g es (nth 11) (nth 12);
-      once = apart-at es (nth 13);
-      first-root = stands-place root (entry es 1) (nth 14);
+      rectangle = (leb→le _ _ (nth 2), leb→le _ _ (nth 3), leb→le _ _ (nth 4), leb→le _ _ (nth 5), leb→le _ _ (nth 6), λ t. leb→le _ _ (implied (isRing g) (leb 3 (g .rows)) (nth 7) t));
+      zeroth = nil-is (entry es 0) (nth 8);
+      others = others-at es (λ e. not (isNil e)) (nth 9);
+      mesh = tests-mesh g es (nth 10) (nth 11);
+      each = patches-at es (patch g (cells es)) (nth 12);
+      every = tests-every g es (nth 13) (nth 14);
+      once = apart-at es (nth 15);
+      first-root = stands-place root (entry es 1) (nth 16);
       sentences = λ n p x e d.
           let a = ltb (base g) (p .depth) in
           let b = leaf g (cells es) p in
-          let r = implied (x .sentenced) (a && b) (cells-at es (sentenceTest s) (nth 15) n p x e) d in
+          let r = implied (x .sentenced) (a && b) (cells-at es (sentenceTest s) (nth 17) n p x e) d in
           (ltb→lt _ _ (and-left a b r), and-right a b r);
-      values = λ n p x e. test-value s p (x .value) (cells-at es (λ p x. valueTest s p (x .value)) (nth 16) n p x e);
+      values = λ n p x e. test-value s p (x .value) (cells-at es (λ p x. valueTest s p (x .value)) (nth 18) n p x e);
     }
 
 pub valid-test : (s : State) → Valid s → T (valid s)
@@ -281,6 +281,8 @@ valid-test s v =
     also le→leb _ _ (v .rectangle .1)
     also le→leb _ _ (v .rectangle .2)
     also le→leb _ _ (v .rectangle .3)
+    also le→leb _ _ (v .rectangle .4)
+    also implies (isRing g) (leb 3 (g .rows)) (λ t. le→leb _ _ (v .rectangle .5 t))
     also rw (v .zeroth) tt
     also at-others es (λ e. not (isNil e)) (v .others)
     also mesh-ground g es (v .mesh)

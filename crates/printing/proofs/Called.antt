@@ -64,7 +64,7 @@ module _ (input : List ℕ) where
     -- ---- the build
 
     module _ {h h₁ : Header} {t t₁ : List ℤ} {v v₁ : List Float} {b : Built} (size : length t ≡ rowWords * 1001) (places : length v ≡ 1001)
-        (built-as : Builds h t v 1000 (gridIn input .columns) (gridIn input .rows) h₁ t₁ v₁ b) where
+        (built-as : Builds h t v 1000 (gridIn input .columns) (gridIn input .rows) 0 h₁ t₁ v₁ b) where
       checks-same : refusal (buildChecks 1000 (lentOf h t v) (gridIn input)) ≡ refusal (headChecks input)
       unfolding buildChecks gridChecks
       checks-same = sized 1000 (lentOf h t v) (gridChecks input) size places (omega arith) (omega arith) ∙ sym after-head

@@ -12,6 +12,7 @@ use Rattle.mesh.specs.State.{State, placeAt, gridOf}
 use Rattle.mesh.specs.Page.{decimal, line, leaves, leafLine, total, body, page}
 use Rattle.mesh.specs.Program.{refusedLine}
 use Rattle.page.proofs.Digits.{decimal-long, hex-long}
+use Rattle.page.proofs.Worded.{head-short}
 
 -- ---- digits and lines
 
@@ -32,6 +33,6 @@ lines-long : (s : State) (ns : List ℕ) → length (flat (map (leafLine s) ns))
 lines-long s [] = omega arith
 lines-long s (n ∷ ns) = omega (arith, length-append (leafLine s n) (flat (map (leafLine s) ns)), leaf-long s n, lines-long s ns)
 
-pub page-long : (s : State) → length (page s) ≤ 119 + 103 * length (leaves s)
+pub page-long : (s : State) → length (page s) ≤ 124 + 103 * length (leaves s)
 unfolding page body line
-page-long s = simp length-append (omega (arith, decimal-long (gridOf s .columns), decimal-long (gridOf s .rows), decimal-long (s .header .mark), decimal-long (length (leaves s)), decimal-long (total (body s) % 2 ^ 32), lines-long s (leaves s)))
+page-long s = simp length-append (omega (arith, head-short (s .header), decimal-long (length (leaves s)), decimal-long (total (body s) % 2 ^ 32), lines-long s (leaves s)))

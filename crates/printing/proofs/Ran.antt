@@ -11,10 +11,8 @@ use Rattle.mesh.specs.Valid.{Valid}
 use Rattle.mesh.specs.Refusal.{refusal}
 use Rattle.mesh.specs.Build.{numbered, built}
 use Rattle.mesh.specs.Tape.{Run, run}
-use Rattle.mesh.specs.Call.{outside}
 use Rattle.mesh.specs.Program.{gridIn, headChecks}
-use Rattle.geometry.proofs.Bools.{neither}
-use Rattle.geometry.proofs.Ranges.{outside-within}
+use Rattle.geometry.proofs.Base.{fits-range}
 use Rattle.numbering.proofs.Checks.{passes}
 use Rattle.laws.proofs.Tapes.{run-led}
 use Rattle.laws.proofs.Calls.{Buildable, build-valid}
@@ -35,10 +33,7 @@ module _ (input : List ℕ) (ok : refusal (headChecks input) ≡ 0) where
       let (_, h₄) = passes 4 _ _ (λ z. omega arith) h₃ in
       let (a, h₅) = passes 2 _ _ (λ z. omega arith) h₄ in
       let (b, _) = passes 11 _ _ (λ z. omega arith) h₅ in
-      let (c, d) = neither (outside 1 32 (gridIn input .columns)) (outside 1 32 (gridIn input .rows)) a in
-      let (p, q) = outside-within 1 32 (gridIn input .columns) c in
-      let (u, w) = outside-within 1 32 (gridIn input .rows) d in
-      record { sizes = (omega arith, omega arith); rectangle = (p, q, u, w); room = ltb-false 1000 (length (numbered (gridIn input))) b }
+      record { sizes = (omega arith, omega arith); rectangle = fits-range (gridIn input) a; room = ltb-false 1000 (length (numbered (gridIn input))) b }
 
   pub started-valid : Valid (started input) × (capacity (started input) ≡ 1000)
   started-valid = build-valid 1000 (gridIn input) buildable

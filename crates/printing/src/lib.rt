@@ -9,6 +9,7 @@ ghost use Rattle.page.specs.Puts.{Put};
 ghost use Rattle.grid.specs.Calls.{wroteOf};
 ghost use Rattle.printing.specs.Head.{inputChecks, printed};
 use grid::Wrote;
+use mesh::header::OPEN;
 use mesh::header::fresh;
 use page::words::digits;
 use page::words::put_byte;
@@ -79,10 +80,10 @@ fn print_on(input: &[u8], table: &mut [i32], values: &mut [f64], out: &mut [u8])
     requires { ⌜ (refusal (inputChecks (now input)) ≡ 0) × (length (now table) ≡ rowWords * 1001) × (length (now values) ≡ 1001) ⌝ }
     ensures { λ r. ⌜ wroteOf r (now (out .exit)) ≡ programCall (now (input .entry)) (now (out .entry)) ⌝ }
 {
-    let header = fresh(0, 0);
+    let header = fresh(0, 0, OPEN);
     let columns = input[1] as u32;
     let rows = input[2] as u32;
-    let b = grid::build_core(header, table, values, CAPACITY, columns, rows);
+    let b = grid::build_core(header, table, values, CAPACITY, columns, rows, OPEN);
     let built = b.answer;
     if built.refusal != 0 {
         return write_refused(out, built.refusal, 0);

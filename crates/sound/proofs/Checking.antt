@@ -18,10 +18,10 @@ use Rattle.mesh.specs.Picture.{rowWords}
 use Rattle.mesh.specs.Refusal.{Check, refusal}
 use Rattle.mesh.specs.Headers.{headerOf, lentOf}
 use Rattle.mesh.specs.declared.header.Header.{Header}
-use Rattle.mesh.specs.Call.{Lent, outside, no1, no2, no3, lentChecks, checkCall}
+use Rattle.mesh.specs.Call.{Lent, outside, misfit, no1, no2, no3, lentChecks, checkCall}
 use Rattle.mesh.specs.Place.{Grid, base}
 use Rattle.geometry.proofs.Ranges.{below-outside, above-outside, within-outside}
-use Rattle.geometry.proofs.Base.{Rectangle}
+use Rattle.geometry.proofs.Base.{Rectangle, range-fits}
 use Rattle.checking.specs.Rowwise.{rowwise}
 use Rattle.checking.proofs.Words.{Fits, FitsAt}
 use Rattle.checking.proofs.Agreeing.{rowwise-is-sound}
@@ -83,36 +83,15 @@ module _ (cap : ℕ) (l : Lent) (cs : List Check) where
     unfolding refusal
     sized = rw (eq-eqb (length t) (rowWords * (cap + 1)) size, eq-eqb (length v) (cap + 1) places, within-outside 5 4095 cap low high)
 
--- the second check
-module _ (g : Grid) (cs : List Check) where
-  wide : outside 1 32 (g .columns) ≡ true → refusal (no2 g ∷ cs) ≡ 2
-  unfolding refusal
-  wide h = rw h
-
-  tall : outside 1 32 (g .rows) ≡ true → refusal (no2 g ∷ cs) ≡ 2
-  unfolding refusal
-  tall h = rw (either (outside 1 32 (g .columns)) (outside 1 32 (g .rows)) h)
-
-  within : Rectangle g → refusal (no2 g ∷ cs) ≡ refusal cs
-  unfolding refusal
-  within r = rw (within-outside 1 32 (g .columns) (r .0) (r .1), within-outside 1 32 (g .rows) (r .2) (r .3))
-
 module _ (cap : ℕ) (l : Lent) (g : Grid) (cs : List Check) (size : length (l .words) ≡ rowWords * (cap + 1)) (places : length (l .values) ≡ cap + 1) (low : 5 ≤ cap) (high : cap ≤ 4095) where
-  pub columns-below : g .columns < 1 → 2 ≡ refusal (no1 cap l ∷ no2 g ∷ cs)
-  columns-below h = sym (sized cap l (no2 g ∷ cs) size places low high ∙ wide g cs (below-outside 1 32 (g .columns) h))
-
-  pub columns-above : 32 < g .columns → 2 ≡ refusal (no1 cap l ∷ no2 g ∷ cs)
-  columns-above h = sym (sized cap l (no2 g ∷ cs) size places low high ∙ wide g cs (above-outside 1 32 (g .columns) h))
-
-  pub rows-below : g .rows < 1 → 2 ≡ refusal (no1 cap l ∷ no2 g ∷ cs)
-  rows-below h = sym (sized cap l (no2 g ∷ cs) size places low high ∙ tall g cs (below-outside 1 32 (g .rows) h))
-
-  pub rows-above : 32 < g .rows → 2 ≡ refusal (no1 cap l ∷ no2 g ∷ cs)
-  rows-above h = sym (sized cap l (no2 g ∷ cs) size places low high ∙ tall g cs (above-outside 1 32 (g .rows) h))
+  pub misfits : misfit g ≡ true → 2 ≡ refusal (no1 cap l ∷ no2 g ∷ cs)
+  unfolding refusal
+  misfits h = sym (sized cap l (no2 g ∷ cs) size places low high ∙ rw h)
 
   -- what stands behind them decides
   pub both-pass : Rectangle g → refusal (no1 cap l ∷ no2 g ∷ cs) ≡ refusal cs
-  both-pass r = sized cap l (no2 g ∷ cs) size places low high ∙ within g cs r
+  unfolding refusal
+  both-pass r = sized cap l (no2 g ∷ cs) size places low high ∙ rw (range-fits g r)
 
 -- ---- the checker
 

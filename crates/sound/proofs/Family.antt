@@ -14,8 +14,7 @@ use Rattle.mesh.specs.Place.{Grid, base, N, E, S, W}
 use Rattle.table.specs.Words.{wordOf, linkOf, depthOf}
 use Rattle.table.specs.Worked.{kidWord}
 use Rattle.table.specs.Sides.{sideBy}
-use Rattle.table.proofs.Offsets.{side-digits}
-use Rattle.checking.specs.Rowwise.{rootOk, childOk, placeOk, kidOk, kidsOk, sidesOk}
+use Rattle.checking.specs.Rowwise.{rootOk, childOk, placeOk, kidOk, kidsOk}
 use Rattle.sound.specs.Parts.{noKids, sidesBy}
 use Rattle.sound.proofs.CellRows.{bare-links}
 
@@ -134,19 +133,6 @@ module _ (g : Grid) (cap : ℕ) (t : List ℤ) (v : List Float) (n : ℕ) where
         pub kids-is : c ≡ true → {r : Bool} → r ≡ kidOk g cap t v n 0 1 → r ≡ kidsOk g cap t v n
         unfolding kidsOk
         kids-is h q = rw (← first, one, ← second, two, ← third, h, and-true) q
-
-  -- ---- neighbours
-
-  pub sides-is : (l m : ℕ) {p i j : ℕ} {r : Bool} →
-      p ≡ linkOf t cap n 0 →
-      i ≡ wordOf t n 10 →
-      j ≡ wordOf t n 11 →
-      i % 2 ≡ l →
-      j % 2 ≡ m →
-      r ≡ sidesBy t cap n p l m →
-      r ≡ sidesOk g cap t v n
-  unfolding sidesOk sidesBy
-  sides-is l m up col row a b q = rw (side-digits t cap n N, side-digits t cap n E, side-digits t cap n S, side-digits t cap n W, ← up, ← col, ← row, a, b) q
 
 pub sides-by-is : (t : List ℤ) (cap n p l m : ℕ) {x y z u : ℕ} {a b c e : Bool} →
     x ≡ sideBy t cap p l m N →

@@ -1,6 +1,7 @@
 -- The tests of a row, as the code makes them from what it read, are those of the definitions.
 pub mod EmptyRows
 pub mod Family
+pub mod Seaming
 pub mod FlagSums
 pub mod CellRows
 pub mod ValueRows

@@ -2,9 +2,10 @@
 -- its flags; a row without a patch is all 0 but for them.
 -- Assumes nothing.
 use mathlib.Core.Path.{_≡_, refl, sym, subst, _∙_}
-use mathlib.Core.Bool.{Bool, true, false, _&&_}
+use mathlib.Core.Bool.{Bool, true, false, _&&_, cond}
+use mathlib.Core.Option.{Option, none, some}
 use mathlib.Core.List.{List}
-use Prim.Native.Nat.{ℕ, zero, suc, _+_, _*_, _≤_, _<_}
+use Prim.Native.Nat.{ℕ, zero, suc, _+_, _*_, _≤_, _<_, _/_, _%_}
 use native.Mathlib.Omega.{arith}
 use native.Mathlib.Decide.{ℕ-discrete}
 use lib.Dec.{T, eqb, leb, eqb→eq, leb→le, ltb→lt}
@@ -12,11 +13,13 @@ use lib.ListN.{length}
 use lib.IntN.{ℤ}
 use lib.Ieee.{Float}
 use borrow.Author.Tests.{eq-eqb, le-leb, lt-ltb}
-use Rattle.mesh.specs.Place.{Grid, base, Wind, N, E, S, W}
+use Rattle.mesh.specs.Tools.{orElse}
+use Rattle.mesh.specs.Place.{Place, Grid, at, base, step, Wind, N, E, S, W}
+use Rattle.mesh.specs.Seam.{crosses}
 use Rattle.mesh.specs.Picture.{rowWords}
 use Rattle.mesh.specs.Winds.{wordOfWind}
 use Rattle.table.specs.Words.{wordOf, linkOf, depthOf}
-use Rattle.table.specs.Worked.{kidWord, sideOf}
+use Rattle.table.specs.Worked.{kidWord, sideOf, downTo, sideIn}
 use Rattle.table.proofs.Links.{link-within, link-word}
 use Rattle.geometry.proofs.Base.{Rectangle}
 use Rattle.geometry.proofs.Bools.{and-left, and-right, is-yes, yes-is}
@@ -133,9 +136,30 @@ module _ {g : Grid} {cap : ℕ} {t : List ℤ} {v : List Float} (ok : Tested g c
   kid-high : (n l m : ℕ) → Used cap t n → l ≤ 1 → m ≤ 1 → wordOf t n (kidWord l m) ≤ cap
   kid-high n l m u a b = subst (λ (x : ℕ). x ≤ cap) (sym (ok .row n u .kid-word l m a b)) (link-within t cap n (kidWord l m))
 
+  down-high : (e i j : ℕ) → downTo t cap e i j ≤ cap
+  unfolding downTo
+  down-high zero i j = go (eqb (i + j) 0)
+    where
+      go : (b : Bool) → cond b 1 0 ≤ cap
+      go true = omega (arith, ok .root-used .high)
+      go false = omega arith
+  down-high (suc e) i j = go (downTo t cap e (i / 2) (j / 2)) (eqb (downTo t cap e (i / 2) (j / 2)) 0)
+    where
+      go : (n : ℕ) (b : Bool) → cond b 0 (linkOf t cap n (kidWord (i % 2) (j % 2))) ≤ cap
+      go n true = omega arith
+      go n false = link-within t cap _ _
+
+  side-within : (n : ℕ) (w : Wind) → sideIn g t cap n w ≤ cap
+  unfolding sideIn sideOf
+  side-within n w = go (crosses g w (at (depthOf t (base g) n) (wordOf t n 10) (wordOf t n 11))) (step g w (at (depthOf t (base g) n) (wordOf t n 10) (wordOf t n 11)))
+    where
+      go : (b : Bool) (o : Option Place) → cond b (orElse 0 (λ q. downTo t cap (q .depth) (q .col) (q .row)) o) (sideOf t cap n w) ≤ cap
+      go true none = omega arith
+      go true (some q) = down-high (q .depth) (q .col) (q .row)
+      go false o = link-within t cap _ _
+
   side-high : (n : ℕ) (w : Wind) → Used cap t n → T (aside w) → wordOf t n (wordOfWind w) ≤ cap
-  unfolding sideOf
-  side-high n w u a = subst (λ (x : ℕ). x ≤ cap) (sym (ok .row n u .side w a)) (link-within t cap _ _)
+  side-high n w u a = subst (λ (x : ℕ). x ≤ cap) (sym (ok .row n u .side w a)) (side-within n w)
 
   parent-high : (n : ℕ) → Used cap t n → Dec (n ≡ 1) → wordOf t n 0 ≤ cap
   parent-high n u (yes e) = omega (arith, ok .row n u .top e .0)

@@ -15,6 +15,8 @@ pub record Lent (t : List ℤ) (v : List Float) (cap : ℕ) (g : Grid) (d : ℕ)
   pub values : cap < length v
   pub small : cap ≤ 4095
   pub depth : d ≡ base g
-  pub shallow : d ≤ 32
+  pub shallow : d ≤ 6
+  pub rooted : 1 ≤ cap
+  pub tall : 1 ≤ g .rows
   pub plain : Plain t cap
   pub levelled : Levelled t cap d

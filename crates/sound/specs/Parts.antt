@@ -1,7 +1,7 @@
 -- Parts of the tests of a row, as the functions take them: with the lists and the numbers that play a part in them alone.
 -- Assumes nothing.
-use Prim.Native.Nat.{ℕ}
-use mathlib.Core.Bool.{Bool, _&&_, cond}
+use Prim.Native.Nat.{ℕ, _+_, _-_, _%_}
+use mathlib.Core.Bool.{Bool, _&&_, _||_, cond}
 use mathlib.Core.List.{List, [], _∷_}
 use lib.Dec.{eqb, ltb}
 use lib.IntN.{ℤ}
@@ -9,8 +9,13 @@ use lib.Ieee.{Float}
 use Rattle.mesh.specs.Tools.{every}
 use Rattle.mesh.specs.Place.{Grid, rectangle, N, E, S, W}
 use Rattle.table.specs.Words.{wordOf, linkOf, flagOf, depthOf}
+use Rattle.table.specs.Worked.{sideOf, downTo}
 use Rattle.table.specs.Sides.{sideBy}
 use Rattle.checking.specs.Rowwise.{below, kidlessTests, kidCellsAre, carriedTests}
+
+-- on level 0 of a ring of so many rows, in the first or the last row, or past it
+abbrev pub onSeam : List ℤ → ℕ → ℕ → ℕ → Bool
+onSeam t rows d n = eqb (depthOf t d n) d && (eqb (wordOf t n 11) 0 || (eqb (wordOf t n 11 + 1) rows || eqb (wordOf t n 11) rows))
 
 module _ (t : List ℤ) (cap : ℕ) where
   -- each of the four kids is a cell, or none is
@@ -41,4 +46,33 @@ module _ (t : List ℤ) (cap : ℕ) where
       eqb (wordOf t n 6) (sideBy t cap p l m E) ∷
       eqb (wordOf t n 7) (sideBy t cap p l m S) ∷
       eqb (wordOf t n 8) (sideBy t cap p l m W) ∷
+      [])
+
+  -- and so by its own parent and digits
+  abbrev pub sidesOf : ℕ → Bool
+  sidesOf n =
+      every (
+      eqb (wordOf t n 5) (sideOf t cap n N) ∷
+      eqb (wordOf t n 6) (sideOf t cap n E) ∷
+      eqb (wordOf t n 7) (sideOf t cap n S) ∷
+      eqb (wordOf t n 8) (sideOf t cap n W) ∷
+      [])
+
+  -- the rows north and south of the place with the indices i and j there, whose parent is p
+  abbrev pub seamNorth : ℕ → ℕ → ℕ → ℕ → ℕ → ℕ
+  seamNorth rows d p i j = cond (eqb (j + 1) rows) (downTo t cap d i 0) (sideBy t cap p (i % 2) (j % 2) N)
+
+  abbrev pub seamSouth : ℕ → ℕ → ℕ → ℕ → ℕ → ℕ
+  seamSouth rows d p i j = cond (eqb j 0) (downTo t cap d i (rows - 1)) (cond (eqb j rows) 0 (sideBy t cap p (i % 2) (j % 2) S))
+
+  abbrev pub sidesOver : ℕ → ℕ → ℕ → Bool
+  sidesOver rows d n =
+      let p = linkOf t cap n 0 in
+      let i = wordOf t n 10 in
+      let j = wordOf t n 11 in
+      every (
+      eqb (wordOf t n 5) (seamNorth rows d p i j) ∷
+      eqb (wordOf t n 6) (sideBy t cap p (i % 2) (j % 2) E) ∷
+      eqb (wordOf t n 7) (seamSouth rows d p i j) ∷
+      eqb (wordOf t n 8) (sideBy t cap p (i % 2) (j % 2) W) ∷
       [])

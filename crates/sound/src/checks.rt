@@ -9,6 +9,7 @@ ghost use Rattle.checking.proofs.Words.{Fits, FitsAt};
 use crate::plain::plain;
 use crate::rowwise;
 use mesh::header::Header;
+use mesh::header::misfit;
 use table::words::ROW_WORDS;
 
 // Reads every word, for what that shows: each is a signed number of 32 bits. Nothing comes of it, so no code is left of it either.
@@ -58,16 +59,7 @@ pub fn check_first(header: Header, t: &[i32], v: &[f64], capacity: u32) -> Check
     if v.len() != cap + 1 {
         return refused(1);
     }
-    if header.columns < 1 {
-        return refused(2);
-    }
-    if 32 < header.columns {
-        return refused(2);
-    }
-    if header.rows < 1 {
-        return refused(2);
-    }
-    if 32 < header.rows {
+    if misfit(header) {
         return refused(2);
     }
     words_fit(t);

@@ -1,10 +1,10 @@
 // The place of a row, its parent, its kids and its neighbours.
 ghost use mathlib.Core.Path.{_≡_};
-ghost use mathlib.Core.Bool.{cond};
+ghost use mathlib.Core.Bool.{_&&_, cond};
 ghost use Prim.Native.Nat.{_+_, _*_, _≤_, _<_};
 ghost use lib.Dec.{eqb};
 ghost use lib.ListN.{length, getD};
-ghost use Rattle.mesh.specs.Place.{NE};
+ghost use Rattle.mesh.specs.Place.{NE, isRing};
 ghost use Rattle.mesh.specs.Headers.{headerOf};
 ghost use Rattle.mesh.specs.Winds.{winds, kidCol, kidRow};
 ghost use Rattle.mesh.specs.Picture.{rowWords};
@@ -12,11 +12,13 @@ ghost use Rattle.table.specs.Words.{linkOf, depthOf};
 ghost use Rattle.table.specs.Sides.{sideBy};
 ghost use Rattle.checking.specs.Rowwise.{rootOk, childOk, placeOk, kidOk, kidsOk, sidesOk};
 ghost use Rattle.sound.specs.Lent.{Lent};
-ghost use Rattle.sound.specs.Parts.{linked, noKids, sidesBy};
+ghost use Rattle.sound.specs.Parts.{linked, noKids, sidesOf, onSeam, seamNorth, seamSouth, sidesOver, sidesBy};
 ghost use Rattle.sound.specs.Plain.{Plain, Levelled};
 use crate::plain::depth;
 use crate::plain::index;
 use mesh::header::Header;
+use mesh::header::is_ring;
+use table::down::down_to;
 use table::plain::link;
 use table::words::NE_KID;
 use table::words::NW_KID;
@@ -182,9 +184,10 @@ fn sides_by(t: &[i32], cap: usize, n: usize, p: usize, l: u32, m: u32) -> bool
         & says(t, n, 8, side_by(t, cap, p, l, m, 7) as u32)
 }
 
-pub fn sides_ok(t: &[i32], v: &[f64], cap: usize, header: Header, d: u32, n: usize) -> bool
-    requires { ⌜ Lent (now t) (now v) cap (headerOf header .grid) d × (n ≤ cap) ⌝ }
-    ensures { λ r. ⌜ r ≡ sidesOk (headerOf header .grid) cap (now (t .entry)) (now (v .entry)) n ⌝ }
+// Whether each neighbour is the kid of the parent or of the parent's neighbour.
+fn parental_ok(t: &[i32], cap: usize, n: usize) -> bool
+    requires { ⌜ Plain (now t) cap × (n ≤ cap) ⌝ }
+    ensures { λ r. ⌜ r ≡ sidesOf (now (t .entry)) cap n ⌝ }
 {
     // Digits that are written out make the choice of the parent's neighbours one of the compiler's.
     let p = link(t, cap, n, 0);
@@ -200,4 +203,68 @@ pub fn sides_ok(t: &[i32], v: &[f64], cap: usize, header: Header, d: u32, n: usi
         return sides_by(t, cap, n, p, 1, 0);
     }
     sides_by(t, cap, n, p, 1, 1)
+}
+
+// Whether a step north or south of the row n may cross the seam of a ring: it is on level 0, in the first or the last row, or past it.
+fn on_seam(t: &[i32], cap: usize, header: Header, d: u32, n: usize) -> bool
+    requires { ⌜ Plain (now t) cap × Levelled (now t) cap d × (n ≤ cap) ⌝ }
+    ensures { λ r. ⌜ r ≡ (isRing (headerOf header .grid) && onSeam (now (t .entry)) (header .rows) d n) ⌝ }
+{
+    if !is_ring(header) {
+        return false;
+    }
+    if depth(t, cap, d, n) != d {
+        return false;
+    }
+    let j = index(t, cap, n, 11);
+    (j == 0) | ((j + 1 == header.rows) | (j == header.rows))
+}
+
+// The row north of the place with the indices i and j of level 0: from the last row the one of the first, otherwise by the parent p.
+fn seam_north(t: &[i32], cap: usize, rows: u32, d: u32, p: usize, i: u32, j: u32) -> usize
+    requires { ⌜ Plain (now t) cap × (1 ≤ cap) × (p ≤ cap) × (d ≤ 6) × (j < 2147483648) ⌝ }
+    ensures { λ r. ⌜ (r ≤ cap) × (r ≡ seamNorth (now (t .entry)) cap rows d p i j) ⌝ }
+{
+    if j + 1 == rows {
+        return down_to(t, cap, d, i, 0);
+    }
+    side_by(t, cap, p, i % 2, j % 2, 4)
+}
+
+// The row south of it: from the first row the one of the last, and none from the row past the last.
+fn seam_south(t: &[i32], cap: usize, rows: u32, d: u32, p: usize, i: u32, j: u32) -> usize
+    requires { ⌜ Plain (now t) cap × (1 ≤ cap) × (p ≤ cap) × (d ≤ 6) × (1 ≤ rows) ⌝ }
+    ensures { λ r. ⌜ (r ≤ cap) × (r ≡ seamSouth (now (t .entry)) cap rows d p i j) ⌝ }
+{
+    if j == 0 {
+        return down_to(t, cap, d, i, rows - 1);
+    }
+    if j == rows {
+        return 0;
+    }
+    side_by(t, cap, p, i % 2, j % 2, 6)
+}
+
+// Whether each neighbour of a row on the seam is the one across it, or by the parent.
+fn seam_ok(t: &[i32], cap: usize, rows: u32, d: u32, n: usize) -> bool
+    requires { ⌜ Plain (now t) cap × (1 ≤ cap) × (n ≤ cap) × (d ≤ 6) × (1 ≤ rows) ⌝ }
+    ensures { λ r. ⌜ r ≡ sidesOver (now (t .entry)) cap rows d n ⌝ }
+{
+    let p = link(t, cap, n, 0);
+    let i = index(t, cap, n, 10);
+    let j = index(t, cap, n, 11);
+    says(t, n, 5, seam_north(t, cap, rows, d, p, i, j) as u32)
+        & says(t, n, 6, side_by(t, cap, p, i % 2, j % 2, 5) as u32)
+        & says(t, n, 7, seam_south(t, cap, rows, d, p, i, j) as u32)
+        & says(t, n, 8, side_by(t, cap, p, i % 2, j % 2, 7) as u32)
+}
+
+pub fn sides_ok(t: &[i32], v: &[f64], cap: usize, header: Header, d: u32, n: usize) -> bool
+    requires { ⌜ Lent (now t) (now v) cap (headerOf header .grid) d × (n ≤ cap) ⌝ }
+    ensures { λ r. ⌜ r ≡ sidesOk (headerOf header .grid) cap (now (t .entry)) (now (v .entry)) n ⌝ }
+{
+    if on_seam(t, cap, header, d, n) {
+        return seam_ok(t, cap, header.rows, d, n);
+    }
+    parental_ok(t, cap, n)
 }

@@ -60,6 +60,10 @@ module _ {t : List ℤ} {cap : ℕ} (p : Plain t cap) where
   plain-either true q = p
   plain-either false q = q
 
+-- a row is named
+pub plain-named : {t u : List ℤ} {cap : ℕ} (n w x : ℕ) → Plain t cap → u ≡ putWord t n w x → w < 9 → x ≤ cap → Plain u cap
+plain-named n w x p e l h = rw e (plain-link p n w x l h)
+
 pub plain-put : {t u : List ℤ} {cap : ℕ} (n x : ℕ) → Plain t cap → u ≡ putWord t n 12 x → x < 2147483648 → Plain u cap
 plain-put {cap = cap} n x p e h = rw e (plain-flags p n x h)
 
@@ -97,7 +101,7 @@ module _ {t : List ℤ} {cap : ℕ} (p : Plain t cap) where
 
 -- the parent does not name it any more
 pub plain-unnamed : {t u : List ℤ} {cap : ℕ} (n w : ℕ) → Plain t cap → u ≡ putWord t n w 0 → w < 9 → Plain u cap
-plain-unnamed n w p e h = rw e (plain-link p n w 0 h (omega arith))
+plain-unnamed n w p e h = plain-named n w 0 p e h (omega arith)
 
 -- nor does a neighbour
 pub plain-drop : {t u : List ℤ} {cap : ℕ} (k : ℕ) (w : Wind) → Plain t cap → u ≡ dropSide t cap k w → Plain u cap

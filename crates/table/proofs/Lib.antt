@@ -7,5 +7,6 @@ pub mod Flags
 pub mod Paired
 pub mod Offsets
 pub mod Links
+pub mod Downs
 pub mod Rows
 pub mod Taken

@@ -1,12 +1,14 @@
 -- The words that are worked out from other rows' words: a neighbour from the parent's kids and neighbours, the flags from the neighbours' cells
 -- and the parent's walls.
 -- Assumes nothing.
-use Prim.Native.Nat.{ℕ, _+_, _-_, _%_}
+use Prim.Native.Nat.{ℕ, zero, suc, _+_, _-_, _/_, _%_}
 use mathlib.Core.Bool.{Bool, false, not, _&&_, _||_, cond, Bool·beq}
 use mathlib.Core.List.{List, [], _∷_}
 use lib.Dec.{eqb, leb}
 use lib.IntN.{ℤ}
-use Rattle.mesh.specs.Place.{Wind, compass}
+use Rattle.mesh.specs.Tools.{orElse}
+use Rattle.mesh.specs.Place.{Grid, Wind, at, base, compass, step}
+use Rattle.mesh.specs.Seam.{crosses}
 use Rattle.mesh.specs.Winds.{wordOfWind}
 use Rattle.table.specs.Words.{wordOf, linkOf, flagOf, depthOf}
 
@@ -27,6 +29,17 @@ sideOf t cap n w =
     let a = wordOf t n 10 % 2 + compass w .east in
     let b = wordOf t n 11 % 2 + compass w .north in
     linkOf t cap (cond (staysIn a && staysIn b) p (linkOf t cap p (wordOfWind w))) (kidWord ((a + 1) % 2) ((b + 1) % 2))
+
+-- the row of the place with these indices, so many kids down from the root by their digits, the highest first; 0 where there is none
+unfoldable pub downTo : List ℤ → ℕ → ℕ → ℕ → ℕ → ℕ
+downTo t cap zero i j = cond (eqb (i + j) 0) 1 0
+downTo t cap (suc e) i j = let n = downTo t cap e (i / 2) (j / 2) in cond (eqb n 0) 0 (linkOf t cap n (kidWord (i % 2) (j % 2)))
+
+-- across the seam of level 0, where the parents are no neighbours, from the root down
+unfoldable pub sideIn : Grid → List ℤ → ℕ → ℕ → Wind → ℕ
+sideIn g t cap n w =
+    let p = at (depthOf t (base g) n) (wordOf t n 10) (wordOf t n 11) in
+    cond (crosses g w p) (orElse 0 (λ q. downTo t cap (q .depth) (q .col) (q .row)) (step g w p)) (sideOf t cap n w)
 
 -- ---- flags
 

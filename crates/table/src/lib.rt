@@ -1,4 +1,5 @@
 // The lent table: every read and write of its words and values.
+pub mod down;
 pub mod pairs;
 pub mod plain;
 pub mod values;

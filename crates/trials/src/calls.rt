@@ -21,9 +21,9 @@ fn long(x: u32) -> usize {
     x as usize
 }
 
-fn header(h: &[u32; 12]) -> Header {
-    let mark = (h[2] % 65536) as u16;
-    with_mark(fresh(h[0], h[1]), mark)
+fn header(h: &[u32; 13]) -> Header {
+    let mark = (h[3] % 65536) as u16;
+    with_mark(fresh(h[0], h[1], h[2]), mark)
 }
 
 fn level(x: u32) -> i32 {
@@ -31,37 +31,39 @@ fn level(x: u32) -> i32 {
 }
 
 // Writes the rest of a line, what the call left, and keeps the header.
-fn finish(t: &[i32], v: &[f64], h: &mut [u32; 12], header: Header) {
+fn finish(t: &[i32], v: &[f64], h: &mut [u32; 13], header: Header) {
     tell(header.columns as u64);
     tell(header.rows as u64);
+    tell(header.mode as u64);
     tell(header.mark as u64);
     tell_lists(t, v);
     end_line();
     h[0] = header.columns;
     h[1] = header.rows;
-    h[2] = header.mark as u32;
+    h[2] = header.mode;
+    h[3] = header.mark as u32;
 }
 
-fn check(t: &[i32], v: &[f64], h: &[u32; 12], n: usize, m: usize)
+fn check(t: &[i32], v: &[f64], h: &[u32; 13], n: usize, m: usize)
     requires { ⌜ (n ≤ length (now t)) × (m ≤ length (now v)) ⌝ }
 {
-    let r = grid::check(header(h), &t[..n], &v[..m], h[3]);
+    let r = grid::check(header(h), &t[..n], &v[..m], h[4]);
     tell(r as u64);
 }
 
-fn build(t: &mut [i32], v: &mut [f64], h: &mut [u32; 12], n: usize, m: usize)
+fn build(t: &mut [i32], v: &mut [f64], h: &mut [u32; 13], n: usize, m: usize)
     requires { ⌜ (n ≤ length (now t)) × (m ≤ length (now v)) ⌝ }
 {
-    let r = lent::build(header(h), &mut t[..n], &mut v[..m], h[3], h[6], h[7]);
+    let r = lent::build(header(h), &mut t[..n], &mut v[..m], h[4], h[7], h[8], h[9]);
     tell(r.answer.refusal as u64);
     tell(r.answer.used as u64);
     finish(t, v, h, r.header);
 }
 
-fn tape(t: &mut [i32], v: &mut [f64], h: &mut [u32; 12], n: usize, m: usize, b: &[u8], k: usize)
+fn tape(t: &mut [i32], v: &mut [f64], h: &mut [u32; 13], n: usize, m: usize, b: &[u8], k: usize)
     requires { ⌜ (n ≤ length (now t)) × (m ≤ length (now v)) × (k ≤ length (now b)) ⌝ }
 {
-    let r = lent::tape(header(h), &mut t[..n], &mut v[..m], h[3], &b[..k]);
+    let r = lent::tape(header(h), &mut t[..n], &mut v[..m], h[4], &b[..k]);
     tell(r.answer.done as u64);
     tell(r.answer.refusal as u64);
     tell(r.answer.offset as u64);
@@ -71,7 +73,7 @@ fn tape(t: &mut [i32], v: &mut [f64], h: &mut [u32; 12], n: usize, m: usize, b: 
 fn scan_on(
     t: &[i32],
     v: &[f64],
-    h: &[u32; 12],
+    h: &[u32; 13],
     n: usize,
     m: usize,
     order: [u8; 4],
@@ -80,16 +82,16 @@ fn scan_on(
 )
     requires { ⌜ (n ≤ length (now t)) × (m ≤ length (now v)) × (k ≤ length (now out)) ⌝ }
 {
-    let from = level(h[8]);
-    let to = level(h[9]);
+    let from = level(h[9]);
+    let to = level(h[10]);
     let r = grid::scan(
         header(h),
         &t[..n],
         &v[..m],
-        h[3],
-        h[6],
-        order,
+        h[4],
         h[7],
+        order,
+        h[8],
         from,
         to,
         &mut out[..k],
@@ -99,22 +101,22 @@ fn scan_on(
     tell_shorts(out);
 }
 
-fn scan(t: &[i32], v: &[f64], h: &[u32; 12], n: usize, m: usize, b: &[u8; 4096])
+fn scan(t: &[i32], v: &[f64], h: &[u32; 13], n: usize, m: usize, b: &[u8; 4096])
     requires { ⌜ (n ≤ length (now t)) × (m ≤ length (now v)) ⌝ }
 {
-    let filler = (h[11] % 65536) as u16;
+    let filler = (h[12] % 65536) as u16;
     let mut out = [filler; 256];
-    let k = long(h[10]);
+    let k = long(h[11]);
     if k > 256 {
         return;
     }
     scan_on(t, v, h, n, m, [b[0], b[1], b[2], b[3]], &mut out, k);
 }
 
-fn lookup(t: &[i32], v: &[f64], h: &[u32; 12], n: usize, m: usize)
+fn lookup(t: &[i32], v: &[f64], h: &[u32; 13], n: usize, m: usize)
     requires { ⌜ (n ≤ length (now t)) × (m ≤ length (now v)) ⌝ }
 {
-    let r = grid::lookup(header(h), &t[..n], &v[..m], h[3], h[6], h[7]);
+    let r = grid::lookup(header(h), &t[..n], &v[..m], h[4], h[7], h[8]);
     tell(r.why as u64);
     tell(r.leaf as u64);
     let reading = r.reading;
@@ -134,11 +136,11 @@ fn lookup(t: &[i32], v: &[f64], h: &[u32; 12], n: usize, m: usize)
 }
 
 // A lookup mixed into a sum.
-fn look(t: &[i32], v: &[f64], h: &[u32; 12], n: usize, m: usize, x: u32, y: u32, s: u64) -> u64
+fn look(t: &[i32], v: &[f64], h: &[u32; 13], n: usize, m: usize, x: u32, y: u32, s: u64) -> u64
     requires { ⌜ (n ≤ length (now t)) × (m ≤ length (now v)) ⌝ }
     ensures { λ r. ⌜ r < 4294967291 ⌝ }
 {
-    let r = grid::lookup(header(h), &t[..n], &v[..m], h[3], x, y);
+    let r = grid::lookup(header(h), &t[..n], &v[..m], h[4], x, y);
     let w = mix(s, r.why);
     let k = mix(w, r.leaf);
     let reading = r.reading;
@@ -150,50 +152,50 @@ fn look(t: &[i32], v: &[f64], h: &[u32; 12], n: usize, m: usize, x: u32, y: u32,
 }
 
 // Lookups of 64 points of a load, by a step.
-fn sweep_row(t: &[i32], v: &[f64], h: &[u32; 12], n: usize, m: usize, y: u32, sum: u64) -> u64
+fn sweep_row(t: &[i32], v: &[f64], h: &[u32; 13], n: usize, m: usize, y: u32, sum: u64) -> u64
     requires { ⌜ (n ≤ length (now t)) × (m ≤ length (now v)) ⌝ }
 {
     let mut s = sum;
-    let mut x = h[6];
+    let mut x = h[7];
     let mut left: u32 = 64;
     while left > 0 {
         s = look(t, v, h, n, m, x, y, s);
-        x = std::num::wrapping_add_u32(x, h[8]);
+        x = std::num::wrapping_add_u32(x, h[9]);
         left -= 1;
     }
     s
 }
 
 // Lookups of 64 times 64 points, by a step.
-fn sweep(t: &[i32], v: &[f64], h: &[u32; 12], n: usize, m: usize)
+fn sweep(t: &[i32], v: &[f64], h: &[u32; 13], n: usize, m: usize)
     requires { ⌜ (n ≤ length (now t)) × (m ≤ length (now v)) ⌝ }
 {
     let mut s: u64 = 1;
-    let mut y = h[7];
+    let mut y = h[8];
     let mut left: u32 = 64;
     while left > 0 {
         s = sweep_row(t, v, h, n, m, y, s);
-        y = std::num::wrapping_add_u32(y, h[8]);
+        y = std::num::wrapping_add_u32(y, h[9]);
         left -= 1;
     }
     tell(s);
 }
 
-fn page_on(t: &[i32], v: &[f64], h: &[u32; 12], n: usize, m: usize, out: &mut [u8], k: usize)
+fn page_on(t: &[i32], v: &[f64], h: &[u32; 13], n: usize, m: usize, out: &mut [u8], k: usize)
     requires { ⌜ (n ≤ length (now t)) × (m ≤ length (now v)) × (k ≤ length (now out)) ⌝ }
 {
-    let r = grid::page(header(h), &t[..n], &v[..m], h[3], &mut out[..k]);
+    let r = grid::page(header(h), &t[..n], &v[..m], h[4], &mut out[..k]);
     tell(r.refusal as u64);
     tell(r.count as u64);
     tell_bytes(out);
 }
 
-fn page(t: &[i32], v: &[f64], h: &[u32; 12], n: usize, m: usize)
+fn page(t: &[i32], v: &[f64], h: &[u32; 13], n: usize, m: usize)
     requires { ⌜ (n ≤ length (now t)) × (m ≤ length (now v)) ⌝ }
 {
-    let filler = (h[11] % 256) as u8;
+    let filler = (h[12] % 256) as u8;
     let mut out = [filler; 16384];
-    let k = long(h[10]);
+    let k = long(h[11]);
     if k > 16384 {
         return;
     }
@@ -201,7 +203,7 @@ fn page(t: &[i32], v: &[f64], h: &[u32; 12], n: usize, m: usize)
 }
 
 // The calls that only read.
-fn read(t: &[i32], v: &[f64], h: &[u32; 12], n: usize, m: usize, b: &[u8; 4096], kind: usize)
+fn read(t: &[i32], v: &[f64], h: &[u32; 13], n: usize, m: usize, b: &[u8; 4096], kind: usize)
     requires { ⌜ (n ≤ length (now t)) × (m ≤ length (now v)) ⌝ }
 {
     if kind == 4 {
@@ -224,11 +226,11 @@ fn read(t: &[i32], v: &[f64], h: &[u32; 12], n: usize, m: usize, b: &[u8; 4096],
 }
 
 // Makes the call of a kind, whose items are the first k bytes of b, and writes its line.
-pub fn call(t: &mut [i32], v: &mut [f64], h: &mut [u32; 12], b: &[u8; 4096], k: usize, kind: usize)
+pub fn call(t: &mut [i32], v: &mut [f64], h: &mut [u32; 13], b: &[u8; 4096], k: usize, kind: usize)
     requires { ⌜ k ≤ 4096 ⌝ }
 {
-    let n = long(h[4]);
-    let m = long(h[5]);
+    let n = long(h[5]);
+    let m = long(h[6]);
     if n > t.len() {
         return;
     }

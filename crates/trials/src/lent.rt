@@ -11,10 +11,11 @@ pub fn build(
     capacity: u32,
     columns: u32,
     rows: u32,
+    mode: u32,
 ) -> BuildOut
-    ensures { λ r. ⌜ Builds header (now (table .entry)) (now (values .entry)) capacity columns rows (r .header) (now (table .exit)) (now (values .exit)) (r .answer) ⌝ }
+    ensures { λ r. ⌜ Builds header (now (table .entry)) (now (values .entry)) capacity columns rows mode (r .header) (now (table .exit)) (now (values .exit)) (r .answer) ⌝ }
 {
-    let answer = grid::build(&mut header, table, values, capacity, columns, rows);
+    let answer = grid::build(&mut header, table, values, capacity, columns, rows, mode);
     BuildOut { header, answer }
 }
 

@@ -31,14 +31,14 @@ fn put_value(v: &mut [f64; 231], k: usize, x: f64) {
     }
 }
 
-fn put_number(h: &mut [u32; 12], k: usize, x: u32) {
-    if k < 12 {
+fn put_number(h: &mut [u32; 13], k: usize, x: u32) {
+    if k < 13 {
         h[k] = x;
     }
 }
 
 // Changes the item at k to the number x.
-fn put(t: &mut [i32; 2844], v: &mut [f64; 231], h: &mut [u32; 12], kind: usize, k: usize, x: u64) {
+fn put(t: &mut [i32; 2844], v: &mut [f64; 231], h: &mut [u32; 13], kind: usize, k: usize, x: u64) {
     if kind == 1 {
         put_word(t, k, word(x));
         return;
@@ -54,7 +54,7 @@ fn put(t: &mut [i32; 2844], v: &mut [f64; 231], h: &mut [u32; 12], kind: usize, 
 pub fn run(
     t: &mut [i32; 2844],
     v: &mut [f64; 231],
-    h: &mut [u32; 12],
+    h: &mut [u32; 13],
     b: &[u8],
     kind: usize,
     start: usize,

@@ -1,15 +1,15 @@
 // Makes the calls of the library that standard input asks for, and writes a line for each: what it answered and what it left.
 //
-// What is lent is kept from call to call, and at the start all of it is 0: the words, the values and twelve numbers, which are columns, rows,
-// mark, capacity, the length of the table, the length of the values, and six arguments of a call. Standard input is a list of runs. A run is
+// What is lent is kept from call to call, and at the start all of it is 0: the words, the values and thirteen numbers, which are columns, rows,
+// mode, mark, capacity, the length of the table, the length of the values, and six arguments of a call. Standard input is a list of runs. A run is
 // eight bytes, four numbers of two bytes: its kind, the place where it starts, the bytes of all its items and the bytes of one; then come the
 // items. Every number is written high byte first.
 //
 //     kind 1   words of the table, each as a number: n as itself, -(n + 1) as 2^31 + n
 //     kind 2   values, by their bits
-//     kind 3   the twelve numbers
+//     kind 3   the thirteen numbers
 //     kind 4   check
-//     kind 5   build, of columns and rows
+//     kind 5   build, of columns, rows and mode
 //     kind 6   tape: the items are its bytes
 //     kind 7   scan, from a start, of a kind, of levels from and to (as words), on an output of a length, with a filler: the items are the order
 //     kind 8   lookup, of speed and load
@@ -47,7 +47,7 @@ fn fill(b: &mut [u8], n: usize)
 fn carry_out(
     t: &mut [i32; 2844],
     v: &mut [f64; 231],
-    h: &mut [u32; 12],
+    h: &mut [u32; 13],
     kind: usize,
     start: usize,
     bytes: usize,
@@ -66,7 +66,7 @@ fn carry_out(
 }
 
 // Reads a run and carries it out. Answers whether there was one.
-fn turn(t: &mut [i32; 2844], v: &mut [f64; 231], h: &mut [u32; 12]) -> bool {
+fn turn(t: &mut [i32; 2844], v: &mut [f64; 231], h: &mut [u32; 13]) -> bool {
     let mut head = [0u8; 8];
     let got = io::read_full(STDIN_FILENO, &mut head);
     if got < 8 {
@@ -83,7 +83,7 @@ fn turn(t: &mut [i32; 2844], v: &mut [f64; 231], h: &mut [u32; 12]) -> bool {
 fn main() {
     let mut t = [0i32; 2844];
     let mut v = [0.0f64; 231];
-    let mut h = [0u32; 12];
+    let mut h = [0u32; 13];
     let mut turns = u64::MAX;
     while turns > 0 && turn(&mut t, &mut v, &mut h) {
         turns -= 1;

@@ -5,34 +5,34 @@ use Prim.Native.Nat.{ℕ, _+_, _-_, _*_, _≤_, _<_}
 use native.Mathlib.Nat.{sub-zero}
 use native.Mathlib.Omega.{arith}
 use native.Mathlib.Decide.{decLt}
-use mathlib.Core.Path.{_≡_, refl, ap, _∙_, subst, fun-ext}
+use mathlib.Core.Path.{_≡_, refl, sym, ap, _∙_, subst, fun-ext}
 use mathlib.Core.Bool.{Bool, true, false, not, _&&_, cond}
 use mathlib.Core.List.{List, [], _∷_, _++_, map}
 use lib.Dec.{T, eqb, leb, leb→le}
 use borrow.Author.Tests.{le-leb}
 use Rattle.mesh.specs.Tools.{any, foremost}
-use Rattle.mesh.specs.Place.{Place, base}
+use Rattle.mesh.specs.Place.{Place, isRing, base}
 use Rattle.mesh.specs.Mesh.{leaf}
 use Rattle.mesh.specs.State.{State, cells, number, gridOf, capacity}
 use Rattle.mesh.specs.Valid.{Valid}
 use Rattle.mesh.specs.Picture.{table}
 use Rattle.mesh.specs.Refusal.{refusal}
 use Rattle.mesh.specs.Holding.{westEdge, eastEdge, southEdge, northEdge, holds, leafAt}
-use Rattle.mesh.specs.Lookup.{tries, tried, firstFound, lookup, lookupChecks}
+use Rattle.mesh.specs.Lookup.{tries, tried, firstFound, beyond, lookup, lookupChecks}
 use Rattle.walk.specs.Rows.{rowLookup}
 use Rattle.walk.proofs.Tries.{tried-own}
-use Rattle.geometry.proofs.Bools.{and-left, and-right, yes-is, neither}
+use Rattle.geometry.proofs.Bools.{and-both, and-left, and-right, yes-is, no-is, neither}
 use Rattle.geometry.proofs.Lists.{foremost-any, foremost-first}
 use Rattle.geometry.proofs.Points.{Within, held, holding}
 use Rattle.geometry.proofs.Tiling.{groundOf, tiling-none}
-use Rattle.walking.specs.Reach.{reaches}
+use Rattle.walking.specs.Reach.{nears, reaches}
 use Rattle.walking.proofs.Leaves.{leaf-at-some, leaf-at-zero}
 use Rattle.walking.proofs.Finding.{row-at}
 
--- the lookup by rows is the lookup
-pub row-lookup : (s : State) → Valid s → (u v : ℕ) → rowLookup (table s) (capacity s) (base (gridOf s)) u v ≡ lookup s u v
+-- the lookup by rows is the lookup, but for points past the last row of a ring
+pub row-lookup : (s : State) → Valid s → (u v : ℕ) → lookup s u v ≡ cond (beyond (gridOf s) v) 0 (rowLookup (table s) (capacity s) (base (gridOf s)) u v)
 unfolding lookup
-row-lookup s w u v = ap (λ (there : ℕ → ℕ → ℕ). firstFound there u v) (fun-ext λ x. fun-ext λ y. row-at s w x y)
+row-lookup s w u v = ap (λ (there : ℕ → ℕ → ℕ). cond (beyond (gridOf s) v) 0 (firstFound there u v)) (fun-ext λ x. fun-ext λ y. sym (row-at s w x y))
 
 -- where an interval has the number before x, and x not, it ends at x
 last-unit : (h i x : ℕ) → 1 ≤ x → Within h i (x - 1) → (Within h i x → ⊥) → (i + 1) * h ≡ x
@@ -48,8 +48,8 @@ module _ {s : State} (w : Valid s) (u v : ℕ) where
   abbrev try : ℕ × ℕ → ℕ
   try = tried (leafAt s) u v
 
-  -- a try finds a leaf exactly if it reaches the area
-  try-zero : (e : ℕ × ℕ) → eqb (try e) 0 ≡ not (reaches s u v e)
+  -- a try finds a leaf exactly if it comes to the area
+  try-zero : (e : ℕ × ℕ) → eqb (try e) 0 ≡ not (nears s u v e)
   try-zero (left, down) = go (leb left u && leb down v)
     where
       go : (b : Bool) → eqb (cond b (leafAt s (u - left) (v - down)) 0) 0 ≡ not (b && cells (s .entries) (groundOf (gridOf s) (u - left) (v - down)))
@@ -59,23 +59,34 @@ module _ {s : State} (w : Valid s) (u v : ℕ) where
   -- 19, "if none" is found: exactly where none of the tries reaches the area
   pub lookup-refused : refusal (lookupChecks s u v) ≡ cond (any (reaches s u v) tries) 0 19
   unfolding refusal lookupChecks lookup firstFound
-  lookup-refused = rw (foremost-any try (reaches s u v) try-zero tries) (go (any (reaches s u v) tries))
+  lookup-refused = go (beyond (gridOf s) v)
     where
-      go : (b : Bool) → _≡_ {A = ℕ} (cond (not b) 19 0) (cond b 0 19)
+      else : (b : Bool) → _≡_ {A = ℕ} (cond (not b) 19 0) (cond b 0 19)
+      else true = refl
+      else false = refl
+
+      go : (b : Bool) → _≡_ {A = ℕ} (cond (eqb (cond b 0 (foremost (map try tries))) 0) 19 0) (cond (any (λ e. not b && nears s u v e) tries) 0 19)
       go true = refl
-      go false = refl
+      go false = rw (foremost-any try (nears s u v) try-zero tries) (else (any (nears s u v) tries))
 
   -- the first that reaches the area gives the answer
   first-try : (before after : List (ℕ × ℕ)) (e : ℕ × ℕ) → tries ≡ before ++ e ∷ after → any (reaches s u v) before ≡ false → T (reaches s u v e) → lookup s u v ≡ try e
   unfolding lookup firstFound
-  first-try before after e h n t = ap (λ (es : List (ℕ × ℕ)). foremost (map try es)) h ∙ foremost-first try (reaches s u v) try-zero before after e n t
+  first-try before after e h n t = go (beyond (gridOf s) v) n t
+    where
+      go : (b : Bool) → any (λ e. not b && nears s u v e) before ≡ false → T (not b && nears s u v e) → cond b 0 (foremost (map try tries)) ≡ try e
+      go true n t = absurd t
+      go false n t = ap (λ (es : List (ℕ × ℕ)). foremost (map try es)) h ∙ foremost-first try (nears s u v) try-zero before after e n t
 
   -- ---- in the area
 
   -- the point's own leaf is the answer
   pub lookup-inside : T (cells (s .entries) (groundOf (gridOf s) u v)) → lookup s u v ≡ leafAt s u v
   lookup-inside t =
-      let own : T (reaches s u v (0, 0)) = rw (le-leb 0 u (omega arith), le-leb 0 v (omega arith), sub-zero u, sub-zero v) t in
+      let rows = gridOf s .rows in
+      let low : v < rows * 4096 = omega (arith, w .mesh .inside (groundOf (gridOf s) u v) t refl .1) in
+      let clear : beyond (gridOf s) v ≡ false = no-is (beyond (gridOf s) v) (λ b. omega (arith, leb→le (rows * 4096) v (and-right (isRing (gridOf s)) (leb (rows * 4096) v) b))) in
+      let own : T (reaches s u v (0, 0)) = rw (clear, le-leb 0 u (omega arith), le-leb 0 v (omega arith), sub-zero u, sub-zero v) t in
       first-try [] _ (0, 0) refl refl own ∙ tried-own (leafAt s) u v
 
   -- ---- on its right and top edge
@@ -90,28 +101,37 @@ module _ {s : State} (w : Valid s) (u v : ℕ) where
   -- the leaf that the first try to reach the area finds
   found : (left down : ℕ) (before after : List (ℕ × ℕ)) → tries ≡ before ++ (left, down) ∷ after → Missed before → T (reaches s u v (left, down))
       → (p : Place) × IsLeaf p × (left ≤ u) × (down ≤ v) × T (holds (gridOf s) p (u - left) (v - down)) × (lookup s u v ≡ number (s .entries) p)
-  found left down before after h n t =
+  found left down before after h n r =
+      let t = and-right (not (beyond (gridOf s) v)) (nears s u v (left, down)) r in
       let b = leb left u && leb down v in
       let c = cells (s .entries) (groundOf (gridOf s) (u - left) (v - down)) in
       let k = and-left b c t in
       let (p, a, x, e, z) = leaf-at-some w (u - left) (v - down) (and-right b c t) in
       let there : try (left, down) ≡ leafAt s (u - left) (v - down) = ap (λ (b : Bool). cond b (leafAt s (u - left) (v - down)) 0) (yes-is b k) in
-      (p, a, leb→le left u (and-left (leb left u) (leb down v) k), leb→le down v (and-right (leb left u) (leb down v) k), x, first-try before after (left, down) h n t ∙ there ∙ e)
+      (p, a, leb→le left u (and-left (leb left u) (leb down v) k), leb→le down v (and-right (leb left u) (leb down v) k), x, first-try before after (left, down) h n r ∙ there ∙ e)
+
+  -- tries are made
+  abbrev Tried : Type 0
+  Tried = T (not (beyond (gridOf s) v))
+
+  is-tried : (e : ℕ × ℕ) → T (reaches s u v e) → Tried
+  is-tried e t = and-left (not (beyond (gridOf s) v)) (nears s u v e) t
 
   -- where a leaf holds a try, it reaches the area
-  reached : (left down : ℕ) → left ≤ u → down ≤ v → (p : Place) → IsLeaf p → T (holds (gridOf s) p (u - left) (v - down)) → T (reaches s u v (left, down))
-  reached left down l d p a h = rw (le-leb left u l, le-leb down v d) (tiling-none (w .mesh) (u - left) (v - down) p a h)
+  reached : Tried → (left down : ℕ) → left ≤ u → down ≤ v → (p : Place) → IsLeaf p → T (holds (gridOf s) p (u - left) (v - down)) → T (reaches s u v (left, down))
+  reached y left down l d p a h =
+      and-both (not (beyond (gridOf s) v)) (nears s u v (left, down)) y (rw (le-leb left u l, le-leb down v d) (tiling-none (w .mesh) (u - left) (v - down) p a h))
 
   -- a leaf that holds a try one unit to the left ends there, if the try without that unit does not reach the area; likewise one unit down
-  east-end : (p : Place) → IsLeaf p → (down : ℕ) → 1 ≤ u → down ≤ v → T (holds (gridOf s) p (u - 1) (v - down)) → reaches s u v (0, down) ≡ false → eastEdge (gridOf s) p ≡ u
-  east-end p a down l d h m =
+  east-end : Tried → (p : Place) → IsLeaf p → (down : ℕ) → 1 ≤ u → down ≤ v → T (holds (gridOf s) p (u - 1) (v - down)) → reaches s u v (0, down) ≡ false → eastEdge (gridOf s) p ≡ u
+  east-end z p a down l d h m =
       let (x, y) = holding (gridOf s) p (u - 1) (v - down) h in
-      last-unit _ _ u l x (λ k. subst T m (reached 0 down (omega arith) d p a (rw (sub-zero u) (held (gridOf s) p u (v - down) k y))))
+      last-unit _ _ u l x (λ k. subst T m (reached z 0 down (omega arith) d p a (rw (sub-zero u) (held (gridOf s) p u (v - down) k y))))
 
-  north-end : (p : Place) → IsLeaf p → (left : ℕ) → left ≤ u → 1 ≤ v → T (holds (gridOf s) p (u - left) (v - 1)) → reaches s u v (left, 0) ≡ false → northEdge (gridOf s) p ≡ v
-  north-end p a left l d h m =
+  north-end : Tried → (p : Place) → IsLeaf p → (left : ℕ) → left ≤ u → 1 ≤ v → T (holds (gridOf s) p (u - left) (v - 1)) → reaches s u v (left, 0) ≡ false → northEdge (gridOf s) p ≡ v
+  north-end z p a left l d h m =
       let (x, y) = holding (gridOf s) p (u - left) (v - 1) h in
-      last-unit _ _ v d y (λ k. subst T m (reached left 0 l (omega arith) p a (rw (sub-zero v) (held (gridOf s) p (u - left) v x k))))
+      last-unit _ _ v d y (λ k. subst T m (reached z left 0 l (omega arith) p a (rw (sub-zero v) (held (gridOf s) p (u - left) v x k))))
 
   -- the area ends to the right: the leaf whose right edge the point lies on
   pub right-edge : Missed ((0, 0) ∷ []) → T (reaches s u v (1, 0))
@@ -119,7 +139,7 @@ module _ {s : State} (w : Valid s) (u v : ℕ) where
   right-edge m t =
       let (p, a, l, d, h, e) = found 1 0 ((0, 0) ∷ []) _ refl m t in
       let (x, y) = holding (gridOf s) p (u - 1) v (rw (sub-zero v) at h) in
-      (p, a, east-end p a 0 l d h (neither _ _ m .0), y .0, y .1, e)
+      (p, a, east-end (is-tried (1, 0) t) p a 0 l d h (neither _ _ m .0), y .0, y .1, e)
 
   -- it ends at the top, and not to the right: the leaf whose upper edge the point lies on
   pub top-edge : Missed ((0, 0) ∷ (1, 0) ∷ []) → T (reaches s u v (0, 1))
@@ -127,7 +147,7 @@ module _ {s : State} (w : Valid s) (u v : ℕ) where
   top-edge m t =
       let (p, a, l, d, h, e) = found 0 1 ((0, 0) ∷ (1, 0) ∷ []) _ refl m t in
       let (x, y) = holding (gridOf s) p u (v - 1) (rw (sub-zero u) at h) in
-      (p, a, x .0, x .1, north-end p a 0 l d h (neither _ _ m .0), e)
+      (p, a, x .0, x .1, north-end (is-tried (0, 1) t) p a 0 l d h (neither _ _ m .0), e)
 
   -- it has its upper right corner here: the leaf whose upper right corner that is
   pub top-right-corner : Missed ((0, 0) ∷ (1, 0) ∷ (0, 1) ∷ []) → T (reaches s u v (1, 1))
@@ -135,4 +155,4 @@ module _ {s : State} (w : Valid s) (u v : ℕ) where
   top-right-corner m t =
       let (p, a, l, d, h, e) = found 1 1 ((0, 0) ∷ (1, 0) ∷ (0, 1) ∷ []) _ refl m t in
       let n = neither _ _ (neither (reaches s u v (0, 0)) _ m .1) in
-      (p, a, east-end p a 1 l d h (neither _ _ (n .1) .0), north-end p a 1 l d h (n .0), e)
+      (p, a, east-end (is-tried (1, 1) t) p a 1 l d h (neither _ _ (n .1) .0), north-end (is-tried (1, 1) t) p a 1 l d h (n .0), e)

@@ -1,8 +1,6 @@
 -- `build::build_table` meets its contract.
 -- Assumes nothing.
-use Rattle.mesh.specs.Headers.{headerOf}
-use Rattle.geometry.proofs.Base.{Rectangle}
-use Rattle.build.proofs.Whole.{depth-small, all-levels, ground-plain, made}
+use Rattle.build.proofs.Whole.{depth-small, all-levels, grown-plain, ground-plain, made}
 use native.Mathlib.Omega.{arith}
 use borrow.Author.Needs.{needs}
 use Rattle.build.proofs.build_table.Statement.{statement}
@@ -14,59 +12,60 @@ ground-depth-requires c κs = search needs
 root-table-requires : tie.Need-root-table-requires
 root-table-requires c κs =
     let p = c .before .before .before .pre in
-    let ground = c .before .ground-depth .ensures in
-    let in-range : Rectangle (headerOf (c .before .before .before .args .header) .grid) = (p .4, p .5, p .6, p .7) in
-    (omega arith, omega arith, omega arith, omega (arith, depth-small _ _ _ ground in-range (p .2) (p .3) (p .8)))
+    (omega arith, omega arith, omega arith, omega (arith, depth-small _ _ _ (c .before .ground-depth .ensures) (p .4) (p .2) (p .3) (p .5)))
 
 grow-levels-requires : tie.Need-grow-levels-requires
 grow-levels-requires c κs =
     let p = c .before .before .before .before .before .before .pre in
-    let ground = c .before .before .before .before .ground-depth .ensures in
-    let in-range : Rectangle (headerOf (c .before .before .before .before .before .before .args .header) .grid) = (p .4, p .5, p .6, p .7) in (
+    let ground = c .before .before .before .before .ground-depth .ensures in (
       omega (arith, c .before .before .root-table .kept .0),
       omega arith,
-      omega (arith, depth-small _ _ _ ground in-range (p .2) (p .3) (p .8)),
+      omega (arith, depth-small _ _ _ ground (p .4) (p .2) (p .3) (p .5)),
       ground,
-      all-levels _ _ _ ground in-range (p .2) (p .3) (p .8) _ (c .before .before .root-table .ensures),
+      all-levels _ _ _ ground (p .4) (p .2) (p .3) (p .5) _ (c .before .before .root-table .ensures),
+    )
+
+seam-rows-requires : tie.Need-seam-rows-requires
+seam-rows-requires c κs =
+    let b₁ = c .before .before in
+    let b₂ = b₁ .before .before .before in
+    let a = b₂ .before .before in
+    let p = a .before .before .pre in
+    let ground = a .ground-depth .ensures in
+    let r = b₁ .grow-levels .ensures in (
+      omega (arith, b₂ .root-table .kept .0, b₁ .grow-levels .kept .0),
+      omega arith,
+      omega arith,
+      omega (arith, depth-small _ _ _ ground (p .4) (p .2) (p .3) (p .5)),
+      p .4 .2,
+      r .before,
+      r .high,
+      grown-plain _ _ _ ground (p .4) (p .2) (p .3) (p .5) _ _ _ _ (b₂ .root-table .ensures) r,
     )
 
 put-ground-requires : tie.Need-put-ground-requires
-put-ground-requires c κs =
-    let r = c .before .before .grow-levels .ensures in
-    (omega (arith, c .before .before .before .before .before .root-table .kept .0, c .before .before .grow-levels .kept .0, r .high), r .before)
+put-ground-requires c κs = search needs
 
 wall-rows-requires : tie.Need-wall-rows-requires
 wall-rows-requires c κs =
     let b₁ = c .before .before in
     let b₂ = b₁ .before .before .before in
     let b₃ = b₂ .before .before .before in
-    let a = b₃ .before .before in
-    let start = a .before .before in
-    let p = start .pre in
+    let b₄ = b₃ .before .before .before in
+    let a = b₄ .before .before in
+    let p = a .before .before .pre in
     let ground = a .ground-depth .ensures in
-    let in-range : Rectangle (headerOf (start .args .header) .grid) = (p .4, p .5, p .6, p .7) in
-    let r = b₂ .grow-levels .ensures in (
-      omega (arith, b₃ .root-table .kept .0, b₂ .grow-levels .kept .0, b₁ .put-ground .kept .0),
+    let r = b₃ .grow-levels .ensures in (
+      omega (arith, b₄ .root-table .kept .0, b₃ .grow-levels .kept .0, b₂ .seam-rows .kept .0, b₁ .put-ground .kept .0),
       omega arith,
-      omega (arith, depth-small _ _ _ ground in-range (p .2) (p .3) (p .8)),
+      omega (arith, depth-small _ _ _ ground (p .4) (p .2) (p .3) (p .5)),
       r .before,
       r .high,
-      ground-plain _ _ _ ground in-range (p .2) (p .3) (p .8) _ _ _ _ _ (b₃ .root-table .ensures) r (b₁ .put-ground .ensures),
+      ground-plain _ _ _ ground (p .4) (p .2) (p .3) (p .5) _ _ _ _ (b₄ .root-table .ensures) r _ _ (b₂ .seam-rows .ensures) (b₁ .put-ground .ensures),
     )
 
 mark-rows-requires : tie.Need-mark-rows-requires
-mark-rows-requires c κs =
-    let b₁ = c .before .before in
-    let b₂ = b₁ .before .before .before in
-    let b₃ = b₂ .before .before .before in
-    let b₄ = b₃ .before .before .before in
-    let r = b₃ .grow-levels .ensures in (
-      omega (arith, b₄ .root-table .kept .0, b₃ .grow-levels .kept .0, b₂ .put-ground .kept .0, b₁ .wall-rows .kept .0),
-      omega arith,
-      r .before,
-      r .high,
-      b₁ .wall-rows .ensures .1,
-    )
+mark-rows-requires c κs = search needs
 
 blank-values-requires : tie.Need-blank-values-requires
 blank-values-requires c κs = search needs
@@ -88,12 +87,10 @@ returns c =
     let b₄ = b₃ .before .before .before in
     let b₅ = b₄ .before .before .before in
     let b₆ = b₅ .before .before .before in
-    let a = b₆ .before .before in
-    let start = a .before .before in
-    let p = start .pre in
-    let ground = a .ground-depth .ensures in
-    let in-range : Rectangle (headerOf (start .args .header) .grid) = (p .4, p .5, p .6, p .7) in
-    made _ _ _ ground in-range (p .2) (p .3) (p .8) _ _ _ _ _ (b₆ .root-table .ensures) (b₅ .grow-levels .ensures) (b₄ .put-ground .ensures) _ _ _ (b₃ .wall-rows .ensures .0) (b₂ .mark-rows .ensures) (b₁ .blank-values .ensures)
+    let b₇ = b₆ .before .before .before in
+    let a = b₇ .before .before in
+    let p = a .before .before .pre in
+    made _ _ _ (a .ground-depth .ensures) (p .4) (p .2) (p .3) (p .5) _ _ _ _ (b₇ .root-table .ensures) (b₆ .grow-levels .ensures) _ _ (b₅ .seam-rows .ensures) (b₄ .put-ground .ensures) _ _ _ (b₃ .wall-rows .ensures .0) (b₂ .mark-rows .ensures) (b₁ .blank-values .ensures)
 
 pub build-table-spec : {M : Type 1} → statement M
 build-table-spec =
@@ -102,6 +99,7 @@ build-table-spec =
     ground-depth-requires
     root-table-requires
     grow-levels-requires
+    seam-rows-requires
     put-ground-requires
     wall-rows-requires
     mark-rows-requires

@@ -1,7 +1,7 @@
 -- `mesh::ground_depth` meets its contract: the larger of the two is one of them, and a word's width less its leading zeros is the definition.
 -- Assumes nothing.
 use mathlib.Core.Path.{_≡_, ap, sym}
-use Prim.Native.Nat.{ℕ, _-_, _≤_, max}
+use Prim.Native.Nat.{ℕ, _-_, max}
 use native.Mathlib.Omega.{arith}
 use lib.Count.{leadingZeros, leading-le}
 use Rattle.mesh.specs.Place.{base}

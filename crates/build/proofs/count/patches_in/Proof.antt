@@ -17,10 +17,12 @@ abbrev μ-loop : tie.MeasureT-loop
 μ-loop header d sum₀ up₀ sum up = d + 1 - up
 
 loop-holds : tie.Need-loop-holds Inv-loop μ-loop
-loop-holds c = (omega (arith, base-range (headerOf (c .args .header) .grid) (c .pre .0, c .pre .1, c .pre .2, c .pre .3)), omega arith, omega arith, sym (sizes-none (headerOf (c .args .header) .grid)))
+loop-holds c = (omega (arith, base-range (headerOf (c .args .header) .grid) (c .pre .0)), omega arith, omega arith, sym (sizes-none (headerOf (c .args .header) .grid)))
 
 level-size-requires : tie.Need-level-size-requires Inv-loop μ-loop
-level-size-requires c κs = (omega arith, omega arith, omega arith)
+level-size-requires c κs =
+    let r = c .before .before .pre .0 in
+    (r .1, r .2, r .3, omega arith)
 
 add-sum : tie.Need-add-sum Inv-loop μ-loop
 add-sum c = omega arith
@@ -35,7 +37,7 @@ loop-again : tie.Need-loop-again Inv-loop μ-loop
 loop-again c = (omega arith, omega arith, omega arith, sizes-more (headerOf (c .before .before .before .args .header) .grid) (c .before .before .loop .up) _ (c .before .before .loop .sum) (c .before .before .loop .inv .3) (c .level-size .ensures .1))
 
 returns : tie.Need-returns Inv-loop μ-loop
-returns c = sizes-all (headerOf (c .before .before .args .header) .grid) (c .before .before .args .d) (c .before .loop .up) (c .before .loop .sum) (c .before .before .pre .0, c .before .before .pre .1, c .before .before .pre .2, c .before .before .pre .3) (c .before .before .pre .4) (omega arith) (c .before .loop .inv .3)
+returns c = sizes-all (headerOf (c .before .before .args .header) .grid) (c .before .before .args .d) (c .before .loop .up) (c .before .loop .sum) (c .before .before .pre .0) (c .before .before .pre .1) (omega arith) (c .before .loop .inv .3)
 
 pub patches-in-spec : {M : Type 1} → statement M
 patches-in-spec =

@@ -27,21 +27,21 @@ put-number-requires-2 c κs =
     let a = s .before .before .before .before .args in
     omega (arith, s .before .before .before .before .pre, text-put (s .put-text .ensures), number-put (a .header .columns) (c .before .before .before .put-number .ensures), head-size (headerOf (a .header)))
 
-cast-put-decimal : tie.Need-cast-put-decimal
-cast-put-decimal c = search needs
+cast-put-number : tie.Need-cast-put-number
+cast-put-number c = search needs
 
-put-decimal-requires : tie.Need-put-decimal-requires
-put-decimal-requires c κs =
+put-number-requires-3 : tie.Need-put-number-requires-3
+put-number-requires-3 c κs =
     let k = c .before in
     let s = k .before .before .before .before .before .before .before .before .before .before .before in
     let a = s .before .before .before .before .args in
     omega (arith, s .before .before .before .before .pre, text-put (s .put-text .ensures), number-put (a .header .columns) (k .before .before .before .before .before .before .before .put-number .ensures), number-put (a .header .rows) (k .before .before .before .put-number2 .ensures), head-size (headerOf (a .header)))
 
-put-byte-requires : tie.Need-put-byte-requires
-put-byte-requires c κs =
+put-mode-requires : tie.Need-put-mode-requires
+put-mode-requires c κs =
     let s = c .before .before .before .before .before .before .before .before .before .before .before .before in
     let a = s .before .before .before .before .before .before .before .before .args in
-    omega (arith, s .before .before .before .before .before .before .before .before .pre, text-put (s .before .before .before .before .put-text .ensures), number-put (a .header .columns) (s .put-number .ensures), number-put (a .header .rows) (c .before .before .before .before .before .before .before .before .put-number2 .ensures), text-put (c .before .before .before .put-decimal .ensures), head-size (headerOf (a .header)))
+    omega (arith, s .before .before .before .before .before .before .before .before .pre, text-put (s .before .before .before .before .put-text .ensures), number-put (a .header .columns) (s .put-number .ensures), number-put (a .header .rows) (c .before .before .before .before .before .before .before .before .put-number2 .ensures), number-put (a .header .mark) (c .before .before .before .put-number3 .ensures), head-size (headerOf (a .header)))
 
 same-length : tie.Need-same-length
 same-length c = search needs
@@ -50,7 +50,7 @@ returns : tie.Need-returns
 returns c =
     let s = c .before .before .before .before .before .before .before .before .before .before .before in
     put-as (head-line _)
-    (put-more (put-more (put-more (put-more (s .before .before .before .before .before .before .before .before .put-text .ensures) (s .before .before .before .before .put-number .ensures)) (s .put-number2 .ensures)) (c .before .before .before .before .before .before .put-decimal .ensures)) (c .before .before .put-byte .ensures))
+    (put-more (put-more (put-more (put-more (s .before .before .before .before .before .before .before .before .put-text .ensures) (s .before .before .before .before .put-number .ensures)) (s .put-number2 .ensures)) (c .before .before .before .before .before .before .put-number3 .ensures)) (c .before .before .put-mode .ensures))
 
 pub put-head-spec : {M : Type 1} → statement M
 put-head-spec =
@@ -60,8 +60,8 @@ put-head-spec =
     put-text-requires
     put-number-requires
     put-number-requires-2
-    cast-put-decimal
-    put-decimal-requires
-    put-byte-requires
+    cast-put-number
+    put-number-requires-3
+    put-mode-requires
     same-length
     returns)

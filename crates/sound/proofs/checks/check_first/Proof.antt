@@ -6,8 +6,9 @@ use native.Mathlib.Omega.{arith}
 use mathlib.Core.Path.{sym, _∙_}
 use Rattle.mesh.specs.Call.{lentChecks, checkCall}
 use Rattle.mesh.specs.Headers.{headerOf, lentOf}
+use Rattle.geometry.proofs.Base.{fits-range, base-range}
 use Rattle.sound.proofs.PlainRows.{not-plain, plain-table, levelled-table}
-use Rattle.sound.proofs.Checking.{too-small, too-large, wrong-table, wrong-values, columns-below, columns-above, rows-below, rows-above, rows-pass, rows-fail, shallow}
+use Rattle.sound.proofs.Checking.{too-small, too-large, wrong-table, wrong-values, misfits, rows-pass, rows-fail, shallow}
 use Rattle.sound.proofs.checks.check_first.Statement.{statement}
 use Rattle.sound.proofs.checks.check_first.Tie as tie
 
@@ -48,33 +49,18 @@ returns-4 : tie.Need-returns-4
 unfolding checkCall lentChecks
 returns-4 c = (c .refused4 .ensures .0 ∙ wrong-values _ (lentOf (c .before .before .before .before .before .before .args .header) (c .before .before .before .before .before .before .args .t .now) (c .before .before .before .before .before .before .args .v .now)) _ (c .before .if4 .taken), λ z. absurd (omega arith))
 
+misfit-requires : tie.Need-misfit-requires
+misfit-requires c κs = search needs
+
 refused-requires-5 : tie.Need-refused-requires-5
 refused-requires-5 c κs = search needs
 
 returns-5 : tie.Need-returns-5
 unfolding checkCall lentChecks
-returns-5 c = (c .refused5 .ensures .0 ∙ columns-below _ (lentOf (c .before .before .before .before .before .before .before .before .args .header) (c .before .before .before .before .before .before .before .before .args .t .now) (c .before .before .before .before .before .before .before .before .args .v .now)) (headerOf (c .before .before .before .before .before .before .before .before .args .header) .grid) _ (omega arith) (omega arith) (omega arith) (omega arith) (c .before .if5 .taken), λ z. absurd (omega arith))
-
-refused-requires-6 : tie.Need-refused-requires-6
-refused-requires-6 c κs = search needs
-
-returns-6 : tie.Need-returns-6
-unfolding checkCall lentChecks
-returns-6 c = (c .refused6 .ensures .0 ∙ columns-above _ (lentOf (c .before .before .before .before .before .before .before .before .before .before .args .header) (c .before .before .before .before .before .before .before .before .before .before .args .t .now) (c .before .before .before .before .before .before .before .before .before .before .args .v .now)) (headerOf (c .before .before .before .before .before .before .before .before .before .before .args .header) .grid) _ (omega arith) (omega arith) (omega arith) (omega arith) (c .before .if6 .taken), λ z. absurd (omega arith))
-
-refused-requires-7 : tie.Need-refused-requires-7
-refused-requires-7 c κs = search needs
-
-returns-7 : tie.Need-returns-7
-unfolding checkCall lentChecks
-returns-7 c = (c .refused7 .ensures .0 ∙ rows-below _ (lentOf (c .before .before .before .before .before .before .before .before .before .before .before .before .args .header) (c .before .before .before .before .before .before .before .before .before .before .before .before .args .t .now) (c .before .before .before .before .before .before .before .before .before .before .before .before .args .v .now)) (headerOf (c .before .before .before .before .before .before .before .before .before .before .before .before .args .header) .grid) _ (omega arith) (omega arith) (omega arith) (omega arith) (c .before .if7 .taken), λ z. absurd (omega arith))
-
-refused-requires-8 : tie.Need-refused-requires-8
-refused-requires-8 c κs = search needs
-
-returns-8 : tie.Need-returns-8
-unfolding checkCall lentChecks
-returns-8 c = (c .refused8 .ensures .0 ∙ rows-above _ (lentOf (c .before .before .before .before .before .before .before .before .before .before .before .before .before .before .args .header) (c .before .before .before .before .before .before .before .before .before .before .before .before .before .before .args .t .now) (c .before .before .before .before .before .before .before .before .before .before .before .before .before .before .args .v .now)) (headerOf (c .before .before .before .before .before .before .before .before .before .before .before .before .before .before .args .header) .grid) _ (omega arith) (omega arith) (omega arith) (omega arith) (c .before .if8 .taken), λ z. absurd (omega arith))
+returns-5 c =
+    let k = c .before .before in
+    let a = k .before .before .before .before .before .before .args in
+    (c .refused5 .ensures .0 ∙ misfits _ (lentOf (a .header) (a .t .now) (a .v .now)) (headerOf (a .header) .grid) _ (omega arith) (omega arith) (omega arith) (omega arith) (sym (k .misfit .ensures) ∙ c .before .if5 .taken), λ z. absurd (omega arith))
 
 words-fit-requires : tie.Need-words-fit-requires
 words-fit-requires c κs = omega arith
@@ -85,43 +71,49 @@ ground-depth-requires c κs = search needs
 plain-requires : tie.Need-plain-requires
 plain-requires c κs = (omega arith, omega arith, rw (c .ground-depth .ensures) (shallow _))
 
-refused-requires-9 : tie.Need-refused-requires-9
-refused-requires-9 c κs = search needs
+refused-requires-6 : tie.Need-refused-requires-6
+refused-requires-6 c κs = search needs
 
-returns-9 : tie.Need-returns-9
-returns-9 c = (c .refused9 .ensures .0 ∙ rows-fail _ _ _ _ (omega arith) (omega arith) (omega arith) (omega arith) (omega arith, omega arith, omega arith, omega arith) (c .before .before .before .before .words-fit .ensures) (not-plain _ _ _ _ (omega arith) (omega arith, omega arith, omega arith, omega arith) {b = c .before .before .plain .result} (rw (← c .before .before .before .ground-depth .ensures) (c .before .before .plain .ensures)) (not-true _ (c .before .if9 .taken))), λ z. absurd (omega arith))
+returns-6 : tie.Need-returns-6
+returns-6 c =
+    let k = c .before .before .before .before .before in
+    let range = fits-range _ (sym (k .before .misfit .ensures) ∙ k .if5 .left) in
+    (c .refused6 .ensures .0 ∙ rows-fail _ _ _ _ (omega arith) (omega arith) (omega arith) (omega arith) range (c .before .before .before .before .words-fit .ensures) (not-plain _ _ _ _ (omega arith) range {b = c .before .before .plain .result} (rw (← c .before .before .before .ground-depth .ensures) (c .before .before .plain .ensures)) (not-true _ (c .before .if6 .taken))), λ z. absurd (omega arith))
 
 rowwise-requires : tie.Need-rowwise-requires
 rowwise-requires c κs =
     let e = c .before .before .ground-depth .ensures in
-    let all = sym (c .before .plain .ensures) ∙ not-false _ (c .if9 .left) in (
+    let k = c .before .before .before .before in
+    let range = fits-range _ (sym (k .before .misfit .ensures) ∙ k .if5 .left) in
+    let all = sym (c .before .plain .ensures) ∙ not-false _ (c .if6 .left) in (
       record {
         words = omega arith;
         values = omega arith;
         small = omega arith;
         depth = e;
-        shallow = rw e (shallow _);
+        shallow = rw e (base-range _ range .1);
+        rooted = omega arith;
+        tall = range .2;
         plain = plain-table _ _ _ all (omega arith) (omega arith);
         levelled = levelled-table _ _ _ all (rw e (shallow _));
       },
       omega arith,
     )
 
-refused-requires-10 : tie.Need-refused-requires-10
-refused-requires-10 c κs = search needs
+refused-requires-7 : tie.Need-refused-requires-7
+refused-requires-7 c κs = search needs
 
-returns-10 : tie.Need-returns-10
-returns-10 c = (
-  c .refused10 .ensures .0
-      ∙ rows-fail _ _ _ _ (omega arith) (omega arith) (omega arith) (omega arith) (omega arith, omega arith, omega arith, omega arith) (c .before .before .before .before .before .before .words-fit .ensures) (c .before .before .rowwise .ensures .no (c .before .if10 .taken)),
-  λ z. absurd (omega arith),
-)
+returns-7 : tie.Need-returns-7
+returns-7 c =
+    let k = c .before .before .before .before .before .before .before in
+    (c .refused7 .ensures .0 ∙ rows-fail _ _ _ _ (omega arith) (omega arith) (omega arith) (omega arith) (fits-range _ (sym (k .before .misfit .ensures) ∙ k .if5 .left)) (c .before .before .before .before .before .before .words-fit .ensures) (c .before .before .rowwise .ensures .no (c .before .if7 .taken)), λ z. absurd (omega arith))
 
-returns-11 : tie.Need-returns-11
-returns-11 c = (
-  rows-pass _ _ _ _ (omega arith) (omega arith) (omega arith) (omega arith) (omega arith, omega arith, omega arith, omega arith) (c .before .before .before .before .before .words-fit .ensures) (c .before .rowwise .ensures .yes (c .if10 .left)),
-  λ z. c .before .rowwise .ensures .first (c .if10 .left),
-)
+returns-8 : tie.Need-returns-8
+returns-8 c =
+    let k = c .before .before .before .before .before .before in (
+      rows-pass _ _ _ _ (omega arith) (omega arith) (omega arith) (omega arith) (fits-range _ (sym (k .before .misfit .ensures) ∙ k .if5 .left)) (c .before .before .before .before .before .words-fit .ensures) (c .before .rowwise .ensures .yes (c .if7 .left)),
+      λ z. c .before .rowwise .ensures .first (c .if7 .left),
+    )
 
 pub check-first-spec : {M : Type 1} → statement M
 check-first-spec =
@@ -138,20 +130,15 @@ check-first-spec =
     add-if4
     refused-requires-4
     returns-4
+    misfit-requires
     refused-requires-5
     returns-5
-    refused-requires-6
-    returns-6
-    refused-requires-7
-    returns-7
-    refused-requires-8
-    returns-8
     words-fit-requires
     ground-depth-requires
     plain-requires
-    refused-requires-9
-    returns-9
+    refused-requires-6
+    returns-6
     rowwise-requires
-    refused-requires-10
-    returns-10
-    returns-11)
+    refused-requires-7
+    returns-7
+    returns-8)

@@ -1,76 +1,31 @@
--- `sound::sides_ok` meets its contract, by the last digits of the place.
+-- `sound::tree::sides_ok` meets its contract: over the seam of a ring, or by the parent.
 -- Assumes nothing.
-use Rattle.sound.proofs.Family.{sides-is}
 use borrow.Author.Needs.{needs}
-use native.Mathlib.Omega.{arith}
+use mathlib.Core.Path.{sym, _∙_}
+use Rattle.sound.proofs.Seaming.{sides-off, sides-on}
 use Rattle.sound.proofs.tree.sides_ok.Statement.{statement}
 use Rattle.sound.proofs.tree.sides_ok.Tie as tie
 
-link-requires : tie.Need-link-requires
-link-requires c κs = search needs
+on-seam-requires : tie.Need-on-seam-requires
+on-seam-requires c κs = search needs
 
-index-requires : tie.Need-index-requires
-index-requires c κs = search needs
-
-index-requires-2 : tie.Need-index-requires-2
-index-requires-2 c κs = search needs
-
-sides-by-requires : tie.Need-sides-by-requires
-sides-by-requires c κs = search needs
+seam-ok-requires : tie.Need-seam-ok-requires
+seam-ok-requires c κs = search needs
 
 returns : tie.Need-returns
 returns c =
-    let p1 = c .before in
-    let p2 = p1 .before in
-    let p3 = p2 .before in
-    let p4 = p3 .before in
-    let p5 = p4 .before in
-    sides-is _ _ _ _ _ 0 0 (p5 .link .ensures .1) (p4 .index .ensures) (p3 .index2 .ensures) (p2 .if1 .taken) (p1 .if2 .taken) (c .sides-by .ensures)
+    let k = c .before .before in
+    let p = k .before .before .pre .0 in
+    c .seam-ok .ensures ∙ sides-on _ _ _ _ _ _ (p .depth) (p .tall) (sym (k .on-seam .ensures) ∙ c .before .if1 .taken)
 
-sides-by-requires-2 : tie.Need-sides-by-requires-2
-sides-by-requires-2 c κs = search needs
+parental-ok-requires : tie.Need-parental-ok-requires
+parental-ok-requires c κs = search needs
 
 returns-2 : tie.Need-returns-2
 returns-2 c =
-    let p2 = c .before .before in
-    let p3 = p2 .before in
-    let p4 = p3 .before in
-    let p5 = p4 .before in
-    sides-is _ _ _ _ _ 0 1 (p5 .link .ensures .1) (p4 .index .ensures) (p3 .index2 .ensures) (p2 .if1 .taken) (omega arith) (c .sides-by2 .ensures)
-
-sides-by-requires-3 : tie.Need-sides-by-requires-3
-sides-by-requires-3 c κs = search needs
-
-returns-3 : tie.Need-returns-3
-returns-3 c =
-    let p1 = c .before in
-    let p3 = p1 .before .before in
-    let p4 = p3 .before in
-    let p5 = p4 .before in
-    sides-is _ _ _ _ _ 1 0 (p5 .link .ensures .1) (p4 .index .ensures) (p3 .index2 .ensures) (omega arith) (p1 .if3 .taken) (c .sides-by3 .ensures)
-
-sides-by-requires-4 : tie.Need-sides-by-requires-4
-sides-by-requires-4 c κs = search needs
-
-returns-4 : tie.Need-returns-4
-returns-4 c =
-    let p3 = c .before .before .before in
-    let p4 = p3 .before in
-    let p5 = p4 .before in
-    sides-is _ _ _ _ _ 1 1 (p5 .link .ensures .1) (p4 .index .ensures) (p3 .index2 .ensures) (omega arith) (omega arith) (c .sides-by4 .ensures)
+    let k = c .before .before in
+    c .parental-ok .ensures ∙ sides-off _ _ _ _ _ _ (k .before .before .pre .0 .depth) (sym (k .on-seam .ensures) ∙ c .before .if1 .left)
 
 pub sides-ok-spec : {M : Type 1} → statement M
 sides-ok-spec =
-    tie.close
-    (tie.spec
-    link-requires
-    index-requires
-    index-requires-2
-    sides-by-requires
-    returns
-    sides-by-requires-2
-    returns-2
-    sides-by-requires-3
-    returns-3
-    sides-by-requires-4
-    returns-4)
+    tie.close (tie.spec on-seam-requires seam-ok-requires returns parental-ok-requires returns-2)

@@ -30,6 +30,9 @@ element-copy-out-build-2 c = search needs
 element-copy-out-build-3 : tie.Need-element-copy-out-build-3
 element-copy-out-build-3 c = search needs
 
+element-copy-out-build-4 : tie.Need-element-copy-out-build-4
+element-copy-out-build-4 c = search needs
+
 build-requires : tie.Need-build-requires
 build-requires c κs = search needs
 
@@ -66,6 +69,7 @@ build-spec =
     element-copy-out-build
     element-copy-out-build-2
     element-copy-out-build-3
+    element-copy-out-build-4
     build-requires
     cast-tell
     tell-requires

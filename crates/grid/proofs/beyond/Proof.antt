@@ -1,0 +1,16 @@
+-- `grid::beyond` meets its contract: a load in rows of level 0.
+-- Assumes nothing.
+use borrow.Author.Needs.{needs}
+use Rattle.mesh.specs.Headers.{headerOf}
+use Rattle.grid.proofs.First.{beyond-is}
+use Rattle.grid.proofs.beyond.Statement.{statement}
+use Rattle.grid.proofs.beyond.Tie as tie
+
+is-ring-requires : tie.Need-is-ring-requires
+is-ring-requires c κs = search needs
+
+returns : tie.Need-returns
+returns c = beyond-is (headerOf (c .before .before .args .header) .grid) (c .before .before .args .load) (c .before .is-ring .ensures)
+
+pub beyond-spec : {M : Type 1} → statement M
+beyond-spec = tie.close (tie.spec is-ring-requires returns)
