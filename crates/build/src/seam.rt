@@ -22,9 +22,9 @@ fn seam_row(t: &mut [i32], cap: usize, header: Header, d: u32, n: usize)
     ensures { λ _. ⌜ (now (t .exit) ≡ seamRow (headerOf header .grid) cap d (now (t .entry)) n) × Plain (now (t .exit)) cap ⌝ }
 {
     let last = header.rows - 1;
-    let i = word(t, n, 10);
     let j = word(t, n, 11);
     if j == last {
+        let i = word(t, n, 10);
         let north = down_to(t, cap, d, i, 0);
         put(t, n, NORTH, north as u32);
         return;
@@ -32,6 +32,7 @@ fn seam_row(t: &mut [i32], cap: usize, header: Header, d: u32, n: usize)
     if j != 0 {
         return;
     }
+    let i = word(t, n, 10);
     let south = down_to(t, cap, d, i, last);
     put(t, n, SOUTH, south as u32);
 }

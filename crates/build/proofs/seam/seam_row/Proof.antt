@@ -31,9 +31,9 @@ same-length c = search needs
 
 returns : tie.Need-returns
 returns c =
-    let e = c .before .before .before .before .before in
-    let s = e .before .before .before .before .before .before in
-    sew-north (headerOf (s .args .header) .grid) _ _ _ _ (e .before .before .before .word .ensures) (e .before .word2 .ensures) (s .pre .6) (e .if1 .taken) (c .before .before .before .down-to .ensures .0) (c .before .before .before .down-to .ensures .1) (c .before .put .ensures)
+    let e = c .before .before .before .before .before .before .before in
+    let s = e .before .before .before .before in
+    sew-north (headerOf (s .args .header) .grid) _ _ _ _ (c .before .before .before .before .before .word2 .ensures) (e .before .word .ensures) (s .pre .6) (e .if1 .taken) (c .before .before .before .down-to .ensures .0) (c .before .before .before .down-to .ensures .1) (c .before .put .ensures)
 
 same-length-2 : tie.Need-same-length-2
 same-length-2 c = search needs
@@ -41,8 +41,11 @@ same-length-2 c = search needs
 returns-2 : tie.Need-returns-2
 returns-2 c =
     let e = c .before in
-    let s = e .before .before .before .before .before .before in
-    sew-not (headerOf (s .args .header) .grid) _ _ _ _ (e .before .before .before .word .ensures) (e .before .word2 .ensures) (s .pre .6) (e .if1 .left) (c .if2 .taken) refl
+    let s = e .before .before .before .before in
+    sew-not (headerOf (s .args .header) .grid) _ _ _ _ refl (e .before .word .ensures) (s .pre .6) (e .if1 .left) (c .if2 .taken) refl
+
+word-requires-3 : tie.Need-word-requires-3
+word-requires-3 c κs = search needs
 
 down-to-requires-2 : tie.Need-down-to-requires-2
 down-to-requires-2 c κs = search needs
@@ -58,9 +61,9 @@ same-length-3 c = search needs
 
 returns-3 : tie.Need-returns-3
 returns-3 c =
-    let e = c .before .before .before .before .before .before in
-    let s = e .before .before .before .before .before .before in
-    sew-south (headerOf (s .args .header) .grid) _ _ _ _ (e .before .before .before .word .ensures) (e .before .word2 .ensures) (s .pre .6) (e .if1 .left) (c .before .before .before .before .before .if2 .left) (c .before .before .before .down-to2 .ensures .0) (c .before .before .before .down-to2 .ensures .1) (c .before .put2 .ensures)
+    let e = c .before .before .before .before .before .before .before .before in
+    let s = e .before .before .before .before in
+    sew-south (headerOf (s .args .header) .grid) _ _ _ _ (c .before .before .before .before .before .word3 .ensures) (e .before .word .ensures) (s .pre .6) (e .if1 .left) (c .before .before .before .before .before .before .before .if2 .left) (c .before .before .before .down-to2 .ensures .0) (c .before .before .before .down-to2 .ensures .1) (c .before .put2 .ensures)
 
 pub seam-row-spec : {M : Type 1} → statement M
 seam-row-spec =
@@ -76,6 +79,7 @@ seam-row-spec =
     returns
     same-length-2
     returns-2
+    word-requires-3
     down-to-requires-2
     cast-put-2
     put-requires-2
