@@ -17,7 +17,7 @@ struct Stack([usize; WORDS]);
 fn taken(call: *const (), arguments: &[usize]) -> (usize, u32) {
     let mut stack = Box::new(Stack([PATTERN; WORDS]));
     let (six, rest) = arguments.split_at(6);
-    let start = WORDS - rest.len().next_multiple_of(2);
+    let start = WORDS - (rest.len() + 1) / 2 * 2;
     stack.0[start..start + rest.len()].copy_from_slice(rest);
     let answer: usize;
     // a call gives r12 back as it was
@@ -42,7 +42,7 @@ fn taken(call: *const (), arguments: &[usize]) -> (usize, u32) {
     }
     let untouched = stack.0.iter().take_while(|&&word| word == PATTERN).count();
     assert!(untouched > 0, "the stack is too small");
-    ((start - 1 - untouched) * size_of::<usize>(), answer as u32)
+    ((start - 1 - untouched) * std::mem::size_of::<usize>(), answer as u32)
 }
 
 /// The bytes that a call on these lists takes, which are its first arguments.

@@ -11,7 +11,7 @@ use lib.IntN.{ℤ, pos, subℕ}
 use Rattle.mesh.specs.Tools.{flat}
 use Rattle.mesh.specs.Picture.{rowWords}
 use Rattle.table.specs.Writes.{putRow, freeRow, nilRow}
-use Rattle.editing.specs.Built.{emptyTable, rootTable}
+use Rattle.edit_laws.specs.Built.{emptyTable, rootTable}
 
 -- ---- rows
 

@@ -5,20 +5,20 @@ use native.Mathlib.Omega.{arith}
 use mathlib.Core.Path.{_≡_, sym, ap, _∙_, subst}
 use mathlib.Core.Bool.{Bool, true, false, not}
 use mathlib.Core.List.{List, _∷_}
+use borrow.Author.Tests.{not-true, not-false}
 use lib.IntN.{ℤ}
+use Rattle.edit_laws.specs.Growing.{dark, Able, KidsToGrow, LevelToGrow, LevelsToGrow}
 use Rattle.mesh.specs.Place.{Grid, base, compass, Wind}
-use Rattle.geometry.proofs.Bools.{is-yes}
+use Rattle.place_laws.proofs.Bools.{is-yes}
 use Rattle.table.specs.Words.{wordOf}
-use Rattle.editing.specs.Steps.{linkIn}
+use Rattle.edit_laws.specs.Steps.{linkIn}
 use Rattle.table.specs.Plain.{Plain}
-use Rattle.table.proofs.Links.{level-from}
-use Rattle.steps.specs.Small.{Small}
-use Rattle.steps.proofs.PlainRows.{linked-plain}
-use Rattle.editing.proofs.Growing.{dark}
-use Rattle.editing.specs.Built.{Growth, inFull, grow, growKids, growLevel, growLevels, groundFrom}
-use Rattle.editing.proofs.Sprouts.{Able, KidsToGrow, LevelToGrow, LevelsToGrow, kid-able, kids-rest, level-kids, level-rest, levels-level, levels-rest, levels-bounds}
-use Rattle.build.specs.Steps.{growth, inTurn, Reached}
-use Rattle.build.proofs.Turns.{not-so, just-so}
+use Rattle.table.proofs.LinkRanges.{level-from}
+use Rattle.patch.specs.Small.{Small}
+use Rattle.patch.proofs.PlainKept.{linked-plain}
+use Rattle.edit_laws.specs.Built.{Growth, inFull, grow, growKids, growLevel, growLevels, groundFrom}
+use Rattle.edit_laws.proofs.Sprouts.{kid-able, kids-rest, level-kids, level-rest, levels-level, levels-rest, levels-bounds}
+use Rattle.build.specs.BuildSteps.{growth, inTurn, Reached}
 
 module _ (g : Grid) (cap d : ℕ) where
   -- ---- one kid
@@ -29,18 +29,18 @@ module _ (g : Grid) (cap d : ℕ) where
     test-is = rw (i-is, j-is, ← l-is, ← m-is) at there-is
 
     pub kid-room : not there ≡ false → k ≤ cap
-    kid-room h = a .room (is-yes _ (sym test-is ∙ just-so there h))
+    kid-room h = a .room (is-yes _ (sym test-is ∙ not-false there h))
 
     pub kid-not : not there ≡ true → growth t k ≡ grow g cap d up p l m (growth t k)
     unfolding grow
-    kid-not h = rw (← test-is, not-so there h)
+    kid-not h = rw (← test-is, not-true there h)
 
     pub kid-new : {u : List ℤ} → not there ≡ false → u ≡ linkIn t cap d p x y k → growth u (k + 1) ≡ grow g cap d up p l m (growth t k)
     unfolding grow
-    kid-new h e = rw (← test-is, just-so there h, e, ← l-is, ← m-is)
+    kid-new h e = rw (← test-is, not-false there h, e, ← l-is, ← m-is)
 
   pub kid-small : {up p l m k : ℕ} {t : List ℤ} → Able g cap d up p l m (growth t k) → Small 1073741824 t d p
-  kid-small a = record { col = omega (arith, a .col); row = omega (arith, a .row); level = level-from _ _ _ (omega (arith, a .depth)); depth = omega (arith, a .depth) }
+  kid-small a = record { i = omega (arith, a .i); j = omega (arith, a .j); level = level-from _ _ _ (omega (arith, a .depth)); depth = omega (arith, a .depth) }
 
 -- the table between two kids is a linked one without a flag
 pub kids-plain : {g : Grid} {cap up p k : ℕ} {ws : List Wind} {t : List ℤ} → KidsToGrow g cap up p ws (growth t k) → Plain t cap

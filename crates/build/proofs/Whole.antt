@@ -8,19 +8,21 @@ use mathlib.Core.List.{List}
 use lib.Ieee.{Float}
 use lib.IntN.{ℤ}
 use lib.ListN.{length, replicate}
+use Rattle.edit_laws.specs.Growing.{LevelsToGrow}
+use Rattle.mesh.specs.Call.{Rectangle}
 use Rattle.mesh.specs.Place.{Grid, base, isRing}
 use Rattle.mesh.specs.State.{plusZero}
 use Rattle.mesh.specs.Build.{numbered}
-use Rattle.geometry.proofs.Base.{Rectangle, base-range}
-use Rattle.numbering.proofs.Building.{built-in-use}
-use Rattle.editing.specs.Anew.{wallRow, markRow}
-use Rattle.editing.specs.Built.{Growth, eachRow, rootTable, growLevels, groundFrom, seamRow, groundRow, start, linkedTable, groundTable, buildTable}
-use Rattle.editing.proofs.Building.{build-table, build-next, grown-linked, ground-linked}
-use Rattle.editing.proofs.Sprouts.{LevelsToGrow, levels-start}
-use Rattle.editing.proofs.Blank.{built-amounts}
+use Rattle.place_laws.proofs.Base.{base-range}
+use Rattle.number_laws.proofs.Building.{built-in-use}
+use Rattle.edit_laws.specs.Anew.{wallRow, pointRow}
+use Rattle.edit_laws.specs.Built.{Growth, eachRow, rootTable, growLevels, groundFrom, seamRow, groundRow, start, linkedTable, groundTable, buildTable}
+use Rattle.edit_laws.proofs.BuildTable.{build-table, build-next, grown-linked, ground-linked}
+use Rattle.edit_laws.proofs.Sprouts.{levels-start}
+use Rattle.edit_laws.proofs.Blank.{built-amounts}
 use Rattle.table.specs.Plain.{Plain}
-use Rattle.steps.proofs.PlainRows.{linked-plain}
-use Rattle.build.specs.Steps.{growth, Reached, Made}
+use Rattle.patch.proofs.PlainKept.{linked-plain}
+use Rattle.build.specs.BuildSteps.{growth, Reached, Made}
 
 module _ (g : Grid) (cap d : ℕ) (ground : d ≡ base g) (in-range : Rectangle g) (low : 5 ≤ cap) (high : cap ≤ 4095) (fits : length (numbered g) ≤ cap) where
   pub depth-small : d ≤ 6
@@ -79,7 +81,7 @@ module _ (g : Grid) (cap d : ℕ) (ground : d ≡ base g) (in-range : Rectangle 
 
       -- ---- and its flags
 
-      module _ (y z : List ℤ) (v : List Float) (walled : y ≡ eachRow (wallRow cap d) (k - a) a x) (marked : z ≡ eachRow (markRow cap) (k - a) a y) (blank : v ≡ replicate (cap + 1) plusZero) where
+      module _ (y z : List ℤ) (v : List Float) (walled : y ≡ eachRow (wallRow cap d) (k - a) a x) (marked : z ≡ eachRow (pointRow cap) (k - a) a y) (blank : v ≡ replicate (cap + 1) plusZero) where
         whole : z ≡ buildTable g cap d
         unfolding buildTable
         whole = marked ∙ rw (walled, ground-is, next-is, from-is)

@@ -1,2 +1,2 @@
 -- Short names for what the steps of a build answer.
-pub mod Steps
+pub mod BuildSteps

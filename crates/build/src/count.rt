@@ -5,10 +5,10 @@ ghost use lib.ListN.{length};
 ghost use Rattle.mesh.specs.Place.{base};
 ghost use Rattle.mesh.specs.Headers.{headerOf};
 ghost use Rattle.mesh.specs.Build.{numbered};
-ghost use Rattle.geometry.proofs.Base.{Rectangle};
-ghost use Rattle.numbering.proofs.Sizes.{levelSize};
+ghost use Rattle.mesh.specs.Call.{Rectangle};
+ghost use Rattle.number_laws.specs.Sizes.{levelSize};
 use mesh::header::Header;
-use mesh::header::last_row;
+use mesh::header::last_j;
 
 // The patches so many levels below level 0.
 fn level_size(header: Header, up: u32) -> usize
@@ -16,7 +16,7 @@ fn level_size(header: Header, up: u32) -> usize
     ensures { λ r. ⌜ (r ≤ 1089) × (r ≡ levelSize (headerOf header .grid) up) ⌝ }
 {
     let a = (header.columns >> up) + 1;
-    let b = (last_row(header) >> up) + 1;
+    let b = (last_j(header) >> up) + 1;
     (a * b) as usize
 }
 

@@ -4,7 +4,8 @@ ghost use Prim.Native.Nat.{_+_, _*_, _≤_};
 ghost use lib.ListN.{length, replicate};
 ghost use Rattle.mesh.specs.State.{plusZero};
 ghost use Rattle.mesh.specs.Picture.{rowWords};
-ghost use Rattle.editing.specs.Built.{emptyTable, rootTable};
+ghost use Rattle.edit_laws.specs.Built.{emptyTable, rootTable};
+use table::words::FLAGS;
 use table::writes::clear_row;
 use table::writes::nil_row;
 use table::writes::put;
@@ -31,7 +32,7 @@ pub fn root_table(t: &mut [i32], cap: usize, d: u32)
 {
     empty_table(t, cap);
     put_level(t, 1, 0, d);
-    put(t, 1, 12, 0);
+    put(t, 1, FLAGS, 0);
 }
 
 // Every value +0.

@@ -4,12 +4,15 @@ ghost use Prim.Native.Nat.{_+_, _-_, _*_, _≤_};
 ghost use lib.ListN.{length};
 ghost use Rattle.mesh.specs.Headers.{headerOf};
 ghost use Rattle.mesh.specs.Picture.{rowWords};
-ghost use Rattle.editing.specs.Anew.{wallRow, markRow};
-ghost use Rattle.editing.specs.Built.{eachRow, groundRow};
+ghost use Rattle.edit_laws.specs.Anew.{wallRow, pointRow};
+ghost use Rattle.edit_laws.specs.Built.{eachRow, groundRow};
 ghost use Rattle.table.specs.Plain.{Plain};
 use mesh::header::Header;
-use steps::anew::mark_row;
-use steps::anew::wall_row;
+use patch::anew::point_row;
+use patch::anew::wall_row;
+use table::words::FLAGS;
+use table::words::INDEX_I;
+use table::words::INDEX_J;
 use table::words::word;
 use table::writes::put;
 
@@ -18,13 +21,13 @@ fn put_cell(t: &mut [i32], header: Header, n: usize)
     requires { ⌜ n * rowWords + rowWords ≤ length (now t) ⌝ }
     ensures { λ _. ⌜ now (t .exit) ≡ groundRow (headerOf header .grid) (now (t .entry)) n ⌝ }
 {
-    let i = word(t, n, 10);
-    let j = word(t, n, 11);
+    let i = word(t, n, INDEX_I);
+    let j = word(t, n, INDEX_J);
     let inside = (i < header.columns) & (j < header.rows);
     if !inside {
         return;
     }
-    put(t, n, 12, 1);
+    put(t, n, FLAGS, 1);
 }
 
 // The rows from a up to b that the rectangle has are cells.
@@ -41,7 +44,7 @@ pub fn put_ground(t: &mut [i32], header: Header, a: usize, b: usize)
 
 // The rows from a up to b have their walls.
 pub fn wall_rows(t: &mut [i32], cap: usize, d: u32, a: usize, b: usize)
-    requires { ⌜ (cap * rowWords + rowWords ≤ length (now t)) × (cap ≤ 4095) × (d ≤ 32) × (a ≤ b) × (b ≤ cap + 1) × Plain (now t) cap ⌝ }
+    requires { ⌜ Plain (now t) cap × (d ≤ 32) × (a ≤ b) × (b ≤ cap + 1) ⌝ }
     ensures { λ _. ⌜ (now (t .exit) ≡ eachRow (wallRow cap d) (b - a) a (now (t .entry))) × Plain (now (t .exit)) cap ⌝ }
 {
     let mut n = a;
@@ -52,13 +55,13 @@ pub fn wall_rows(t: &mut [i32], cap: usize, d: u32, a: usize, b: usize)
 }
 
 // And then their points and their cells.
-pub fn mark_rows(t: &mut [i32], cap: usize, a: usize, b: usize)
-    requires { ⌜ (cap * rowWords + rowWords ≤ length (now t)) × (cap ≤ 4095) × (a ≤ b) × (b ≤ cap + 1) × Plain (now t) cap ⌝ }
-    ensures { λ _. ⌜ now (t .exit) ≡ eachRow (markRow cap) (b - a) a (now (t .entry)) ⌝ }
+pub fn point_rows(t: &mut [i32], cap: usize, a: usize, b: usize)
+    requires { ⌜ Plain (now t) cap × (a ≤ b) × (b ≤ cap + 1) ⌝ }
+    ensures { λ _. ⌜ now (t .exit) ≡ eachRow (pointRow cap) (b - a) a (now (t .entry)) ⌝ }
 {
     let mut n = a;
     while n < b {
-        mark_row(t, cap, n);
+        point_row(t, cap, n);
         n += 1;
     }
 }

@@ -1,23 +1,23 @@
 // The patches of the full rectangle, level by level from the root.
 ghost use mathlib.Core.Path.{_≡_};
-ghost use Prim.Native.Nat.{_+_, _-_, _*_, _<_, _≤_};
-ghost use lib.ListN.{length};
+ghost use Prim.Native.Nat.{_+_, _-_, _<_, _≤_};
 ghost use Rattle.mesh.specs.Place.{base};
 ghost use Rattle.mesh.specs.Headers.{headerOf};
-ghost use Rattle.mesh.specs.Winds.{kidCol, kidRow};
-ghost use Rattle.mesh.specs.Picture.{rowWords};
-ghost use Rattle.table.specs.Plain.{Plain};
-ghost use Rattle.editing.specs.Built.{inFull, grow, growKids, growLevel};
-ghost use Rattle.editing.proofs.Sprouts.{Able, KidsToGrow, LevelToGrow, LevelsToGrow};
-ghost use Rattle.build.specs.Steps.{growth, inTurn, Reached};
+ghost use Rattle.mesh.specs.Winds.{kidL, kidM};
+ghost use Rattle.table.specs.Plain.{Plain, Sized};
+ghost use Rattle.edit_laws.specs.Built.{inFull, grow, growKids, growLevel};
+ghost use Rattle.build.specs.BuildSteps.{growth, inTurn, Reached};
+ghost use Rattle.edit_laws.specs.Growing.{Able, KidsToGrow, LevelToGrow, LevelsToGrow};
 use mesh::NE;
 use mesh::NW;
 use mesh::SE;
 use mesh::SW;
 use mesh::header::Header;
-use mesh::header::last_row;
+use mesh::header::last_j;
 use mesh::kid_digits;
-use steps::links::link_in;
+use patch::links::link_in;
+use table::words::INDEX_I;
+use table::words::INDEX_J;
 use table::words::word;
 
 // Whether a place is a patch of the full rectangle, so many levels below level 0.
@@ -25,7 +25,7 @@ fn in_full(header: Header, up: u32, i: u32, j: u32) -> bool
     requires { ⌜ (up < 32) × (1 ≤ header .rows) ⌝ }
     ensures { λ r. ⌜ r ≡ inFull (headerOf header .grid) up i j ⌝ }
 {
-    (i <= header.columns >> up) & (j <= last_row(header) >> up)
+    (i <= header.columns >> up) & (j <= last_j(header) >> up)
 }
 
 // The kid of the row p in the wind at place w of the table of winds, where the rectangle has it; the next number.
@@ -39,14 +39,14 @@ fn grow_kid(
     w: usize,
     next: usize,
 ) -> usize
-    requires { ⌜ (cap * rowWords + rowWords ≤ length (now t)) × (cap ≤ 4095) × (d ≤ 32) × (w < 4) × Plain (now t) cap × Able (headerOf header .grid) cap d up p (kidCol w) (kidRow w) (growth (now t) next) ⌝ }
-    ensures { λ r. ⌜ growth (now (t .exit)) r ≡ grow (headerOf header .grid) cap d up p (kidCol w) (kidRow w) (growth (now (t .entry)) next) ⌝ }
+    requires { ⌜ Plain (now t) cap × (d ≤ 32) × (w < 4) × Able (headerOf header .grid) cap d up p (kidL w) (kidM w) (growth (now t) next) ⌝ }
+    ensures { λ r. ⌜ growth (now (t .exit)) r ≡ grow (headerOf header .grid) cap d up p (kidL w) (kidM w) (growth (now (t .entry)) next) ⌝ }
 {
     let e = kid_digits(w);
-    let l = e.col;
-    let m = e.row;
-    let i = 2 * word(t, p, 10) + l;
-    let j = 2 * word(t, p, 11) + m;
+    let l = e.l;
+    let m = e.m;
+    let i = 2 * word(t, p, INDEX_I) + l;
+    let j = 2 * word(t, p, INDEX_J) + m;
     let there = in_full(header, up, i, j);
     if !there {
         return next;
@@ -65,7 +65,7 @@ fn grow_kids(
     p: usize,
     next: usize,
 ) -> usize
-    requires { ⌜ (cap * rowWords + rowWords ≤ length (now t)) × (cap ≤ 4095) × (d ≤ 32) × (d ≡ base (headerOf header .grid)) × KidsToGrow (headerOf header .grid) cap up p inTurn (growth (now t) next) ⌝ }
+    requires { ⌜ Sized (now t) cap × (d ≤ 32) × (d ≡ base (headerOf header .grid)) × KidsToGrow (headerOf header .grid) cap up p inTurn (growth (now t) next) ⌝ }
     ensures { λ r. ⌜ growth (now (t .exit)) r ≡ growKids (headerOf header .grid) cap d up p (growth (now (t .entry)) next) ⌝ }
 {
     let a = grow_kid(t, cap, header, d, up, p, SW, next);
@@ -84,7 +84,7 @@ fn grow_level(
     p: usize,
     next: usize,
 ) -> usize
-    requires { ⌜ (cap * rowWords + rowWords ≤ length (now t)) × (cap ≤ 4095) × (d ≤ 32) × (d ≡ base (headerOf header .grid)) × (p ≤ next) × (next ≤ cap + 1) × LevelToGrow (headerOf header .grid) cap up (next - p) p (growth (now t) next) ⌝ }
+    requires { ⌜ Sized (now t) cap × (d ≤ 32) × (d ≡ base (headerOf header .grid)) × (p ≤ next) × (next ≤ cap + 1) × LevelToGrow (headerOf header .grid) cap up (next - p) p (growth (now t) next) ⌝ }
     ensures { λ r. ⌜ growth (now (t .exit)) r ≡ growLevel (headerOf header .grid) cap d up (next - p) p (growth (now (t .entry)) next) ⌝ }
 {
     let mut q = p;
@@ -104,7 +104,7 @@ pub struct Reach {
 
 // Every level, from the root under number 1 on.
 pub fn grow_levels(t: &mut [i32], cap: usize, header: Header, d: u32) -> Reach
-    requires { ⌜ (cap * rowWords + rowWords ≤ length (now t)) × (cap ≤ 4095) × (d ≤ 32) × (d ≡ base (headerOf header .grid)) × LevelsToGrow (headerOf header .grid) cap d 1 (growth (now t) 2) ⌝ }
+    requires { ⌜ Sized (now t) cap × (d ≤ 32) × (d ≡ base (headerOf header .grid)) × LevelsToGrow (headerOf header .grid) cap d 1 (growth (now t) 2) ⌝ }
     ensures { λ r. ⌜ Reached (headerOf header .grid) cap d (growth (now (t .entry)) 2) (growth (now (t .exit)) (r .next)) (r .ground) ⌝ }
 {
     let mut up = d;

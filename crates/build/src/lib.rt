@@ -5,8 +5,8 @@ ghost use lib.ListN.{length};
 ghost use Rattle.mesh.specs.Headers.{headerOf};
 ghost use Rattle.mesh.specs.Picture.{rowWords};
 ghost use Rattle.mesh.specs.Build.{numbered};
-ghost use Rattle.geometry.proofs.Base.{Rectangle};
-ghost use Rattle.build.specs.Steps.{Made};
+ghost use Rattle.build.specs.BuildSteps.{Made};
+ghost use Rattle.mesh.specs.Call.{Rectangle};
 use mesh::header::Header;
 
 pub mod count;
@@ -28,7 +28,7 @@ pub fn build_table(t: &mut [i32], v: &mut [f64], cap: usize, header: Header) -> 
     seam::seam_rows(t, cap, header, d, a, b);
     ground::put_ground(t, header, a, b);
     ground::wall_rows(t, cap, d, a, b);
-    ground::mark_rows(t, cap, a, b);
+    ground::point_rows(t, cap, a, b);
     fill::blank_values(v, cap);
     b - 1
 }

@@ -1,16 +1,16 @@
 // The seam of a ring: the first and the last row of level 0 name each other. Their parents are no neighbours, so they are found from the root.
 ghost use mathlib.Core.Path.{_≡_};
 ghost use mathlib.Core.Bool.{cond};
-ghost use Prim.Native.Nat.{_+_, _-_, _*_, _<_, _≤_};
-ghost use lib.ListN.{length};
+ghost use Prim.Native.Nat.{_+_, _-_, _<_, _≤_};
 ghost use Rattle.mesh.specs.Place.{isRing};
 ghost use Rattle.mesh.specs.Headers.{headerOf};
-ghost use Rattle.mesh.specs.Picture.{rowWords};
 ghost use Rattle.table.specs.Plain.{Plain};
-ghost use Rattle.editing.specs.Built.{eachRow, seamRow};
+ghost use Rattle.edit_laws.specs.Built.{eachRow, seamRow};
 use mesh::header::Header;
 use mesh::header::is_ring;
 use table::down::down_to;
+use table::words::INDEX_I;
+use table::words::INDEX_J;
 use table::words::NORTH;
 use table::words::SOUTH;
 use table::words::word;
@@ -18,13 +18,13 @@ use table::writes::put;
 
 // The row n names the one across the seam, if it lies there.
 fn seam_row(t: &mut [i32], cap: usize, header: Header, d: u32, n: usize)
-    requires { ⌜ (cap * rowWords + rowWords ≤ length (now t)) × (1 ≤ cap) × (cap ≤ 4095) × (d < 32) × (1 ≤ header .rows) × (n ≤ cap) × Plain (now t) cap ⌝ }
+    requires { ⌜ Plain (now t) cap × (1 ≤ cap) × (d < 32) × (1 ≤ header .rows) × (n ≤ cap) ⌝ }
     ensures { λ _. ⌜ (now (t .exit) ≡ seamRow (headerOf header .grid) cap d (now (t .entry)) n) × Plain (now (t .exit)) cap ⌝ }
 {
     let last = header.rows - 1;
-    let j = word(t, n, 11);
+    let j = word(t, n, INDEX_J);
     if j == last {
-        let i = word(t, n, 10);
+        let i = word(t, n, INDEX_I);
         let north = down_to(t, cap, d, i, 0);
         put(t, n, NORTH, north as u32);
         return;
@@ -32,14 +32,14 @@ fn seam_row(t: &mut [i32], cap: usize, header: Header, d: u32, n: usize)
     if j != 0 {
         return;
     }
-    let i = word(t, n, 10);
+    let i = word(t, n, INDEX_I);
     let south = down_to(t, cap, d, i, last);
     put(t, n, SOUTH, south as u32);
 }
 
 // The rows from a up to b do, if the grid is a ring.
 pub fn seam_rows(t: &mut [i32], cap: usize, header: Header, d: u32, a: usize, b: usize)
-    requires { ⌜ (cap * rowWords + rowWords ≤ length (now t)) × (1 ≤ cap) × (cap ≤ 4095) × (d < 32) × (1 ≤ header .rows) × (a ≤ b) × (b ≤ cap + 1) × Plain (now t) cap ⌝ }
+    requires { ⌜ Plain (now t) cap × (1 ≤ cap) × (d < 32) × (1 ≤ header .rows) × (a ≤ b) × (b ≤ cap + 1) ⌝ }
     ensures { λ _. ⌜ now (t .exit) ≡ cond (isRing (headerOf header .grid)) (eachRow (seamRow (headerOf header .grid) cap d) (b - a) a (now (t .entry))) (now (t .entry)) ⌝ }
 {
     if !is_ring(header) {

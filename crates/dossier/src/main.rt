@@ -1,4 +1,4 @@
-// Prints the dossier page of the grid that standard input describes, or why it is refused. Where the input cannot be read, or the output not be
+// Prints the dossier page of the grid that standard input describes, or refusal it is refused. Where the input cannot be read, or the output not be
 // written, it says so on standard error.
 ghost use Rattle.io.specs.Counts.{Counts};
 use libc::STDERR_FILENO;
@@ -43,7 +43,7 @@ fn complain(line: &[u8]) {
 // Prints what the program prints for the input.
 fn answer(input: &[u8]) {
     let mut out = [0u8; 104000];
-    let w = printing::print(input, &mut out);
+    let w = program::print(input, &mut out);
     let k = w.count;
     let whole = io::write_all(STDOUT_FILENO, &out[..k]);
     if !whole {

@@ -20,29 +20,29 @@ fourOf o = cond (eqb (length o) 4) o (0 ∷ 0 ∷ 0 ∷ 0 ∷ [])
 
 -- "is a measured value, a carried value, or blank", as a status and a value
 pub record Told : Type 0 where
-  pub why : ℕ
+  pub refusal : ℕ
   pub leaf : ℕ
   pub status : ℕ
   pub value : Float
 
 abbrev pub told : Call.Found → Told
-told f = record { why = f .why; leaf = f .leaf; status = State.status (f .value); value = State.amount (f .value) }
+told f = record { refusal = f .refusal; leaf = f .leaf; status = State.status (f .value); value = State.amount (f .value) }
 
 module _ (h : Header) (t : List ℤ) (v : List Float) (cap : ℕ) where
   pub record Builds (columns rows mode : ℕ) (h′ : Header) (t′ : List ℤ) (v′ : List Float) (in-use r : ℕ) : Type 0 where
-    pub is : record { why = r; in-use = in-use; lent = lentOf h′ t′ v′ } ≡ Call.buildCall cap (lentOf h t v) (record { columns = columns; rows = rows; mode = mode })
+    pub is : record { refusal = r; in-use = in-use; lent = lentOf h′ t′ v′ } ≡ Call.buildCall cap (lentOf h t v) (record { columns = columns; rows = rows; mode = mode })
 
   pub record Tapes (bytes : List ℕ) (h′ : Header) (t′ : List ℤ) (v′ : List Float) (done offset r : ℕ) : Type 0 where
-    pub is : record { done = done; why = r; offset = offset; lent = lentOf h′ t′ v′ } ≡ Call.tapeCall cap (lentOf h t v) bytes
+    pub is : record { done = done; refusal = r; offset = offset; lent = lentOf h′ t′ v′ } ≡ Call.tapeCall cap (lentOf h t v) bytes
 
   pub record Checks (r : ℕ) : Type 0 where
     pub is : r ≡ Call.checkCall cap (lentOf h t v)
 
   pub record Scans (start : ℕ) (order : List ℕ) (kind : ℕ) (from to : ℤ) (out out′ : List ℕ) (count r : ℕ) : Type 0 where
-    pub is : record { why = r; count = count; out = out′ } ≡ Call.scanCall cap (lentOf h t v) start order kind from to out
+    pub is : record { refusal = r; count = count; out = out′ } ≡ Call.scanCall cap (lentOf h t v) start order kind from to out
 
   pub record Looks (speed load number status : ℕ) (value : Float) (r : ℕ) : Type 0 where
-    pub is : record { why = r; leaf = number; status = status; value = value } ≡ told (Call.lookupCall cap (lentOf h t v) speed load)
+    pub is : record { refusal = r; leaf = number; status = status; value = value } ≡ told (Call.lookupCall cap (lentOf h t v) speed load)
 
   pub record Pages (out out′ : List ℕ) (count r : ℕ) : Type 0 where
-    pub is : record { why = r; count = count; out = out′ } ≡ Call.pageCall cap (lentOf h t v) out
+    pub is : record { refusal = r; count = count; out = out′ } ≡ Call.pageCall cap (lentOf h t v) out

@@ -2,10 +2,10 @@
 // exported entry is thin: it copies the header out and calls the core above it, and a build or a tape puts back the header that the core leaves.
 ghost use mathlib.Core.Path.{_≡_};
 ghost use Rattle.mesh.specs.State.{status, amount};
-ghost use Rattle.walk.specs.Calls.{valueOfReading};
+ghost use Rattle.lookup.specs.LookupRows.{valueOfReading};
 ghost use Rattle.face.specs.Outputs.{fourOf, Builds, Tapes, Checks, Scans, Looks, Pages};
+use lookup::Reading;
 use mesh::header::Header;
-use walk::calls::Reading;
 
 // The header at exit, and the refusal or 0.
 struct Left {
@@ -231,7 +231,7 @@ fn lookup_core(
     *number = found.leaf;
     *status = status_of(reading);
     *value = amount_of(reading);
-    found.why
+    found.refusal
 }
 
 // The leaf that holds a point, given in 1/4096 of a level-0 cell; its status and its value.

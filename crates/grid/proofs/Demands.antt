@@ -21,19 +21,19 @@ use Rattle.mesh.specs.Call as Call
 use Rattle.mesh.specs.Call.{stateOf, picture, checkCall, buildCall, tapeCall, scanCall, lookupCall, pageCall}
 use Rattle.mesh.specs.Headers.{headerOf, lentOf}
 use Rattle.mesh.specs.declared.header.Header.{Header}
-use Rattle.walk.specs.declared.calls.Found.{Found}
-use Rattle.walk.specs.Calls.{foundOf, valueOfReading}
-use Rattle.walking.specs.Points.{total}
-use Rattle.walking.specs.Reach.{reaches}
-use Rattle.pictures.proofs.Rows.{amounts-length}
-use Rattle.calling.proofs.Looked as calling
-use Rattle.laws.specs.Deeds.{deeds, after}
-use Rattle.laws.specs.Demand.{Demand3}
-use Rattle.laws.proofs.Refusals.{build-refused, tape-refused, scan-refused, lookup-refused-call, page-refused}
-use Rattle.laws.proofs.Prefixes.{tape-prefix}
-use Rattle.laws.proofs.Answers.{among, ofTapes, check-answers, build-answers, tape-answers, scan-answers, lookup-answers, page-answers}
-use Rattle.laws.proofs.Calls.{tape-checked, afterCalls}
-use Rattle.laws.proofs.Demand as laws
+use Rattle.lookup.specs.declared.Found.{Found}
+use Rattle.lookup.specs.LookupRows.{foundOf, valueOfReading}
+use Rattle.walk_laws.specs.Points.{total}
+use Rattle.walk_laws.specs.Reach.{reaches}
+use Rattle.picture_laws.proofs.Rows.{amounts-length}
+use Rattle.call_laws.proofs.Looked as calling
+use Rattle.demand_laws.specs.Deeds.{deeds, after}
+use Rattle.demand_laws.specs.Demand.{Demand3}
+use Rattle.demand_laws.proofs.Refusals.{build-refused, tape-refused, scan-refused, lookup-refused-call, page-refused}
+use Rattle.demand_laws.proofs.Prefixes.{tape-prefix}
+use Rattle.demand_laws.proofs.Answers.{among, ofTapes, check-answers, build-answers, tape-answers, scan-answers, lookup-answers, page-answers}
+use Rattle.demand_laws.proofs.PicturedCalls.{tape-checked, afterCalls}
+use Rattle.demand_laws.proofs.Demand as laws
 use Rattle.grid.specs.declared.Wrote.{Wrote}
 use Rattle.grid.specs.declared.Built.{Built}
 use Rattle.grid.specs.declared.Taped.{Taped}
@@ -53,10 +53,10 @@ module _ (h : Header) (t : List ℤ) (v : List Float) (cap : ℕ) where
     build-ends columns rows mode r b =
         let l = lentOf h t v in
         let g = asked columns rows mode in
-        let why : r .refusal ≡ buildCall cap l g .why = ap (λ (x : Call.Built). x .why) (b .is) in (
-          subst (λ (n : ℕ). T (among (0 ∷ 1 ∷ 2 ∷ 11 ∷ []) n)) (sym why) (build-answers cap l g),
+        let refusal : r .refusal ≡ buildCall cap l g .refusal = ap (λ (x : Call.Built). x .refusal) (b .is) in (
+          subst (λ (n : ℕ). T (among (0 ∷ 1 ∷ 2 ∷ 11 ∷ []) n)) (sym refusal) (build-answers cap l g),
           λ refused.
-              let e = b .is ∙ build-refused cap l g (λ z. refused (why ∙ z)) in
+              let e = b .is ∙ build-refused cap l g (λ z. refused (refusal ∙ z)) in
               let (a₁, a₂, a₃) = lent-same h′ h t′ t v′ v (ap (λ (x : Call.Built). x .lent) e) in
               (ap (λ (x : Call.Built). x .in-use) e, a₁, a₂, a₃),
         )
@@ -66,10 +66,10 @@ module _ (h : Header) (t : List ℤ) (v : List Float) (cap : ℕ) where
         → T (among ofTapes (r .refusal)) × (r .refusal ≢ 0 → r .refusal ≤ 3 → (r .done ≡ 0) × (r .offset ≡ 0) × (h′ ≡ h) × (t′ ≡ t) × (v′ ≡ v))
     tape-ends bytes r b =
         let l = lentOf h t v in
-        let why : r .refusal ≡ tapeCall cap l bytes .why = ap (λ (x : Call.Taped). x .why) (b .is) in (
-          subst (λ (n : ℕ). T (among ofTapes n)) (sym why) (tape-answers cap l bytes),
+        let refusal : r .refusal ≡ tapeCall cap l bytes .refusal = ap (λ (x : Call.Taped). x .refusal) (b .is) in (
+          subst (λ (n : ℕ). T (among ofTapes n)) (sym refusal) (tape-answers cap l bytes),
           λ refused few.
-              let e = b .is ∙ tape-refused cap l bytes (λ z. refused (why ∙ z)) (subst (λ (n : ℕ). n ≤ 3) why few) in
+              let e = b .is ∙ tape-refused cap l bytes (λ z. refused (refusal ∙ z)) (subst (λ (n : ℕ). n ≤ 3) refusal few) in
               let (a₁, a₂, a₃) = lent-same h′ h t′ t v′ v (ap (λ (x : Call.Taped). x .lent) e) in
               (ap (λ (x : Call.Taped). x .done) e, ap (λ (x : Call.Taped). x .offset) e, a₁, a₂, a₃),
         )
@@ -78,10 +78,10 @@ module _ (h : Header) (t : List ℤ) (v : List Float) (cap : ℕ) where
       → T (among (0 ∷ 1 ∷ 2 ∷ 3 ∷ 6 ∷ 17 ∷ 18 ∷ []) (r .refusal)) × (r .refusal ≢ 0 → (r .count ≡ 0) × (out′ ≡ out))
   scan-ends n o k from to out out′ r b =
       let l = lentOf h t v in
-      let why : r .refusal ≡ scanCall cap l n o k from to out .why = ap (λ (x : Call.Wrote). x .why) b in (
-        subst (λ (m : ℕ). T (among (0 ∷ 1 ∷ 2 ∷ 3 ∷ 6 ∷ 17 ∷ 18 ∷ []) m)) (sym why) (scan-answers cap l n o k from to out),
+      let refusal : r .refusal ≡ scanCall cap l n o k from to out .refusal = ap (λ (x : Call.Wrote). x .refusal) b in (
+        subst (λ (m : ℕ). T (among (0 ∷ 1 ∷ 2 ∷ 3 ∷ 6 ∷ 17 ∷ 18 ∷ []) m)) (sym refusal) (scan-answers cap l n o k from to out),
         λ refused.
-            let e = b ∙ scan-refused cap l n o k from to out (λ z. refused (why ∙ z)) in
+            let e = b ∙ scan-refused cap l n o k from to out (λ z. refused (refusal ∙ z)) in
             (ap (λ (x : Call.Wrote). x .count) e, ap (λ (x : Call.Wrote). x .out) e),
       )
 
@@ -89,22 +89,22 @@ module _ (h : Header) (t : List ℤ) (v : List Float) (cap : ℕ) where
       → T (among (0 ∷ 1 ∷ 2 ∷ 3 ∷ 18 ∷ []) (r .refusal)) × (r .refusal ≢ 0 → (r .count ≡ 0) × (out′ ≡ out))
   page-ends out out′ r b =
       let l = lentOf h t v in
-      let why : r .refusal ≡ pageCall cap l out .why = ap (λ (x : Call.Wrote). x .why) b in (
-        subst (λ (m : ℕ). T (among (0 ∷ 1 ∷ 2 ∷ 3 ∷ 18 ∷ []) m)) (sym why) (page-answers cap l out),
+      let refusal : r .refusal ≡ pageCall cap l out .refusal = ap (λ (x : Call.Wrote). x .refusal) b in (
+        subst (λ (m : ℕ). T (among (0 ∷ 1 ∷ 2 ∷ 3 ∷ 18 ∷ []) m)) (sym refusal) (page-answers cap l out),
         λ refused.
-            let e = b ∙ page-refused cap l out (λ z. refused (why ∙ z)) in
+            let e = b ∙ page-refused cap l out (λ z. refused (refusal ∙ z)) in
             (ap (λ (x : Call.Wrote). x .count) e, ap (λ (x : Call.Wrote). x .out) e),
       )
 
   -- "number 0 and blank"
   pub lookup-ends : (x y : ℕ) (r : Found) → foundOf r ≡ lookupCall cap (lentOf h t v) x y
-      → T (among (0 ∷ 1 ∷ 2 ∷ 3 ∷ 19 ∷ []) (r .why)) × (r .why ≢ 0 → (r .leaf ≡ 0) × (valueOfReading (r .reading) ≡ blank))
+      → T (among (0 ∷ 1 ∷ 2 ∷ 3 ∷ 19 ∷ []) (r .refusal)) × (r .refusal ≢ 0 → (r .leaf ≡ 0) × (valueOfReading (r .reading) ≡ blank))
   lookup-ends x y r b =
       let l = lentOf h t v in
-      let why : r .why ≡ lookupCall cap l x y .why = ap (λ (z : Call.Found). z .why) b in (
-        subst (λ (m : ℕ). T (among (0 ∷ 1 ∷ 2 ∷ 3 ∷ 19 ∷ []) m)) (sym why) (lookup-answers cap l x y),
+      let refusal : r .refusal ≡ lookupCall cap l x y .refusal = ap (λ (z : Call.Found). z .refusal) b in (
+        subst (λ (m : ℕ). T (among (0 ∷ 1 ∷ 2 ∷ 3 ∷ 19 ∷ []) m)) (sym refusal) (lookup-answers cap l x y),
         λ refused.
-            let e = b ∙ lookup-refused-call cap l x y (λ z. refused (why ∙ z)) in
+            let e = b ∙ lookup-refused-call cap l x y (λ z. refused (refusal ∙ z)) in
             (ap (λ (z : Call.Found). z .leaf) e, ap (λ (z : Call.Found). z .value) e),
       )
 
@@ -116,7 +116,7 @@ tape-acts-before h t v cap h′ t′ v′ bytes r b ok =
     let e = b .is ∙ tape-ran cap l ok bytes in
     let o : r .offset ≡ run (stateOf l) bytes .offset = ap (λ (x : Call.Taped). x .offset) e in
     let before = ap ranOf (ap (λ (n : ℕ). run (stateOf l) (take n bytes)) o ∙ tape-prefix (stateOf l) bytes) in
-    record { is = ap (λ (x : Call.Taped). record { done = x .done; why = 0; offset = x .offset; lent = x .lent }) e ∙ sym (tape-ran cap l ok (take (r .offset) bytes) ∙ before) }
+    record { is = ap (λ (x : Call.Taped). record { done = x .done; refusal = 0; offset = x .offset; lent = x .lent }) e ∙ sym (tape-ran cap l ok (take (r .offset) bytes) ∙ before) }
 
 -- ---- demand 2: "the checker says yes to exactly the tables that picture a mesh"
 
@@ -159,21 +159,21 @@ pub demand-3 : {h h₀ h′ : Header} {t t₀ t′ : List ℤ} {v v₀ v′ : Li
 demand-3 {h} {t = t} {v = v} cap columns rows mode r ts b ok s =
     let g = asked columns rows mode in
     let l = lentOf h t v in
-    let (is, d) = laws.demand-3 cap l g (ap (λ (x : Call.Built). x .why) (sym (b .is)) ∙ ok) ts in
+    let (is, d) = laws.demand-3 cap l g (ap (λ (x : Call.Built). x .refusal) (sym (b .is)) ∙ ok) ts in
     (served-calls cap s ∙ ap (λ (x : Call.Built). afterCalls cap (x .lent) ts) (b .is) ∙ is, d)
 
 -- "accepted, a build returns the number in use": ghosts plus distinct corner points of the full rectangle, and nothing else
 pub build-counts : {h h′ : Header} {t t′ : List ℤ} {v v′ : List Float} (cap columns rows mode : ℕ) (r : Built) → Builds h t v cap columns rows mode h′ t′ v′ r → r .refusal ≡ 0
     → r .used ≡ total (asked columns rows mode) (full (asked columns rows mode))
 build-counts {h} {t = t} {v = v} cap columns rows mode r b ok =
-    ap (λ (x : Call.Built). x .in-use) (b .is) ∙ laws.build-counts cap (lentOf h t v) (asked columns rows mode) (ap (λ (x : Call.Built). x .why) (sym (b .is)) ∙ ok)
+    ap (λ (x : Call.Built). x .in-use) (b .is) ∙ laws.build-counts cap (lentOf h t v) (asked columns rows mode) (ap (λ (x : Call.Built). x .refusal) (sym (b .is)) ∙ ok)
 
 -- ---- 02, No. 2: "the first leaf found is the answer, 19 if none"
 
 -- on a table that the checker takes: the leaf that the tries find first, and 19 exactly where none of them reaches the area
 pub lookup-finds : (h : Header) (t : List ℤ) (v : List Float) (cap x y : ℕ) (r : Found) → foundOf r ≡ lookupCall cap (lentOf h t v) x y → checkCall cap (lentOf h t v) ≡ 0
-    → let s = stateOf (lentOf h t v) in Valid s × (r .leaf ≡ lookup s x y) × (r .why ≡ cond (any (reaches s x y) tries) 0 19)
+    → let s = stateOf (lentOf h t v) in Valid s × (r .leaf ≡ lookup s x y) × (r .refusal ≡ cond (any (reaches s x y) tries) 0 19)
 unfolding checkCall
 lookup-finds h t v cap x y r e ok =
-    let (valid, leaf, why) = calling.lookup-finds x y cap (lentOf h t v) ok in
-    (valid, ap (λ (z : Call.Found). z .leaf) e ∙ leaf, ap (λ (z : Call.Found). z .why) e ∙ why)
+    let (valid, leaf, refusal) = calling.lookup-finds x y cap (lentOf h t v) ok in
+    (valid, ap (λ (z : Call.Found). z .leaf) e ∙ leaf, ap (λ (z : Call.Found). z .refusal) e ∙ refusal)

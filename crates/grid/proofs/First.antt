@@ -16,22 +16,23 @@ use Rattle.mesh.specs.Refusal.{Check, refusal}
 use Rattle.mesh.specs.State.{blank}
 use Rattle.mesh.specs.Scan.{scanChecks}
 use Rattle.mesh.specs.Lookup.{beyond, lookupChecks}
-use Rattle.mesh.specs.Call.{Lent, picture, stateOf, outside, no1, lentChecks, checkCall, Taped, tapeCall, Wrote, Found, scanCall, lookupCall, pageCall}
-use Rattle.geometry.proofs.Ranges.{within-outside, outside-within}
-use Rattle.geometry.proofs.Base.{Rectangle, fits-range, range-fits, base-range}
+use Rattle.mesh.specs.Call.{Lent, picture, stateOf, outside, no1, lentChecks, checkCall, Taped, tapeCall, Wrote, Found, scanCall, lookupCall, pageCall, Rectangle}
+use Rattle.place_laws.proofs.Ranges.{within-outside, outside-within}
+use Rattle.place_laws.proofs.Base.{fits-range, range-fits, base-range}
 use lib.IntN.{ℤ}
-use Rattle.walk.specs.Plain.{Plain}
-use Rattle.walk.specs.Calls.{Few, rowScanOut, rowLookupOut}
-use Rattle.calling.proofs.Scanned.{scan-call, few-lent, plain-lent}
-use Rattle.calling.proofs.Looked.{lookup-call}
+use Rattle.walk.specs.Walkable.{Walkable}
+use Rattle.scan.specs.ScanRows.{Few, rowScanOut}
+use Rattle.lookup.specs.LookupRows.{rowLookupOut}
+use Rattle.call_laws.proofs.Scanned.{scan-call, few-lent, walkable-lent}
+use Rattle.call_laws.proofs.Looked.{lookup-call}
 use Rattle.mesh.specs.Place.{Grid, isRing, base}
-use Rattle.page.specs.Rows.{leavesFrom, rowOut}
-use Rattle.calling.proofs.Paged.{page-call, page-few}
+use Rattle.page.specs.PageRows.{leavesFrom, rowOut}
+use Rattle.call_laws.proofs.Paged.{page-call, page-few}
 use Rattle.mesh.specs.Page.{pageChecks}
-use Rattle.geometry.proofs.Bools.{bool-ext, neither, yes-is, is-yes}
-use Rattle.numbering.proofs.Checks.{passes, kept}
-use Rattle.laws.proofs.Refusals.{unless-refused, unless-accepted}
-use Rattle.pictures.proofs.Soundness.{sound-test, test-sound}
+use Rattle.place_laws.proofs.Bools.{bool-ext, neither, yes-is, is-yes}
+use Rattle.number_laws.proofs.Checks.{passes, kept}
+use Rattle.demand_laws.proofs.Refusals.{unless-refused, unless-accepted}
+use Rattle.picture_laws.proofs.Soundness.{sound-test, test-sound}
 
 -- the first check alone
 pub lengths : (cap : ℕ) (l : Lent) (cs : List Check) → refusal (no1 cap l ∷ cs) ≡ 0 → (length (l .words) ≡ rowWords * (cap + 1)) × (length (l .values) ≡ cap + 1)
@@ -87,7 +88,7 @@ sound-check cap l s o =
 
 -- a tape that they let through runs on the state that is pictured
 abbrev pub ranOf : Run → Taped
-ranOf r = record { done = r .done; why = r .why; offset = r .offset; lent = picture (r .state) }
+ranOf r = record { done = r .done; refusal = r .refusal; offset = r .offset; lent = picture (r .state) }
 
 pub tape-ran : (cap : ℕ) (l : Lent) → checkCall cap l ≡ 0 → (bytes : List ℕ) → tapeCall cap l bytes ≡ ranOf (run (stateOf l) bytes)
 unfolding checkCall tapeCall
@@ -99,15 +100,15 @@ module _ (cap : ℕ) (l : Lent) (r : ℕ) (is : r ≡ checkCall cap l) (some : r
   unfolding checkCall
   first cs = kept (lentChecks cap l) cs (λ z. some (is ∙ z)) ∙ sym is
 
-  pub scan-first : (n : ℕ) (o : List ℕ) (k : ℕ) (from to : ℤ) (out : List ℕ) → record { why = r; count = 0; out = out } ≡ scanCall cap l n o k from to out
+  pub scan-first : (n : ℕ) (o : List ℕ) (k : ℕ) (from to : ℤ) (out : List ℕ) → record { refusal = r; count = 0; out = out } ≡ scanCall cap l n o k from to out
   unfolding scanCall
   scan-first n o k from to out = sym (rw (first (scanChecks (stateOf l) (length out) n o k from to)) (unless-refused _ _ r some))
 
-  pub lookup-first : (x y : ℕ) → record { why = r; leaf = 0; value = blank } ≡ lookupCall cap l x y
+  pub lookup-first : (x y : ℕ) → record { refusal = r; leaf = 0; value = blank } ≡ lookupCall cap l x y
   unfolding lookupCall
   lookup-first x y = sym (rw (first (lookupChecks (stateOf l) x y)) (unless-refused _ _ r some))
 
-  pub page-first : (out : List ℕ) → record { why = r; count = 0; out = out } ≡ pageCall cap l out
+  pub page-first : (out : List ℕ) → record { refusal = r; count = 0; out = out } ≡ pageCall cap l out
   unfolding pageCall
   page-first out = sym (rw (first (pageChecks (stateOf l) (length out))) (unless-refused _ _ r some))
 
@@ -124,9 +125,9 @@ scan-done cap l n o k {from} {to} {from′} {to′} out d w ok e f g h =
     h ∙ same ∙ sym (scan-call n o k from to out cap l ok)
 
 -- what a scan and a lookup ask of what is lent
-pub lent-plain : (cap : ℕ) (l : Lent) (d : ℕ) → checkCall cap l ≡ 0 → d ≡ base (l .header .grid) → Plain (l .words) cap d
+pub lent-walkable : (cap : ℕ) (l : Lent) (d : ℕ) → checkCall cap l ≡ 0 → d ≡ base (l .header .grid) → Walkable (l .words) cap d
 unfolding checkCall
-lent-plain cap l d ok e = rw e (plain-lent cap l ok)
+lent-walkable cap l d ok e = rw e (walkable-lent cap l ok)
 
 pub lent-few : (cap : ℕ) (l : Lent) (n : ℕ) (o : List ℕ) (k : ℕ) {from to from′ to′ : ℤ} (d : ℕ) → checkCall cap l ≡ 0 → d ≡ base (l .header .grid)
     → from′ ≡ from → to′ ≡ to → Few (l .words) cap d n o k from′ to′
@@ -135,7 +136,7 @@ lent-few cap l n o k {from} {to} {from′} {to′} d ok e f g = rw (e, f, g) (fe
 
 module _ (cap : ℕ) (l : Lent) (x y : ℕ) (ok : checkCall cap l ≡ 0) where
   -- past the last row of a ring
-  pub lookup-beyond : beyond (l .header .grid) y ≡ true → record { why = 19; leaf = 0; value = blank } ≡ lookupCall cap l x y
+  pub lookup-beyond : beyond (l .header .grid) y ≡ true → record { refusal = 19; leaf = 0; value = blank } ≡ lookupCall cap l x y
   unfolding checkCall
   lookup-beyond b = sym (lookup-call x y cap l ok ∙ rw b)
 

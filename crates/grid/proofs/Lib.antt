@@ -1,6 +1,6 @@
 -- What the first checks of a call leave for the rest of it.
 pub mod First
-pub mod Builds
-pub mod Tapes
+pub mod BuildCalls
+pub mod TapeCalls
 pub mod Unique
 pub mod Demands

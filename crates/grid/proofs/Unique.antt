@@ -10,10 +10,10 @@ use Rattle.mesh.specs.State.{Value, blank, measured, carried}
 use Rattle.mesh.specs.Call as Call
 use Rattle.mesh.specs.Headers.{lentOf}
 use Rattle.mesh.specs.declared.header.Header.{Header}
-use Rattle.walk.specs.declared.calls.Found.{Found}
-use Rattle.walk.specs.declared.calls.Reading.{Reading}
-use Rattle.walk.specs.declared.calls.Reading.the-variants.{Measured, Carried, Blank}
-use Rattle.walk.specs.Calls.{valueOfReading, foundOf}
+use Rattle.lookup.specs.declared.Found.{Found}
+use Rattle.lookup.specs.declared.Reading.{Reading}
+use Rattle.lookup.specs.declared.Reading.the-variants.{Measured, Carried, Blank}
+use Rattle.lookup.specs.LookupRows.{valueOfReading, foundOf}
 use Rattle.grid.specs.declared.Wrote.{Wrote}
 use Rattle.grid.specs.declared.Built.{Built}
 use Rattle.grid.specs.declared.Taped.{Taped}
@@ -48,7 +48,7 @@ module _ (h h′ : Header) (t t′ : List ℤ) (v v′ : List Float) where
 pub wrote-unique : (r s : Wrote) (out out′ : List ℕ) {w : Call.Wrote} → wroteOf r out ≡ w → wroteOf s out′ ≡ w → (r ≡ s) × (out ≡ out′)
 wrote-unique r s out out′ a b =
     let e : wroteOf r out ≡ wroteOf s out′ = a ∙ sym b in
-    let x : r ≡ s = λ i. record { refusal = e i .why; count = e i .count } in
+    let x : r ≡ s = λ i. record { refusal = e i .refusal; count = e i .count } in
     (x, λ i. e i .out)
 
 -- ---- lookup
@@ -68,7 +68,7 @@ pub found-unique : (r s : Found) {w : Call.Found} → foundOf r ≡ w → foundO
 found-unique r s a b =
     let e : foundOf r ≡ foundOf s = a ∙ sym b in
     let x : r .reading ≡ s .reading = sym (back (r .reading)) ∙ ap (λ (w : Call.Found). readingOf (w .value)) e ∙ back (s .reading) in
-    λ i. record { why = e i .why; leaf = e i .leaf; reading = x i }
+    λ i. record { refusal = e i .refusal; leaf = e i .leaf; reading = x i }
 
 -- ---- build and tape
 
@@ -76,14 +76,14 @@ module _ {h : Header} {t : List ℤ} {v : List Float} {cap : ℕ} (h₁ h₂ : H
   pub build-unique : {columns rows mode : ℕ} (r s : Built) → Builds h t v cap columns rows mode h₁ t₁ v₁ r → Builds h t v cap columns rows mode h₂ t₂ v₂ s → (r ≡ s) × (h₁ ≡ h₂) × (t₁ ≡ t₂) × (v₁ ≡ v₂)
   build-unique r s a b =
       let e = a .is ∙ sym (b .is) in
-      let x : r ≡ s = λ i. record { refusal = e i .why; used = e i .in-use } in
+      let x : r ≡ s = λ i. record { refusal = e i .refusal; used = e i .in-use } in
       let (a₁, a₂, a₃) = lent-same h₁ h₂ t₁ t₂ v₁ v₂ (λ i. e i .lent) in
       (x, a₁, a₂, a₃)
 
   pub tape-unique : {bytes : List ℕ} (r s : Taped) → Tapes h t v cap bytes h₁ t₁ v₁ r → Tapes h t v cap bytes h₂ t₂ v₂ s → (r ≡ s) × (h₁ ≡ h₂) × (t₁ ≡ t₂) × (v₁ ≡ v₂)
   tape-unique r s a b =
       let e = a .is ∙ sym (b .is) in
-      let x : r ≡ s = λ i. record { done = e i .done; refusal = e i .why; offset = e i .offset } in
+      let x : r ≡ s = λ i. record { done = e i .done; refusal = e i .refusal; offset = e i .offset } in
       let (a₁, a₂, a₃) = lent-same h₁ h₂ t₁ t₂ v₁ v₂ (λ i. e i .lent) in
       (x, a₁, a₂, a₃)
 

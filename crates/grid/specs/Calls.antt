@@ -16,7 +16,7 @@ use Rattle.grid.specs.declared.Taped.{Taped}
 
 -- the answer, and what the output holds
 abbrev pub wroteOf : Wrote → List ℕ → Call.Wrote
-wroteOf r out = record { why = r .refusal; count = r .count; out = out }
+wroteOf r out = record { refusal = r .refusal; count = r .count; out = out }
 
 -- lists lent with any header
 abbrev pub lists : State.Header → List ℤ → List Float → Call.Lent
@@ -25,7 +25,7 @@ lists h t v = record { header = h; words = t; values = v }
 -- ---- build
 
 abbrev pub builtOf : Built → Header → List ℤ → List Float → Call.Built
-builtOf r h t v = record { why = r .refusal; in-use = r .used; lent = lentOf h t v }
+builtOf r h t v = record { refusal = r .refusal; in-use = r .used; lent = lentOf h t v }
 
 -- the grid that it is asked for
 abbrev pub asked : ℕ → ℕ → ℕ → Grid
@@ -38,7 +38,7 @@ pub record Builds (h : Header) (t : List ℤ) (v : List Float) (cap columns rows
 -- ---- tape
 
 abbrev pub tapedOf : Taped → Header → List ℤ → List Float → Call.Taped
-tapedOf r h t v = record { done = r .done; why = r .refusal; offset = r .offset; lent = lentOf h t v }
+tapedOf r h t v = record { done = r .done; refusal = r .refusal; offset = r .offset; lent = lentOf h t v }
 
 -- what a tape may do: the header, the lists, the capacity and the bytes at entry; the header, the lists and the answer at exit
 pub record Tapes (h : Header) (t : List ℤ) (v : List Float) (cap : ℕ) (bytes : List ℕ) (h′ : Header) (t′ : List ℤ) (v′ : List Float) (r : Taped) : Type 0 where

@@ -1,21 +1,18 @@
 // The public calls of the grid library. Every call takes any lists of any length and any header, and refuses by number; none has a `requires`.
 ghost use mathlib.Core.Path.{_≡_};
-ghost use Prim.Native.Nat.{_<_};
 ghost use Rattle.mesh.specs.State as State;
 ghost use Rattle.mesh.specs.Refusal.{refusal};
 ghost use Rattle.mesh.specs.Lookup as Lookup;
 ghost use Rattle.mesh.specs.Call.{checkCall, scanCall, lookupCall, pageCall, buildChecks};
 ghost use Rattle.mesh.specs.Headers.{headerOf, lentOf};
-ghost use Rattle.walk.specs.Calls.{foundOf};
+ghost use Rattle.lookup.specs.LookupRows.{foundOf};
 ghost use Rattle.grid.specs.Calls.{lists, wroteOf, Builds, Tapes};
+use lookup::Found;
+use lookup::Reading;
 use mesh::header::Header;
 use mesh::header::fresh;
 use mesh::header::is_ring;
-use mesh::header::misfit;
 use mesh::header::with_mark;
-use table::words::ROW_WORDS;
-use walk::calls::Found;
-use walk::calls::Reading;
 
 // What a scan or a page answers: a refusal or 0, and how many places of the output it wrote.
 pub struct Wrote {
@@ -38,7 +35,7 @@ pub struct BuildOut {
 pub fn check(header: Header, table: &[i32], values: &[f64], capacity: u32) -> u32
     ensures { λ r. ⌜ r ≡ checkCall capacity (lentOf header (now (table .entry)) (now (values .entry))) ⌝ }
 {
-    sound::checks::check(header, table, values, capacity)
+    checker::checks::check(header, table, values, capacity)
 }
 
 // The numbers of the patches of a kind that a walk from a start meets, on levels from and to.
@@ -61,7 +58,7 @@ pub fn scan(
         return Wrote { refusal, count: 0 };
     }
     let d = mesh::ground_depth(header);
-    let w = walk::calls::scan_out(
+    let w = scan::scan_out(
         table,
         capacity as usize,
         d,
@@ -73,7 +70,7 @@ pub fn scan(
         out,
     );
     Wrote {
-        refusal: w.why,
+        refusal: w.refusal,
         count: w.count,
     }
 }
@@ -92,20 +89,20 @@ pub fn lookup(header: Header, table: &[i32], values: &[f64], capacity: u32, x: u
     let refusal = check(header, table, values, capacity);
     if refusal != 0 {
         return Found {
-            why: refusal,
+            refusal: refusal,
             leaf: 0,
             reading: Reading::Blank,
         };
     }
     if beyond(header, y) {
         return Found {
-            why: 19,
+            refusal: 19,
             leaf: 0,
             reading: Reading::Blank,
         };
     }
     let d = mesh::ground_depth(header);
-    walk::calls::lookup_out(table, values, capacity as usize, d, x, y)
+    lookup::lookup_out(table, values, capacity as usize, d, x, y)
 }
 
 // The dossier page.
@@ -119,7 +116,7 @@ pub fn page(header: Header, table: &[i32], values: &[f64], capacity: u32, out: &
     let d = mesh::ground_depth(header);
     let p = page::pages::write_page(header, table, values, capacity as usize, d, out);
     Wrote {
-        refusal: p.why,
+        refusal: p.refusal,
         count: p.count,
     }
 }
@@ -128,22 +125,11 @@ pub fn page(header: Header, table: &[i32], values: &[f64], capacity: u32, out: &
 fn build_refusal(table: &[i32], values: &[f64], capacity: u32, header: Header) -> u32
     ensures { λ r. ⌜ ((h : State.Header) → r ≡ refusal (buildChecks capacity (lists h (now (table .entry)) (now (values .entry))) (headerOf header .grid))) ⌝ }
 {
-    if capacity < 5 {
-        return 1;
-    }
-    if 4095 < capacity {
-        return 1;
+    let early = checker::lent::first_refusal(header, table, values, capacity);
+    if early != 0 {
+        return early;
     }
     let cap = capacity as usize;
-    if table.len() != ROW_WORDS * (cap + 1) {
-        return 1;
-    }
-    if values.len() != cap + 1 {
-        return 1;
-    }
-    if misfit(header) {
-        return 2;
-    }
     let d = mesh::ground_depth(header);
     if cap < build::count::patches_in(header, d) {
         return 11;
@@ -200,13 +186,13 @@ pub fn tape_core(
 ) -> TapeOut
     ensures { λ r. ⌜ Tapes header (now (table .entry)) (now (values .entry)) capacity (now (tape .entry)) (r .header) (now (table .exit)) (now (values .exit)) (r .answer) ⌝ }
 {
-    let c = sound::checks::check_first(header, table, values, capacity);
-    if c.why != 0 {
+    let c = checker::checks::check_first(header, table, values, capacity);
+    if c.refusal != 0 {
         return TapeOut {
             header,
             answer: Taped {
                 done: 0,
-                refusal: c.why,
+                refusal: c.refusal,
                 offset: 0,
             },
         };
@@ -226,7 +212,7 @@ pub fn tape_core(
         header: left,
         answer: Taped {
             done: r.done,
-            refusal: r.why,
+            refusal: r.refusal,
             offset: r.offset,
         },
     }

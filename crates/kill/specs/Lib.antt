@@ -1,2 +1,2 @@
 -- The border of the cell that is killed.
-pub mod Edges
+pub mod Borders

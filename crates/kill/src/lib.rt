@@ -1,5 +1,6 @@
 // What an accepted kill does to a lent table and its values.
 ghost use mathlib.Core.Path.{_≡_};
+ghost use mathlib.Core.Bool.{false};
 ghost use Prim.Native.Nat.{_+_, _*_, _<_, _≤_};
 ghost use lib.Dec.{T};
 ghost use lib.ListN.{length, getD};
@@ -7,18 +8,28 @@ ghost use Rattle.mesh.specs.Tools.{all};
 ghost use Rattle.mesh.specs.Picture.{rowWords};
 ghost use Rattle.table.specs.Words.{linkOf};
 ghost use Rattle.table.specs.Plain.{Plain};
-ghost use Rattle.editing.specs.Steps.{takeOut};
-ghost use Rattle.editing.specs.Tables.{Lowers, kidless, dropUp, dropCorner, refreshDown, refreshLevel, refreshLevels, stillUsed, killTable, killValues};
-ghost use Rattle.kill.specs.Edges.{ofRow, Within, borderOf, stillBorder, cleared};
-use steps::anew::refresh_unless_nil;
-use steps::links::take_out;
-use steps::links::touched_row;
-use stock::find::lesser;
+ghost use Rattle.table.specs.Worked.{kidless};
+ghost use Rattle.edit_laws.specs.Steps.{takeOut};
+ghost use Rattle.edit_laws.specs.Tables.{Lowers, dropUp, dropCorner, eachDown, alongCorners, refreshLevel, refreshLevels, stillUsed, killTable, killValues};
+ghost use Rattle.kill.specs.Borders.{isLink, passRow, bareDown, BareCorners, BareBorder, Within, borderOf, stillBorder, cleared};
+use free::next::lesser;
+use patch::anew::point_row;
+use patch::anew::wall_row;
+use patch::links::take_out;
+use patch::links::touched_row;
+use table::flag_bits::FREE;
 use table::plain::link;
+use table::words::EAST;
+use table::words::FLAGS;
 use table::words::NE_KID;
+use table::words::NORTH;
 use table::words::NW_KID;
+use table::words::PARENT;
 use table::words::SE_KID;
+use table::words::SOUTH;
+use table::words::STATUS;
 use table::words::SW_KID;
+use table::words::WEST;
 use table::words::word;
 use table::writes::put;
 use table::writes::put_value;
@@ -34,7 +45,7 @@ const NW: u8 = NW_KID as u8;
 
 // Whether the row n has no kid.
 fn kidless(t: &[i32], cap: usize, n: usize) -> bool
-    requires { ⌜ (cap * rowWords + rowWords ≤ length (now t)) × (cap ≤ 4095) × (n ≤ cap) × Plain (now t) cap ⌝ }
+    requires { ⌜ Plain (now t) cap × (n ≤ cap) ⌝ }
     ensures { λ r. ⌜ r ≡ kidless (now (t .entry)) cap n ⌝ }
 {
     let a = link(t, cap, n, NE_KID);
@@ -46,7 +57,7 @@ fn kidless(t: &[i32], cap: usize, n: usize) -> bool
 
 // The row k, which has no kids, is free; the least number that is freed, with it.
 fn free_row(t: &mut [i32], cap: usize, k: usize, low: usize) -> usize
-    requires { ⌜ (cap * rowWords + rowWords ≤ length (now t)) × (cap ≤ 4095) × (1 ≤ k) × (k ≤ cap) × Plain (now t) cap ⌝ }
+    requires { ⌜ Plain (now t) cap × (1 ≤ k) × (k ≤ cap) ⌝ }
     ensures { λ r. ⌜ (now (t .exit) ≡ takeOut (now (t .entry)) cap k) × Lowers (now (t .entry)) (now (t .exit)) low r × Plain (now (t .exit)) cap ⌝ }
 {
     take_out(t, cap, k);
@@ -55,7 +66,7 @@ fn free_row(t: &mut [i32], cap: usize, k: usize, low: usize) -> usize
 
 // A ghost without a kid goes, and then its parent if that has none left, up to so many levels.
 fn drop_up(t: &mut [i32], cap: usize, levels: u32, n: usize, low: usize) -> usize
-    requires { ⌜ (cap * rowWords + rowWords ≤ length (now t)) × (cap ≤ 4095) × (n ≤ cap) × Plain (now t) cap ⌝ }
+    requires { ⌜ Plain (now t) cap × (n ≤ cap) ⌝ }
     ensures { λ r. ⌜ (now (t .exit) ≡ dropUp levels (now (t .entry)) cap n) × Lowers (now (t .entry)) (now (t .exit)) low r × Plain (now (t .exit)) cap ⌝ }
 {
     let mut e = levels;
@@ -68,7 +79,7 @@ fn drop_up(t: &mut [i32], cap: usize, levels: u32, n: usize, low: usize) -> usiz
         if !kidless(t, cap, k) {
             return least;
         }
-        let p = link(t, cap, k, 0);
+        let p = link(t, cap, k, PARENT);
         least = free_row(t, cap, k, least);
         k = p;
         e -= 1;
@@ -78,7 +89,7 @@ fn drop_up(t: &mut [i32], cap: usize, levels: u32, n: usize, low: usize) -> usiz
 
 // A corner of the killed cell that no cell touches goes, and the ghosts above it that have no kid left.
 fn drop_corner(t: &mut [i32], cap: usize, d: u32, n: usize, low: usize) -> usize
-    requires { ⌜ (cap * rowWords + rowWords ≤ length (now t)) × (cap ≤ 4095) × (n ≤ cap) × Plain (now t) cap ⌝ }
+    requires { ⌜ Plain (now t) cap × (n ≤ cap) ⌝ }
     ensures { λ r. ⌜ (now (t .exit) ≡ dropCorner (now (t .entry)) cap d n) × Lowers (now (t .entry)) (now (t .exit)) low r × Plain (now (t .exit)) cap ⌝ }
 {
     if n == 0 {
@@ -87,38 +98,53 @@ fn drop_corner(t: &mut [i32], cap: usize, d: u32, n: usize, low: usize) -> usize
     if touched_row(t, cap, d, n) {
         return low;
     }
-    let p = link(t, cap, n, 0);
+    let p = link(t, cap, n, PARENT);
     let a = free_row(t, cap, n, low);
     drop_up(t, cap, d, p, a)
 }
 
+// The row n with its walls anew, or with its points and its cell.
+fn pass_row(t: &mut [i32], cap: usize, d: u32, walls: bool, n: usize)
+    requires { ⌜ Plain (now t) cap × (n ≤ cap) × (d ≤ 32) ⌝ }
+    ensures { λ _. ⌜ (now (t .exit) ≡ passRow walls cap d (now (t .entry)) n) × Plain (now (t .exit)) cap ⌝ }
+{
+    if walls {
+        wall_row(t, cap, d, n);
+        return;
+    }
+    point_row(t, cap, n);
+}
+
 // The row that the word at place q of ws names.
 fn kid_at(t: &[i32], cap: usize, n: usize, ws: &[u8], q: usize) -> usize
-    requires { ⌜ (cap * rowWords + rowWords ≤ length (now t)) × (cap ≤ 4095) × (n ≤ cap) × T (all ofRow (now ws)) × (q < length (now ws)) ⌝ }
+    requires { ⌜ Plain (now t) cap × (n ≤ cap) × T (all isLink (now ws)) × (q < length (now ws)) ⌝ }
     ensures { λ r. ⌜ (r ≤ cap) × (r ≡ linkOf (now (t .entry)) cap n (getD (now (ws .entry)) q 0)) ⌝ }
 {
     let w = ws[q] as usize;
-    table::words::link(t, cap, n, w)
+    link(t, cap, n, w)
 }
 
-// The rows so many levels down from n, by kids that the words of ws name, with their flags anew.
-fn refresh_down(t: &mut [i32], cap: usize, d: u32, ws: &[u8], e: u32, n: usize)
-    requires { ⌜ (cap * rowWords + rowWords ≤ length (now t)) × (cap ≤ 4095) × (n ≤ cap) × (d ≤ 32) × T (all ofRow (now ws)) ⌝ }
-    ensures { λ _. ⌜ now (t .exit) ≡ refreshDown (now (ws .entry)) e (now (t .entry)) cap d n ⌝ }
+// A pass through the rows so many levels down from n, by kids that the words of ws name; whether there is one.
+fn pass_down(t: &mut [i32], cap: usize, d: u32, walls: bool, ws: &[u8], e: u32, n: usize) -> bool
+    requires { ⌜ Plain (now t) cap × (n ≤ cap) × (d ≤ 32) × T (all isLink (now ws)) ⌝ }
+    ensures { λ r. ⌜ (now (t .exit) ≡ eachDown (passRow walls cap d) cap (now (ws .entry)) e (now (t .entry)) n) × Plain (now (t .exit)) cap × (r ≡ false → T (bareDown (now (t .entry)) cap (now (ws .entry)) e n)) ⌝ }
 {
-    if e == 0 {
-        refresh_unless_nil(t, cap, d, n);
-        return;
-    }
     if n == 0 {
-        return;
+        return false;
     }
+    if e == 0 {
+        pass_row(t, cap, d, walls, n);
+        return true;
+    }
+    let mut met = false;
     let mut q = 0;
     while q < ws.len() {
         let k = kid_at(t, cap, n, ws, q);
-        refresh_down(t, cap, d, ws, e - 1, k);
+        let one = pass_down(t, cap, d, walls, ws, e - 1, k);
+        met = one | met;
         q += 1;
     }
+    met
 }
 
 // The rows on and beside the border of a level-0 cell: its own, and those north, east, north-east, south and west of it.
@@ -131,33 +157,46 @@ pub struct Border {
     pub west: usize,
 }
 
-// On one level, the rows that lie along the border.
-fn refresh_level(t: &mut [i32], cap: usize, d: u32, b: Border, e: u32)
-    requires { ⌜ (cap * rowWords + rowWords ≤ length (now t)) × (cap ≤ 4095) × (d ≤ 32) × Within cap b ⌝ }
-    ensures { λ _. ⌜ now (t .exit) ≡ refreshLevel (borderOf b) e (now (t .entry)) cap d ⌝ }
+// On one level, a pass through the rows along the border whose walls the cell can be a side of; whether there is one.
+fn pass_corners(t: &mut [i32], cap: usize, d: u32, walls: bool, b: Border, e: u32) -> bool
+    requires { ⌜ Plain (now t) cap × (d ≤ 32) × Within cap b ⌝ }
+    ensures { λ r. ⌜ (now (t .exit) ≡ alongCorners (passRow walls cap d) cap (borderOf b) e (now (t .entry))) × Plain (now (t .exit)) cap × (r ≡ false → BareCorners (now (t .entry)) cap (borderOf b) e) ⌝ }
 {
-    let own = [SW, SE, NW, NE];
-    refresh_down(t, cap, d, &own, e, b.own);
-    let north = [SW, SE];
-    refresh_down(t, cap, d, &north, e, b.north);
-    let east = [SW, NW];
-    refresh_down(t, cap, d, &east, e, b.east);
-    let both = [SW];
-    refresh_down(t, cap, d, &both, e, b.both);
-    let south = [NW, NE];
-    refresh_down(t, cap, d, &south, e, b.south);
-    let west = [SE, NE];
-    refresh_down(t, cap, d, &west, e, b.west);
+    let all = [SW, SE, NW, NE];
+    let own = pass_down(t, cap, d, walls, &all, e, b.own);
+    let southern = [SW, SE];
+    let north = pass_down(t, cap, d, walls, &southern, e, b.north);
+    let western = [SW, NW];
+    let east = pass_down(t, cap, d, walls, &western, e, b.east);
+    let inmost = [SW];
+    let both = pass_down(t, cap, d, walls, &inmost, e, b.both);
+    own | (north | (east | both))
 }
 
-// Level by level from level 0, so that the walls of the level below are right.
+// On one level, walls first, and then points and cells, those beside to the south and to the west too; whether there is a row.
+fn refresh_level(t: &mut [i32], cap: usize, d: u32, b: Border, e: u32) -> bool
+    requires { ⌜ Plain (now t) cap × (d ≤ 32) × Within cap b ⌝ }
+    ensures { λ r. ⌜ (now (t .exit) ≡ refreshLevel (borderOf b) e (now (t .entry)) cap d) × Plain (now (t .exit)) cap × (r ≡ false → BareBorder (now (t .exit)) cap (borderOf b) e) ⌝ }
+{
+    pass_corners(t, cap, d, true, b, e);
+    let corners = pass_corners(t, cap, d, false, b, e);
+    let northern = [NW, NE];
+    let south = pass_down(t, cap, d, false, &northern, e, b.south);
+    let eastern = [SE, NE];
+    let west = pass_down(t, cap, d, false, &eastern, e, b.west);
+    corners | (south | west)
+}
+
+// Level by level from level 0, so that the walls of the level below are right. Above a level without a row there is none.
 fn refresh_levels(t: &mut [i32], cap: usize, d: u32, b: Border)
-    requires { ⌜ (cap * rowWords + rowWords ≤ length (now t)) × (cap ≤ 4095) × (d ≤ 32) × Within cap b ⌝ }
+    requires { ⌜ Plain (now t) cap × (d ≤ 32) × Within cap b ⌝ }
     ensures { λ _. ⌜ now (t .exit) ≡ refreshLevels 13 (borderOf b) 0 (now (t .entry)) cap d ⌝ }
 {
     let mut e = 0;
     while e < 13 {
-        refresh_level(t, cap, d, b, e);
+        if !refresh_level(t, cap, d, b, e) {
+            return;
+        }
         e += 1;
     }
 }
@@ -167,7 +206,7 @@ fn still_used(t: &[i32], n: usize) -> usize
     requires { ⌜ n * rowWords + rowWords ≤ length (now t) ⌝ }
     ensures { λ r. ⌜ (r ≤ n) × (r ≡ stillUsed (now (t .entry)) n) ⌝ }
 {
-    if word(t, n, 12) == 8192 { 0 } else { n }
+    if word(t, n, FLAGS) == FREE { 0 } else { n }
 }
 
 // The border of the cell n, without the rows that are free.
@@ -181,7 +220,7 @@ fn still_border(
     south: usize,
     west: usize,
 ) -> Border
-    requires { ⌜ (cap * rowWords + rowWords ≤ length (now t)) × (cap ≤ 4095) × (n ≤ cap) × (north ≤ cap) × (east ≤ cap) × (both ≤ cap) × (south ≤ cap) × (west ≤ cap) ⌝ }
+    requires { ⌜ Plain (now t) cap × (n ≤ cap) × (north ≤ cap) × (east ≤ cap) × (both ≤ cap) × (south ≤ cap) × (west ≤ cap) ⌝ }
     ensures { λ r. ⌜ Within cap r × (borderOf r ≡ stillBorder (now (t .entry)) n north east both south west) ⌝ }
 {
     Border {
@@ -205,11 +244,11 @@ fn clear_cell(
     both: usize,
     low: usize,
 ) -> usize
-    requires { ⌜ (cap * rowWords + rowWords ≤ length (now t)) × (cap ≤ 4095) × (n ≤ cap) × (north ≤ cap) × (east ≤ cap) × (both ≤ cap) × Plain (now t) cap ⌝ }
-    ensures { λ r. ⌜ (now (t .exit) ≡ cleared (now (t .entry)) cap d n north east both) × Lowers (now (t .entry)) (now (t .exit)) low r ⌝ }
+    requires { ⌜ Plain (now t) cap × (n ≤ cap) × (north ≤ cap) × (east ≤ cap) × (both ≤ cap) ⌝ }
+    ensures { λ r. ⌜ (now (t .exit) ≡ cleared (now (t .entry)) cap d n north east both) × Lowers (now (t .entry)) (now (t .exit)) low r × Plain (now (t .exit)) cap ⌝ }
 {
-    put(t, n, 12, 0);
-    put(t, n, 13, 0);
+    put(t, n, FLAGS, 0);
+    put(t, n, STATUS, 0);
     let a = drop_corner(t, cap, d, both, low);
     let b = drop_corner(t, cap, d, north, a);
     let c = drop_corner(t, cap, d, east, b);
@@ -218,14 +257,14 @@ fn clear_cell(
 
 // Kills the cell n; the bound below which no number is free, after it.
 pub fn kill_table(t: &mut [i32], cap: usize, d: u32, n: usize, low: usize) -> usize
-    requires { ⌜ (cap * rowWords + rowWords ≤ length (now t)) × (cap ≤ 4095) × (n ≤ cap) × (d ≤ 32) × Plain (now t) cap ⌝ }
+    requires { ⌜ Plain (now t) cap × (n ≤ cap) × (d ≤ 32) ⌝ }
     ensures { λ r. ⌜ (now (t .exit) ≡ killTable (now (t .entry)) cap d n) × Lowers (now (t .entry)) (now (t .exit)) low r ⌝ }
 {
-    let north = link(t, cap, n, 5);
-    let east = link(t, cap, n, 6);
-    let both = link(t, cap, east, 5);
-    let south = link(t, cap, n, 7);
-    let west = link(t, cap, n, 8);
+    let north = link(t, cap, n, NORTH);
+    let east = link(t, cap, n, EAST);
+    let both = link(t, cap, east, NORTH);
+    let south = link(t, cap, n, SOUTH);
+    let west = link(t, cap, n, WEST);
     let next = clear_cell(t, cap, d, n, north, east, both, low);
     let b = still_border(t, cap, n, north, east, both, south, west);
     refresh_levels(t, cap, d, b);
@@ -242,7 +281,7 @@ pub fn kill_values(v: &mut [f64], n: usize)
 
 // Kills the cell n, its value too.
 pub fn kill(t: &mut [i32], v: &mut [f64], cap: usize, d: u32, n: usize, low: usize) -> usize
-    requires { ⌜ (cap * rowWords + rowWords ≤ length (now t)) × (cap ≤ 4095) × (cap < length (now v)) × (n ≤ cap) × (d ≤ 32) × Plain (now t) cap ⌝ }
+    requires { ⌜ Plain (now t) cap × (cap < length (now v)) × (n ≤ cap) × (d ≤ 32) ⌝ }
     ensures { λ r. ⌜ (now (t .exit) ≡ killTable (now (t .entry)) cap d n) × (now (v .exit) ≡ killValues n (now (v .entry))) × Lowers (now (t .entry)) (now (t .exit)) low r ⌝ }
 {
     let next = kill_table(t, cap, d, n, low);

@@ -52,9 +52,9 @@ changed e =
 
 module _ (f : ℕ → Lent → List ℕ → Taped) (meets : (cap : ℕ) (l : Lent) (bytes : List ℕ) → f cap l bytes ≡ tapeCall cap l bytes) where
   -- "one that refuses everything"
-  pub refuses-everything : ((cap : ℕ) (l : Lent) (bytes : List ℕ) → f cap l bytes .why ≢ 0) → ⊥
+  pub refuses-everything : ((cap : ℕ) (l : Lent) (bytes : List ℕ) → f cap l bytes .refusal ≢ 0) → ⊥
   refuses-everything idle =
-      idle 14 (build 1 1 14 .lent) refine2 (ap (λ (r : Taped). r .why) (meets 14 (build 1 1 14 .lent) refine2) ∙ ap (λ (o : ℕ × ℕ × ℕ). o .1) refined)
+      idle 14 (build 1 1 14 .lent) refine2 (ap (λ (r : Taped). r .refusal) (meets 14 (build 1 1 14 .lent) refine2) ∙ ap (λ (o : ℕ × ℕ × ℕ). o .1) refined)
 
   -- "one that gives the same answer each time"
   pub gives-one-answer : ((cap cap′ : ℕ) (l l′ : Lent) (bytes bytes′ : List ℕ) → f cap l bytes .done ≡ f cap′ l′ bytes′ .done) → ⊥

@@ -4,3 +4,4 @@ pub mod Idle
 pub mod Winds
 pub mod Depth
 pub mod Runs
+pub mod Tries

@@ -7,7 +7,7 @@ use Rattle.mesh.specs.State.{State}
 use Rattle.mesh.specs.Tape.{kind, stop, next, stepBy, runFrom}
 
 module _ (s : State) (n o : ℕ) where
-  pub run-end : (l : ℕ) → runFrom l s n o [] ≡ record { state = s; done = n; why = 0; offset = o }
+  pub run-end : (l : ℕ) → runFrom l s n o [] ≡ record { state = s; done = n; refusal = 0; offset = o }
   unfolding runFrom
   run-end l = refl
 
@@ -15,7 +15,7 @@ module _ (s : State) (n o : ℕ) where
   unfolding runFrom
   run-over l b bs = refl
 
-  pub run-stop : (k r : ℕ) (bs : List ℕ) → stepBy s (kind k) bs ≡ stop r → runFrom 0 s n o (k ∷ bs) ≡ record { state = s; done = n; why = r; offset = o }
+  pub run-stop : (k r : ℕ) (bs : List ℕ) → stepBy s (kind k) bs ≡ stop r → runFrom 0 s n o (k ∷ bs) ≡ record { state = s; done = n; refusal = r; offset = o }
   unfolding runFrom
   run-stop k r bs e = rw (runFrom, e)
 

@@ -7,7 +7,7 @@ use mathlib.Core.Path.{_≡_, refl, ap, _∙_}
 use lib.Dec.{lit<}
 use lib.ListN.{getD}
 use Rattle.mesh.specs.Place.{Wind, NE, SE, SW, NW, N, E, S, W, compass}
-use Rattle.mesh.specs.Winds.{winds, position, compassAt, digitsOf, kidCol, kidRow, KidWind}
+use Rattle.mesh.specs.Winds.{winds, position, compassAt, digitsOf, kidL, kidM, KidWind}
 use Rattle.mesh.specs.declared.Compass.{Compass}
 use Rattle.mesh.specs.declared.Digits.{Digits}
 
@@ -39,11 +39,11 @@ each-kid P a b c d (suc (suc (suc zero))) h = d
 each-kid P a b c d (suc (suc (suc (suc i)))) h = absurd (omega arith)
 
 -- the offsets of one of them halved
-pub kid-halves : (j : ℕ) {i : ℕ} {c : Compass} {r : Digits} → i ≡ j → j < 4 → c ≡ compassAt j → r ≡ digitsOf c → (r .col < 2) × (r .row < 2) × KidWind (r .col) (r .row) i
+pub kid-halves : (j : ℕ) {i : ℕ} {c : Compass} {r : Digits} → i ≡ j → j < 4 → c ≡ compassAt j → r ≡ digitsOf c → (r .l < 2) × (r .m < 2) × KidWind (r .l) (r .m) i
 kid-halves j {i} {c} {r} e h a b =
-    let col : r .col ≡ kidCol j = ap (λ x. x .col) b ∙ ap (λ x. x .east / 2) a in
-    let row : r .row ≡ kidRow j = ap (λ x. x .row) b ∙ ap (λ x. x .north / 2) a in
-    rw (e, col, row) (small .0, small .1, record { is-kid = h; col = refl; row = refl })
+    let l-is : r .l ≡ kidL j = ap (λ x. x .l) b ∙ ap (λ x. x .east / 2) a in
+    let m-is : r .m ≡ kidM j = ap (λ x. x .m) b ∙ ap (λ x. x .north / 2) a in
+    rw (e, l-is, m-is) (small .0, small .1, record { is-kid = h; l-is = refl; m-is = refl })
   where
-    small : (kidCol j < 2) × (kidRow j < 2)
-    small = each-kid (λ i. (kidCol i < 2) × (kidRow i < 2)) (lit< tt, lit< tt) (lit< tt, lit< tt) (lit< tt, lit< tt) (lit< tt, lit< tt) j h
+    small : (kidL j < 2) × (kidM j < 2)
+    small = each-kid (λ i. (kidL i < 2) × (kidM i < 2)) (lit< tt, lit< tt) (lit< tt, lit< tt) (lit< tt, lit< tt) (lit< tt, lit< tt) j h

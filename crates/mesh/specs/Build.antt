@@ -13,7 +13,7 @@ use Rattle.mesh.specs.State.{State, nil, free, used, Cell, blank}
 
 -- every level-0 cell of the rectangle
 unfoldable pub full : Grid → Place → Bool
-full g p = eqb (p .depth) (base g) && (ltb (p .col) (g .columns) && ltb (p .row) (g .rows))
+full g p = eqb (p .depth) (base g) && (ltb (p .i) (g .columns) && ltb (p .j) (g .rows))
 
 -- "within a level by parents in their own order, kids in the order SW, NW, SE, NE"
 unfoldable pub nextLevel : Grid → List Place → List Place

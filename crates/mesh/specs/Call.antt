@@ -1,10 +1,10 @@
 -- Each public call as one total function: from what is lent at entry to the answer and to what every lent list and the header hold at exit.
 -- "Checks go 1, 2, 3, then the call's own .. a refused call returns count 0 .. and the refused step changes nothing" (01, 'Numbered refusals').
 -- Assumes nothing.
-use Prim.Native.Nat.{ℕ, zero, suc, _+_, _*_}
+use Prim.Native.Nat.{ℕ, zero, suc, _+_, _*_, _≤_}
 use mathlib.Core.Bool.{Bool, not, _&&_, _||_}
 use mathlib.Core.List.{List, [], _∷_, _++_}
-use lib.Dec.{leb, ltb, eqb}
+use lib.Dec.{leb, ltb, eqb, T}
 use lib.ListN.{length, drop}
 use lib.Ieee.{Float}
 use lib.IntN.{ℤ}
@@ -16,7 +16,7 @@ use Rattle.mesh.specs.Test.{sound}
 use Rattle.mesh.specs.Refusal.{Check, _if_, refusal}
 use Rattle.mesh.specs.Build.{numbered, built}
 use Rattle.mesh.specs.Tape.{run}
-use Rattle.mesh.specs.Scan.{scan, scanChecks}
+use Rattle.mesh.specs.Scan.{scan, scanChecks, no18}
 use Rattle.mesh.specs.Lookup.{lookup, lookupChecks}
 use Rattle.mesh.specs.Page.{page, pageChecks}
 
@@ -45,6 +45,10 @@ no1 cap l = 1 if (not (eqb (length (l .words)) (rowWords * (cap + 1))) || (not (
 abbrev pub misfit : Grid → Bool
 misfit g = outside 1 32 (g .columns) || (outside 1 32 (g .rows) || (ltb 1 (g .mode) || (isRing g && ltb (g .rows) 3)))
 
+-- the grids that it does not refuse
+abbrev pub Rectangle : Grid → Type 0
+Rectangle g = (1 ≤ g .columns) × (g .columns ≤ 32) × (1 ≤ g .rows) × (g .rows ≤ 32) × (g .mode ≤ 1) × (T (isRing g) → 3 ≤ g .rows)
+
 abbrev pub no2 : Grid → Check
 no2 g = 2 if misfit g
 
@@ -68,7 +72,7 @@ checkCall cap l = refusal (lentChecks cap l)
 -- ---- build: "build checks 1, 2, 11"
 
 pub record Built : Type 0 where
-  pub why : ℕ
+  pub refusal : ℕ
   pub in-use : ℕ
   pub lent : Lent
 
@@ -78,14 +82,14 @@ buildChecks cap l g = no1 cap l ∷ no2 g ∷ (11 if ltb cap (length (numbered g
 unfoldable pub buildCall : ℕ → Lent → Grid → Built
 buildCall cap l g =
     unless (refusal (buildChecks cap l g))
-    (λ n. record { why = n; in-use = 0; lent = l })
-    (record { why = 0; in-use = inUse (built g cap .entries); lent = picture (built g cap) })
+    (λ n. record { refusal = n; in-use = 0; lent = l })
+    (record { refusal = 0; in-use = inUse (built g cap .entries); lent = picture (built g cap) })
 
 -- ---- tape: "a tape: those done; for 1 to 3 count and offset 0"
 
 pub record Taped : Type 0 where
   pub done : ℕ
-  pub why : ℕ
+  pub refusal : ℕ
   pub offset : ℕ
   pub lent : Lent
 
@@ -93,13 +97,13 @@ unfoldable pub tapeCall : ℕ → Lent → List ℕ → Taped
 tapeCall cap l bytes =
     let r = run (stateOf l) bytes in
     unless (refusal (lentChecks cap l))
-    (λ n. record { done = 0; why = n; offset = 0; lent = l })
-    (record { done = r .done; why = r .why; offset = r .offset; lent = picture (r .state) })
+    (λ n. record { done = 0; refusal = n; offset = 0; lent = l })
+    (record { done = r .done; refusal = r .refusal; offset = r .offset; lent = picture (r .state) })
 
 -- ---- scan and page: "places past the count stay"
 
 pub record Wrote : Type 0 where
-  pub why : ℕ
+  pub refusal : ℕ
   pub count : ℕ
   pub out : List ℕ
 
@@ -108,7 +112,11 @@ over xs out = xs ++ drop (length xs) out
 
 -- what is to be written, if no check refuses it
 abbrev pub wrote : ℕ → List ℕ → List ℕ → Wrote
-wrote r xs out = unless r (λ n. record { why = n; count = 0; out = out }) (record { why = 0; count = length xs; out = over xs out })
+wrote r xs out = unless r (λ n. record { refusal = n; count = 0; out = out }) (record { refusal = 0; count = length xs; out = over xs out })
+
+-- bytes to be written: refused 18 if the output is too short for them, else in its first places
+abbrev pub writing : List ℕ → List ℕ → Wrote
+writing xs out = wrote (refusal (no18 (length out) xs ∷ [])) xs out
 
 unfoldable pub scanCall : ℕ → Lent → ℕ → List ℕ → ℕ → ℤ → ℤ → List ℕ → Wrote
 scanCall cap l n o k from to out =
@@ -123,7 +131,7 @@ pageCall cap l out =
 -- ---- lookup: "the answer is the leaf's number and is a measured value, a carried value, or blank"; refused, "number 0 and blank"
 
 pub record Found : Type 0 where
-  pub why : ℕ
+  pub refusal : ℕ
   pub leaf : ℕ
   pub value : Value
 
@@ -131,5 +139,5 @@ unfoldable pub lookupCall : ℕ → Lent → ℕ → ℕ → Found
 lookupCall cap l u v =
     let s = stateOf l in
     unless (refusal (lentChecks cap l ++ lookupChecks s u v))
-    (λ n. record { why = n; leaf = 0; value = blank })
-    (record { why = 0; leaf = lookup s u v; value = valueOf (entry (s .entries) (lookup s u v)) })
+    (λ n. record { refusal = n; leaf = 0; value = blank })
+    (record { refusal = 0; leaf = lookup s u v; value = valueOf (entry (s .entries) (lookup s u v)) })

@@ -9,8 +9,9 @@ use lib.ListN.{getD, take, drop}
 use lib.Ieee.{Float}
 use lib.IntN.{ℤ, pos, _+ℤ_, natAbs}
 use Rattle.mesh.specs.Place.{Place, Grid, at, base}
+use Rattle.mesh.specs.Mesh.{completeBit, sentencedBit, deadBit, flagCount}
 use Rattle.mesh.specs.State.{State, Header, Entry, nil, free, used, Cell, Value, blank, measured, carried}
-use Rattle.mesh.specs.Picture.{rowWords}
+use Rattle.mesh.specs.Picture.{rowWords, levelWord, iWord, jWord, flagsWord, statusWord}
 
 -- the k lowest binary digits, lowest first
 abbrev pub digitsOf : ℕ → ℕ → List Bool
@@ -26,10 +27,10 @@ abbrev pub word : List ℤ → ℕ → ℤ
 word row w = getD row w (pos 0)
 
 abbrev pub flag : List ℤ → ℕ → Bool
-flag row b = getD (digitsOf 14 (natAbs (word row 12))) b false
+flag row b = getD (digitsOf flagCount (natAbs (word row flagsWord))) b false
 
 abbrev pub placeFrom : Grid → List ℤ → Place
-placeFrom g row = at (natAbs (word row 9 +ℤ pos (base g))) (natAbs (word row 10)) (natAbs (word row 11))
+placeFrom g row = at (natAbs (word row levelWord +ℤ pos (base g))) (natAbs (word row iWord)) (natAbs (word row jWord))
 
 -- by Dead and Complete
 abbrev pub entryBy : Bool → Bool → Place → Cell → Entry
@@ -39,7 +40,7 @@ entryBy false false p x = used p none
 
 abbrev pub entryFrom : Grid → List ℤ → Float → Entry
 entryFrom g row x =
-    entryBy (flag row 13) (flag row 0) (placeFrom g row) (record { sentenced = flag row 12; value = valueFrom (natAbs (word row 13)) x })
+    entryBy (flag row deadBit) (flag row completeBit) (placeFrom g row) (record { sentenced = flag row sentencedBit; value = valueFrom (natAbs (word row statusWord)) x })
 
 abbrev pub entriesFrom : Grid → List ℤ → List Float → List Entry
 entriesFrom g t [] = []

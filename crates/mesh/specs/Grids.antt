@@ -71,11 +71,11 @@ cellsAmong l ns = keep (λ n. eqb (wordAt l 12 n % 2) 1) ns
 
 -- requests done, refusal, offset
 abbrev pub outcome : Taped → ℕ × ℕ × ℕ
-outcome r = (r .done, r .why, r .offset)
+outcome r = (r .done, r .refusal, r .offset)
 
 -- the leaf's number, refusal
 abbrev lookup : ℕ → Lent → ℕ → ℕ → ℕ × ℕ
-lookup cap l u v = let f = lookupCall cap l u v in (f .leaf, f .why)
+lookup cap l u v = let f = lookupCall cap l u v in (f .leaf, f .refusal)
 
 -- one claim: what the rules give, and what 01 says that it is
 pub record Claim : Type 1 where
@@ -173,7 +173,7 @@ grids =
     48 ∷ 48 ∷ 48 ∷ 48 ∷ 48 ∷ 48 ∷ 48 ∷ 48 ∷ 48 ∷ 48 ∷ 48 ∷ 48 ∷ 48 ∷ 48 ∷ 48 ∷ 48 ∷ 10 ∷
     99 ∷ 101 ∷ 108 ∷ 108 ∷ 115 ∷ 32 ∷ 49 ∷ 32 ∷ 115 ∷ 117 ∷ 109 ∷ 32 ∷ 50 ∷ 50 ∷ 55 ∷ 56 ∷ 10 ∷ [])) ∷
     -- 'Slips that look right': a scan from level 0 to 0 lists the inner patch at from-level; columns come before rows
-    (scanCall 14 (tape 1 1 14 refine2 .lent) 1 (3 ∷ 4 ∷ 2 ∷ 1 ∷ []) 2 (pos 0) (pos 0) (7 ∷ 7 ∷ []) is record { why = 0; count = 1; out = 2 ∷ 7 ∷ [] }) ∷
+    (scanCall 14 (tape 1 1 14 refine2 .lent) 1 (3 ∷ 4 ∷ 2 ∷ 1 ∷ []) 2 (pos 0) (pos 0) (7 ∷ 7 ∷ []) is record { refusal = 0; count = 1; out = 2 ∷ 7 ∷ [] }) ∷
     (map (λ n. wordAt (build 2 1 20 .lent) 10 n) (4 ∷ 6 ∷ []) is (0 ∷ 1 ∷ [])) ∷
     -- "touching at a corner only does not count": the middle of 3×3 once the cell at (2,2) is killed
     (flagsAt (tape 3 3 21 (kill 18) .lent) (9 ∷ []) is (7 ∷ [])) ∷
@@ -216,8 +216,8 @@ grids =
     (lookup 12 (ring 1 3 12 .lent) 0 12287 is (8, 0)) ∷
     (lookup 12 (ring 1 3 12 .lent) 0 12288 is (0, 19)) ∷
     -- 2 for a ring of 2 rows and for a mode that is neither
-    (ring 1 2 12 .why is 2) ∷
-    (inMode 2 1 3 12 .why is 2) ∷
+    (ring 1 2 12 .refusal is 2) ∷
+    (inMode 2 1 3 12 .refusal is 2) ∷
     -- the page's first line: map 1 3 0 ring
     (headLine (ring 1 3 12 .lent .header) is (109 ∷ 97 ∷ 112 ∷ 32 ∷ 49 ∷ 32 ∷ 51 ∷ 32 ∷ 48 ∷ 32 ∷ 114 ∷ 105 ∷ 110 ∷ 103 ∷ 10 ∷ [])) ∷
     -- a table that is sound as a ring and not open, and the other way round

@@ -40,6 +40,54 @@ wallOf true true a b = internal
 wallOf true false a b = cond b green boundary
 wallOf false true a b = cond a green boundary
 
+-- "Flags, bit 0 up: Complete, WallH, WallV, BdyPoint, BdyWallH, BdyWallV, BdyCell, GrnPoint, GrnWallH, GrnWallV, GrnCell, Pregnant, Sentenced,
+-- Dead."
+abbrev pub completeBit : ℕ
+completeBit = 0
+
+abbrev pub wallHBit : ℕ
+wallHBit = 1
+
+abbrev pub wallVBit : ℕ
+wallVBit = 2
+
+abbrev pub bdyPointBit : ℕ
+bdyPointBit = 3
+
+abbrev pub bdyWallHBit : ℕ
+bdyWallHBit = 4
+
+abbrev pub bdyWallVBit : ℕ
+bdyWallVBit = 5
+
+abbrev pub bdyCellBit : ℕ
+bdyCellBit = 6
+
+abbrev pub grnPointBit : ℕ
+grnPointBit = 7
+
+abbrev pub grnWallHBit : ℕ
+grnWallHBit = 8
+
+abbrev pub grnWallVBit : ℕ
+grnWallVBit = 9
+
+abbrev pub grnCellBit : ℕ
+grnCellBit = 10
+
+abbrev pub pregnantBit : ℕ
+pregnantBit = 11
+
+abbrev pub sentencedBit : ℕ
+sentencedBit = 12
+
+abbrev pub deadBit : ℕ
+deadBit = 13
+
+-- as many as there are
+abbrev pub flagCount : ℕ
+flagCount = 14
+
 module _ (g : Grid) (c : Place → Bool) where
   -- a cell stands there
   abbrev pub on : Option Place → Bool
@@ -109,7 +157,7 @@ module _ (g : Grid) (c : Place → Bool) where
   pub record Mesh : Type 0 where
     -- "the level-0 cells are a nonempty subset of the rectangle"
     pub some-cell : (p : Place) × (p .depth ≡ base g) × T (c p)
-    pub inside : (p : Place) → T (c p) → p .depth ≡ base g → (p .col < g .columns) × (p .row < g .rows)
+    pub inside : (p : Place) → T (c p) → p .depth ≡ base g → (p .i < g .columns) × (p .j < g .rows)
     -- cells are on level 0 to level 12
     pub low : (p : Place) → T (c p) → base g ≤ p .depth
     pub high : (p : Place) → T (c p) → p .depth ≤ base g + 12

@@ -55,13 +55,14 @@ leaves s =
     walk (s .entries) (leaf (gridOf s) (cells (s .entries))) (SW ∷ NW ∷ SE ∷ NE ∷ []) (base (gridOf s) + 12) root
 
 -- "number, level, i, j, letter .., value bits as 16 lowercase hex digits"
+abbrev pub lineOf : ℕ → ℕ → ℕ → ℕ → ℕ → ℕ → List ℕ
+lineOf n k i j st bits = line (decimal n ∷ decimal k ∷ decimal i ∷ decimal j ∷ (letter st ∷ []) ∷ hexIn 16 bits [] ∷ [])
+
 unfoldable pub leafLine : State → ℕ → List ℕ
 leafLine s n =
     let p = placeAt (s .entries) n in
     let v = valueOf (entry (s .entries) n) in
-    line (
-    decimal n ∷ decimal (natAbs (level (gridOf s) p)) ∷ decimal (p .col) ∷ decimal (p .row) ∷ (letter (status v) ∷ []) ∷
-    hexIn 16 (toBits binary64 (amount v)) [] ∷ [])
+    lineOf n (natAbs (level (gridOf s) p)) (p .i) (p .j) (status v) (toBits binary64 (amount v))
 
 abbrev pub total : List ℕ → ℕ
 total [] = 0
@@ -78,11 +79,13 @@ headLine h = line ((109 ∷ 97 ∷ 112 ∷ []) ∷ decimal (h .grid .columns) �
 unfoldable pub body : State → List ℕ
 body s = headLine (s .header) ++ flat (map (leafLine s) (leaves s))
 
--- "last `cells`, count of leaves, `sum`, and the sum of all bytes of the earlier lines, line feeds included, wrapping at 2^32"
+-- "last `cells`, count of leaves, `sum`, and the sum
+unfoldable pub footLine : ℕ → ℕ → List ℕ
+footLine leaves sum = line ((99 ∷ 101 ∷ 108 ∷ 108 ∷ 115 ∷ []) ∷ decimal leaves ∷ (115 ∷ 117 ∷ 109 ∷ []) ∷ decimal sum ∷ [])
+
+-- .. of all bytes of the earlier lines, line feeds included, wrapping at 2^32"
 unfoldable pub page : State → List ℕ
-page s =
-    body s ++
-    line ((99 ∷ 101 ∷ 108 ∷ 108 ∷ 115 ∷ []) ∷ decimal (length (leaves s)) ∷ (115 ∷ 117 ∷ 109 ∷ []) ∷ decimal (total (body s) % 2 ^ 32) ∷ [])
+page s = body s ++ footLine (length (leaves s)) (total (body s) % 2 ^ 32)
 
 unfoldable pub pageChecks : State → ℕ → List Check
 pageChecks s room = no18 room (page s) ∷ []

@@ -5,21 +5,21 @@ use Prim.Native.Nat.{ℕ, zero, suc, _+_, _-_, _*_, _/_, _^_, max}
 use mathlib.Core.Bool.{Bool, _&&_, cond}
 use mathlib.Core.Option.{Option, none, some, Option·map}
 use mathlib.Core.List.{List, [], _∷_, _++_, map}
-use lib.Dec.{eqb, leb}
+use lib.Dec.{eqb, leb, T}
 use lib.IntN.{ℤ, subℕ}
 use lib.Count.{leadingZeros}
-use Rattle.mesh.specs.Tools.{orElse}
+use Rattle.mesh.specs.Tools.{orElse, any}
 
 pub record Place : Type 0 where
   pub depth : ℕ
-  pub col : ℕ
-  pub row : ℕ
+  pub i : ℕ
+  pub j : ℕ
 
 abbrev pub at : ℕ → ℕ → ℕ → Place
-at e i j = record { depth = e; col = i; row = j }
+at e i j = record { depth = e; i = i; j = j }
 
 unfoldable pub same : Place → Place → Bool
-same p q = eqb (p .depth) (q .depth) && (eqb (p .col) (q .col) && eqb (p .row) (q .row))
+same p q = eqb (p .depth) (q .depth) && (eqb (p .i) (q .i) && eqb (p .j) (q .j))
 
 -- the rectangle of level-0 cells: what of the header the geometry needs
 pub record Grid : Type 0 where
@@ -85,26 +85,26 @@ unfoldable pub lap : Grid → ℕ → ℕ
 lap g e = cond (isRing g && leb (base g) e) (g .rows * 2 ^ (e - base g)) 0
 
 -- the row after a row, and the one before it, where the rows begin anew after n; the row n itself is none of them
-unfoldable pub rowAfter : ℕ → ℕ → ℕ
-rowAfter n j = cond (eqb (suc j) n) 0 (suc j)
+unfoldable pub jAfter : ℕ → ℕ → ℕ
+jAfter n j = cond (eqb (suc j) n) 0 (suc j)
 
-unfoldable pub rowBefore : ℕ → ℕ → Option ℕ
-rowBefore n zero = before n
-rowBefore n (suc j) = cond (eqb (suc j) n) none (some j)
+unfoldable pub jBefore : ℕ → ℕ → Option ℕ
+jBefore n zero = before n
+jBefore n (suc j) = cond (eqb (suc j) n) none (some j)
 
 -- One step north and one step east there is always a place; south and west there is one if the indices go on there.
 -- These four definitions alone know how the indices of a level run.
 unfoldable pub toNorth : Grid → Place → Place
-toNorth g p = at (p .depth) (p .col) (rowAfter (lap g (p .depth)) (p .row))
+toNorth g p = at (p .depth) (p .i) (jAfter (lap g (p .depth)) (p .j))
 
 unfoldable pub toEast : Grid → Place → Place
-toEast g p = at (p .depth) (suc (p .col)) (p .row)
+toEast g p = at (p .depth) (suc (p .i)) (p .j)
 
 unfoldable pub toSouth : Grid → Place → Option Place
-toSouth g p = Option·map (λ j. at (p .depth) (p .col) j) (rowBefore (lap g (p .depth)) (p .row))
+toSouth g p = Option·map (λ j. at (p .depth) (p .i) j) (jBefore (lap g (p .depth)) (p .j))
 
 unfoldable pub toWest : Grid → Place → Option Place
-toWest g p = Option·map (λ i. at (p .depth) i (p .row)) (before (p .col))
+toWest g p = Option·map (λ i. at (p .depth) i (p .j)) (before (p .i))
 
 -- a step from a place that may be missing
 abbrev pub then : (Place → Option Place) → Option Place → Option Place
@@ -128,14 +128,14 @@ step g w p = northward g (compass w .north) (eastward g (compass w .east) (some 
 
 -- "(k+1, 2i+l, 2j+m), l and m in 0,1"
 unfoldable pub kid : Wind → Place → Place
-kid w p = at (suc (p .depth)) (2 * p .col + compass w .east / 2) (2 * p .row + compass w .north / 2)
+kid w p = at (suc (p .depth)) (2 * p .i + compass w .east / 2) (2 * p .j + compass w .north / 2)
 
 unfoldable pub kids : Place → List Place
 kids p = map (λ w. kid w p) kidWinds
 
 -- "halve the indices, rounding down"
 unfoldable pub parent : Place → Option Place
-parent p = Option·map (λ e. at e (p .col / 2) (p .row / 2)) (before (p .depth))
+parent p = Option·map (λ e. at e (p .i / 2) (p .j / 2)) (before (p .depth))
 
 -- the places that a row's words 0 to 8 link to: the parent, the kids and the neighbours
 unfoldable pub around : Grid → Option Place → List (Option Place)
@@ -143,4 +143,14 @@ around g o = then parent o ∷ map (λ w. Option·map (kid w) o) kidWinds ++ map
 
 -- the place on level 0 that a place of level 0 or above lies in
 unfoldable pub home : Grid → Place → Place
-home g p = at (base g) (p .col / 2 ^ (p .depth - base g)) (p .row / 2 ^ (p .depth - base g))
+home g p = at (base g) (p .i / 2 ^ (p .depth - base g)) (p .j / 2 ^ (p .depth - base g))
+
+-- ---- lists of places
+
+abbrev pub In : Place → List Place → Type 0
+In q ps = T (any (same q) ps)
+
+-- no place stands twice
+abbrev pub Distinct : List Place → Type 0
+Distinct [] = Unit {0}
+Distinct (p ∷ ps) = (In p ps → ⊥) × Distinct ps

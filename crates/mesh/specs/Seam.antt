@@ -11,8 +11,8 @@ abbrev pub opened : Grid → Grid
 opened g = rectangle (g .columns) (g .rows)
 
 -- in a ring the row after the last cells is row 0
-abbrev pub lastRow : Grid → ℕ
-lastRow g = cond (isRing g) (g .rows - 1) (g .rows)
+abbrev pub lastJ : Grid → ℕ
+lastJ g = cond (isRing g) (g .rows - 1) (g .rows)
 
 -- a step to this wind crosses the seam of a level that begins anew after n rows
 abbrev pub seam : Wind → ℕ → ℕ → Bool
@@ -27,4 +27,4 @@ seam NW n j = false
 
 -- and so on level 0, where the ghosts below have no seam
 unfoldable pub crosses : Grid → Wind → Place → Bool
-crosses g w p = eqb (p .depth) (base g) && seam w (lap g (p .depth)) (p .row)
+crosses g w p = eqb (p .depth) (base g) && seam w (lap g (p .depth)) (p .j)

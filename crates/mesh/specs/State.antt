@@ -135,3 +135,7 @@ withEntries s es = record { header = s .header; entries = es }
 -- "each new patch takes the smallest free number", 0 if there is none: the one place that says which number a new patch takes
 unfoldable pub nextFree : State → ℕ
 nextFree s = first isFree 0 (s .entries)
+
+-- the cell at a place, or none
+abbrev pub contents : List Entry → Place → Option Cell
+contents es p = cellOf (entry es (number es p))

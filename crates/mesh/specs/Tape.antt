@@ -37,7 +37,7 @@ kind (suc (suc (suc (suc (suc (suc n)))))) = none
 pub record Run : Type 0 where
   pub state : State
   pub done : ℕ
-  pub why : ℕ
+  pub refusal : ℕ
   pub offset : ℕ
 
 -- one request: it stops the tape, or the state goes on past so many bytes of body
@@ -56,10 +56,10 @@ stepBy s (some k) bs = cond (ltb (length bs) (k .len)) (stop 4) (answered (reque
 
 -- the rest of a tape: so many bytes to pass over, the state, the requests done, the offset, the bytes
 unfoldable pub runFrom : ℕ → State → ℕ → ℕ → List ℕ → Run
-runFrom l s n o [] = record { state = s; done = n; why = 0; offset = o }
+runFrom l s n o [] = record { state = s; done = n; refusal = 0; offset = o }
 runFrom zero s n o (k ∷ bs) =
     elim (stepBy s (kind k) bs) [
-      | stop r ↦ record { state = s; done = n; why = r; offset = o }
+      | stop r ↦ record { state = s; done = n; refusal = r; offset = o }
       | next t l ↦ runFrom l t (n + 1) (o + 1) bs
     ]
 runFrom (suc l) s n o (b ∷ bs) = runFrom l s n (o + 1) bs

@@ -46,7 +46,7 @@ there es p = any (stands p) es
 -- the rules of a mesh, of one cell
 unfoldable pub meshTests : Grid → (Place → Bool) → Place → List Bool
 meshTests g c p =
-    (not (eqb (p .depth) (base g)) || (ltb (p .col) (g .columns) && ltb (p .row) (g .rows))) ∷
+    (not (eqb (p .depth) (base g)) || (ltb (p .i) (g .columns) && ltb (p .j) (g .rows))) ∷
     leb (base g) (p .depth) ∷
     leb (p .depth) (base g + 12) ∷
     (not (ltb (base g) (p .depth)) || on g c (parent p)) ∷

@@ -4,10 +4,13 @@ use Prim.Native.Nat.{ℕ, _+_, _/_, _<_}
 use mathlib.Core.Path.{_≡_}
 use mathlib.Core.List.{List, _++_, map}
 use lib.ListN.{getD}
+use mathlib.Core.Bool.{Bool}
+use lib.Dec.{eqb}
 use Rattle.mesh.specs.Place as Place
 use Rattle.mesh.specs.Place.{Wind, NE, SE, SW, NW, N, E, S, W, kidWinds, sideWinds}
 use Rattle.mesh.specs.declared.Compass.{Compass}
 use Rattle.mesh.specs.declared.Digits.{Digits}
+use Rattle.mesh.specs.Tools.{any}
 
 abbrev pub winds : List Wind
 winds = kidWinds ++ sideWinds
@@ -36,17 +39,22 @@ compassAt i = getD (map compassOf winds) i (record { east = 0; north = 0; opposi
 
 -- "2i+l, 2j+m": the digits of a kid are the offsets of its wind halved
 abbrev pub digitsOf : Compass → Digits
-digitsOf c = record { col = c .east / 2; row = c .north / 2 }
+digitsOf c = record { l = c .east / 2; m = c .north / 2 }
 
 -- those of the kid in the wind at place i
-abbrev pub kidCol : ℕ → ℕ
-kidCol i = digitsOf (compassAt i) .col
+abbrev pub kidL : ℕ → ℕ
+kidL i = digitsOf (compassAt i) .l
 
-abbrev pub kidRow : ℕ → ℕ
-kidRow i = digitsOf (compassAt i) .row
+abbrev pub kidM : ℕ → ℕ
+kidM i = digitsOf (compassAt i) .m
 
 -- the kid wind with the digits l and m stands at place i
 pub record KidWind (l m i : ℕ) : Type 0 where
   pub is-kid : i < 4
-  pub col : kidCol i ≡ l
-  pub row : kidRow i ≡ m
+  pub l-is : kidL i ≡ l
+  pub m-is : kidM i ≡ m
+
+-- a wind is one of a list
+infix 20 _of_
+abbrev pub _of_ : Wind → List Wind → Bool
+w of ws = any (λ x. eqb (wordOfWind x) (wordOfWind w)) ws

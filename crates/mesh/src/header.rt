@@ -2,7 +2,7 @@
 ghost use mathlib.Core.Path.{_≡_};
 ghost use Prim.Native.Nat.{_≤_};
 ghost use Rattle.mesh.specs.Place.{isRing};
-ghost use Rattle.mesh.specs.Seam.{lastRow};
+ghost use Rattle.mesh.specs.Seam.{lastJ};
 ghost use Rattle.mesh.specs.Call as Call;
 ghost use Rattle.mesh.specs.Headers.{headerOf, freshHeader, withMark};
 
@@ -66,9 +66,9 @@ pub fn misfit(header: Header) -> bool
 }
 
 // The last row of patches on level 0: in a ring the row after the last cells is row 0.
-pub fn last_row(header: Header) -> u32
+pub fn last_j(header: Header) -> u32
     requires { ⌜ 1 ≤ header .rows ⌝ }
-    ensures { λ r. ⌜ (r ≤ header .rows) × (r ≡ lastRow (headerOf header .grid)) ⌝ }
+    ensures { λ r. ⌜ (r ≤ header .rows) × (r ≡ lastJ (headerOf header .grid)) ⌝ }
 {
     if is_ring(header) {
         return header.rows - 1;

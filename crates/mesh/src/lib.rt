@@ -76,10 +76,19 @@ pub const SW: usize = 2;
 
 pub const NW: usize = 3;
 
+// And of those to the four sides.
+pub const N: usize = 4;
+
+pub const E: usize = 5;
+
+pub const S: usize = 6;
+
+pub const W: usize = 7;
+
 // The digits that a kid's column and row end in.
 pub struct Digits {
-    pub col: u32,
-    pub row: u32,
+    pub l: u32,
+    pub m: u32,
 }
 
 // How far a wind goes, halved.
@@ -87,15 +96,15 @@ fn halves(c: Compass) -> Digits
     ensures { λ r. ⌜ r ≡ digitsOf c ⌝ }
 {
     Digits {
-        col: c.east / 2,
-        row: c.north / 2,
+        l: c.east / 2,
+        m: c.north / 2,
     }
 }
 
 // The digits of the kid in the wind at place i. The table is read at places that are written out: at any other it is copied first.
 pub fn kid_digits(i: usize) -> Digits
     requires { ⌜ i < 4 ⌝ }
-    ensures { λ r. ⌜ (r .col < 2) × (r .row < 2) × KidWind (r .col) (r .row) i ⌝ }
+    ensures { λ r. ⌜ (r .l < 2) × (r .m < 2) × KidWind (r .l) (r .m) i ⌝ }
 {
     if i == NE {
         return halves(wind(NE));
@@ -115,14 +124,14 @@ pub fn kid_wind(l: u32, m: u32) -> usize
     ensures { λ r. ⌜ KidWind l m r ⌝ }
 {
     let east = kid_digits(NE);
-    if l == east.col {
-        if m == east.row {
+    if l == east.l {
+        if m == east.m {
             return NE;
         }
         return SE;
     }
     let west = kid_digits(SW);
-    if m == west.row {
+    if m == west.m {
         return SW;
     }
     NW

@@ -1,5 +1,3 @@
--- What is put piece by piece, and the digits, lines and pages that the pieces make.
-pub mod Puts
-pub mod Digits
-pub mod Worded
-pub mod Paged
+-- The leaves of a page, and the page put line by line.
+pub mod LeafRows
+pub mod PagePut

@@ -1,3 +1,2 @@
--- The dossier page, row by row, and what is put into a lent list.
-pub mod Rows
-pub mod Puts
+-- The page by the rows of a table.
+pub mod PageRows

@@ -1,5 +1,3 @@
 // The dossier page: its leaves are found once, its length is counted, and then it is put into the output.
-pub mod find;
-pub mod lines;
+pub mod leaves;
 pub mod pages;
-pub mod words;

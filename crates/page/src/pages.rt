@@ -1,24 +1,27 @@
 // The page whole.
 ghost use mathlib.Core.List.{[], _∷_, _++_};
 ghost use mathlib.Core.Path.{_≡_};
-ghost use Prim.Native.Nat.{_+_, _*_, _%_, _^_, _<_, _≤_};
+ghost use Prim.Native.Nat.{_+_, _%_, _^_, _<_, _≤_};
 ghost use lib.Dec.{leb};
 ghost use lib.ListN.{length};
-ghost use Rattle.mesh.specs.Picture.{rowWords};
-ghost use Rattle.mesh.specs.Page.{lineFeed, modeWord, headLine, total};
+ghost use Rattle.mesh.specs.Page.{lineFeed, modeWord, headLine, total, footLine};
 ghost use Rattle.mesh.specs.Headers.{headerOf};
-ghost use Rattle.page.specs.Puts.{Put, written};
-ghost use Rattle.page.specs.Rows.{Listed, footLine, leavesFrom, bodyOf, pageOf, pageOut, rowOut};
-use crate::find::find_leaves;
-use crate::lines::lines_size;
-use crate::lines::lines_sum;
-use crate::lines::put_lines;
-use crate::lines::sum_of;
-use crate::words::digits;
-use crate::words::put_byte;
-use crate::words::put_decimal;
-use crate::words::put_number;
-use crate::words::put_text;
+ghost use Rattle.mesh.specs.Call.{writing};
+ghost use Rattle.table.specs.Plain.{Sized};
+ghost use Rattle.lines.specs.Puts.{Put};
+ghost use Rattle.page.specs.PageRows.{written};
+ghost use Rattle.lines.specs.LineRows.{Listed};
+ghost use Rattle.page.specs.PageRows.{leavesFrom, bodyOf, pageOf, rowOut};
+use crate::leaves::find_leaves;
+use lines::leaf_lines::lines_size;
+use lines::leaf_lines::lines_sum;
+use lines::leaf_lines::put_lines;
+use lines::leaf_lines::sum_of;
+use lines::numerals::digits;
+use lines::numerals::put_byte;
+use lines::numerals::put_decimal;
+use lines::numerals::put_number;
+use lines::numerals::put_text;
 use mesh::header::Header;
 use mesh::header::is_ring;
 
@@ -112,7 +115,7 @@ fn put_page(
 
 // What came of a page: refusal 18 or 0, and how many bytes it has.
 pub struct PageOut {
-    pub why: u32,
+    pub refusal: u32,
     pub count: usize,
 }
 
@@ -126,13 +129,16 @@ fn write_leaves(
     out: &mut [u8],
 ) -> PageOut
     requires { ⌜ Listed (now t) (now v) cap (now leaves) ⌝ }
-    ensures { λ r. ⌜ written r (now (out .exit)) ≡ pageOut (pageOf (headerOf header) (now (t .entry)) (now (v .entry)) (now (leaves .entry))) (now (out .entry)) ⌝ }
+    ensures { λ r. ⌜ written r (now (out .exit)) ≡ writing (pageOf (headerOf header) (now (t .entry)) (now (v .entry)) (now (leaves .entry))) (now (out .entry)) ⌝ }
 {
     if !fits(header, t, v, cap, leaves, out.len()) {
-        return PageOut { why: 18, count: 0 };
+        return PageOut {
+            refusal: 18,
+            count: 0,
+        };
     }
     let count = put_page(header, t, v, cap, leaves, out);
-    PageOut { why: 0, count }
+    PageOut { refusal: 0, count }
 }
 
 // Writes the page, if the output is long enough.
@@ -144,7 +150,7 @@ pub fn write_page(
     d: u32,
     out: &mut [u8],
 ) -> PageOut
-    requires { ⌜ (cap * rowWords + rowWords ≤ length (now t)) × (1 ≤ cap) × (cap < length (now v)) × (cap ≤ 4095) × (length (leavesFrom (now t) cap (d + 12) 1) ≤ 4096) ⌝ }
+    requires { ⌜ Sized (now t) cap × (1 ≤ cap) × (cap < length (now v)) × (length (leavesFrom (now t) cap (d + 12) 1) ≤ 4096) ⌝ }
     ensures { λ r. ⌜ written r (now (out .exit)) ≡ rowOut (headerOf header) (now (t .entry)) (now (v .entry)) cap d (now (out .entry)) ⌝ }
 {
     let mut found = [0u16; 4096];

@@ -22,13 +22,6 @@ not-root-north i j h = rw (ne-eqb (i + j) 0 (λ z. h (omega arith)))
 pub is-root : (i j : ℕ) → i ≡ 0 → j ≡ 0 → _≡_ {A = ℕ} 1 (cond (eqb (i + j) 0) 1 0)
 is-root i j a b = rw (eq-eqb (i + j) 0 (omega arith))
 
--- row 0 names no row
-pub by-none : (n x : ℕ) → n ≡ 0 → 0 ≡ cond (eqb n 0) 0 x
-by-none n x e = rw (eq-eqb n 0 e)
-
-pub by-some : (n x : ℕ) → (n ≡ 0 → ⊥) → x ≡ cond (eqb n 0) 0 x
-by-some n x h = rw (ne-eqb n 0 h)
-
 -- the digits past the place e, halved once more
 halved : (i e : ℕ) → i / 2 ^ e / 2 ≡ i / 2 ^ suc e
 halved i e = div-div-eq-div-mul i (2 ^ e) 2 ∙ ap (λ (n : ℕ). i / n) (sym (pow-suc 2 e))

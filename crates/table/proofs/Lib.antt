@@ -3,10 +3,10 @@ pub mod Signed
 pub mod Unsigned
 pub mod Tests
 pub mod Bits
-pub mod Flags
+pub mod FourFlags
 pub mod Paired
 pub mod Offsets
-pub mod Links
+pub mod LinkRanges
 pub mod Downs
-pub mod Rows
+pub mod PutRows
 pub mod Taken

@@ -1,15 +1,15 @@
 -- The table of winds by place: what the code reads there is the wind's compass and word.
 -- Assumes nothing.
 use mathlib.Core.Path.{_≡_, refl, sym, ap, _∙_}
-use mathlib.Core.Bool.{_&&_, cond}
+use mathlib.Core.Bool.{Bool, true, false, _&&_, cond}
 use mathlib.Core.List.{List}
-use Prim.Native.Nat.{ℕ, zero, suc, _+_, _%_, _≤_, _<_}
+use Prim.Native.Nat.{ℕ, zero, suc, _+_, _-_, _%_, _≤_, _<_}
 use native.Mathlib.Omega.{arith}
-use lib.Dec.{lit≤}
+use lib.Dec.{eqb, lit≤}
 use lib.ListN.{getD}
 use lib.IntN.{ℤ}
 use Rattle.mesh.specs.Place.{Wind, NE, compass}
-use Rattle.mesh.specs.Winds.{winds, wordOfWind, compassAt, kidCol, kidRow, KidWind}
+use Rattle.mesh.specs.Winds.{winds, wordOfWind, compassAt, kidL, kidM, KidWind}
 use Rattle.mesh.specs.declared.Compass.{Compass}
 use Rattle.mesh.proofs.Winds.{each-kid}
 use Rattle.table.specs.Words.{wordOf, linkOf}
@@ -39,16 +39,24 @@ pub small : (x : Compass) (i : ℕ) → i < 8 → x ≡ compassAt i → (x .east
 small x i h e = rw e (at i h .east-small, at i h .north-small)
 
 -- the word of the kid in the wind at place i
-pub kid-word-at : (i : ℕ) → i < 4 → kidWord (kidCol i) (kidRow i) ≡ i + 1
-kid-word-at = each-kid (λ i. kidWord (kidCol i) (kidRow i) ≡ i + 1) refl refl refl refl
+pub kid-word-at : (i : ℕ) → i < 4 → kidWord (kidL i) (kidM i) ≡ i + 1
+kid-word-at = each-kid (λ i. kidWord (kidL i) (kidM i) ≡ i + 1) refl refl refl refl
 
 -- by the kid's digits
 pub kid-word-wind : {l m i : ℕ} → KidWind l m i → kidWord l m ≡ i + 1
-kid-word-wind {l} {m} {i} h = ap (λ x. kidWord x m) (sym (h .col)) ∙ ap (kidWord (kidCol i)) (sym (h .row)) ∙ kid-word-at i (h .is-kid)
+kid-word-wind {l} {m} {i} h = ap (λ x. kidWord x m) (sym (h .l-is)) ∙ ap (kidWord (kidL i)) (sym (h .m-is)) ∙ kid-word-at i (h .is-kid)
 
 -- so there is one kid wind for two digits
 pub kid-wind-one : {l m i j : ℕ} → KidWind l m i → KidWind l m j → i ≡ j
 kid-wind-one h k = omega (arith, kid-word-wind h, kid-word-wind k)
+
+-- "1 to 4 kids"
+pub kid-word-range : (l m : ℕ) → m ≤ 1 → (1 ≤ kidWord l m) × (kidWord l m < 5)
+kid-word-range l m h = go (eqb l 1)
+  where
+    go : (b : Bool) → (1 ≤ cond b (2 - m) (3 + m)) × (cond b (2 - m) (3 + m) < 5)
+    go true = (omega arith, omega arith)
+    go false = (omega arith, omega arith)
 
 module _ (t : List ℤ) (cap p l m : ℕ) where
   -- the row of a neighbour, by offsets and by the word of the parent's neighbour

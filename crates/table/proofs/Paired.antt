@@ -9,20 +9,20 @@ use lib.Bits.{bitOr, or-lt}
 use lib.Dec.{eqb}
 use borrow.Author.Tests.{eqb-true, eqb-false}
 use lib.IntN.{ℤ}
-use Rattle.table.specs.Digits.{pair}
+use Rattle.table.specs.FlagDigits.{pair}
 use Rattle.table.specs.Words.{linkOf, flagOf}
 
 -- ---- a wall with one cell
 
-pub counted-edge : (one : Bool) {e : Bool} → e ≡ true → (1 < 32) × (1 ≡ pair e (one && not e))
-counted-edge one h = (omega arith, rw h (go one))
+pub one-cell-boundary : (one : Bool) {e : Bool} → e ≡ true → (1 < 32) × (1 ≡ pair e (one && not e))
+one-cell-boundary one h = (omega arith, rw h (go one))
   where
     go : (x : Bool) → 1 ≡ pair true (x && false)
     go true = refl
     go false = refl
 
-pub counted-green : (one : Bool) {e : Bool} {r : ℕ} → e ≡ false → r ≡ 16 * cond one 1 0 → (r < 32) × (r ≡ pair e (one && not e))
-counted-green one {r = r} h i = rw h (go one i)
+pub one-cell-green : (one : Bool) {e : Bool} {r : ℕ} → e ≡ false → r ≡ 16 * cond one 1 0 → (r < 32) × (r ≡ pair e (one && not e))
+one-cell-green one {r = r} h i = rw h (go one i)
   where
     go : (x : Bool) → r ≡ 16 * cond x 1 0 → (r < 32) × (r ≡ pair false (x && true))
     go true i = (omega arith, omega arith)

@@ -9,7 +9,7 @@ use mathlib.Core.List.{List}
 use lib.Dec.{leb}
 use lib.IntN.{ℤ}
 use borrow.Author.Tests.{leb-true, le-leb, lt-leb}
-use Rattle.table.specs.Words.{vacant, taken}
+use Rattle.table.specs.Words.{freeAt, taken}
 
 module _ (t : List ℤ) (cap n : ℕ) where
   pub taken-nil : n ≡ 0 → false ≡ taken t cap n
@@ -20,7 +20,7 @@ module _ (t : List ℤ) (cap n : ℕ) where
   unfolding taken
   taken-past l = rw (le-leb 1 n (omega arith), lt-leb n cap l)
 
-  pub taken-there : (b : Bool) → n ≢ 0 → n ≤ cap → b ≡ vacant t n → not b ≡ taken t cap n
+  pub taken-there : (b : Bool) → n ≢ 0 → n ≤ cap → b ≡ freeAt t n → not b ≡ taken t cap n
   unfolding taken
   taken-there b z l e = rw (le-leb 1 n (omega (arith, z)), le-leb n cap l, e)
 
@@ -29,7 +29,7 @@ module _ (t : List ℤ) (cap n : ℕ) where
   unfolding taken
   taken-within e = go (leb 1 n) (leb n cap) refl refl e
     where
-      go : (a b : Bool) → leb 1 n ≡ a → leb n cap ≡ b → (a && (b && not (vacant t n))) ≡ true → (1 ≤ n) × (n ≤ cap)
+      go : (a b : Bool) → leb 1 n ≡ a → leb n cap ≡ b → (a && (b && not (freeAt t n))) ≡ true → (1 ≤ n) × (n ≤ cap)
       go true true x y h = (leb-true 1 n x, leb-true n cap y)
       go true false x y h = let z : _≡_ {A = ℕ} 0 1 = cc in absurd (omega arith)
       go false b x y h = let z : _≡_ {A = ℕ} 0 1 = cc in absurd (omega arith)

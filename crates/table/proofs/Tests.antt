@@ -2,16 +2,23 @@
 -- Assumes nothing.
 use mathlib.Core.Path.{_≡_, refl, sym, _∙_}
 use mathlib.Core.Bool.{Bool, true, false, cond, _&&_}
-use Prim.Native.Nat.{ℕ, _≤_, _<_}
+use Prim.Native.Nat.{ℕ, _≤_}
 use native.Mathlib.Omega.{arith}
-use borrow.Author.Tests.{eq-eqb, ne-eqb, lt-ltb, le-ltb, le-leb, lt-leb, leb-true, leb-false}
-use lib.Dec.{eqb, leb, ltb}
+use borrow.Author.Tests.{eq-eqb, ne-eqb, leb-true, leb-false}
+use lib.Dec.{eqb, leb}
 
 pub chosen : {A : Type 0} (b : Bool) (x y : A) → b ≡ true → x ≡ cond b x y
 chosen b x y e = rw e
 
 pub passed : {A : Type 0} (b : Bool) (x y : A) → b ≡ false → y ≡ cond b x y
 passed b x y e = rw e
+
+-- a choice by two numbers
+pub by-yes : (a b x y : ℕ) → a ≡ b → x ≡ cond (eqb a b) x y
+by-yes a b x y e = rw (eq-eqb a b e)
+
+pub by-no : (a b x y : ℕ) → (a ≡ b → ⊥) → y ≡ cond (eqb a b) x y
+by-no a b x y h = rw (ne-eqb a b h)
 
 pub both-pass : (a b : Bool) → (a && b) ≡ true → (a ≡ true) × (b ≡ true)
 both-pass true b e = (refl, e)
@@ -32,18 +39,6 @@ module _ {x y k : ℕ} (e : x ≡ y) where
 
   pub is-other : (x ≡ k → ⊥) → eqb y k ≡ false
   is-other h = ne-eqb y k (λ q. h (e ∙ q))
-
-  pub is-less : x < k → ltb y k ≡ true
-  is-less h = lt-ltb y k (omega arith)
-
-  pub is-least : k ≤ x → ltb y k ≡ false
-  is-least h = le-ltb y k (omega arith)
-
-  pub is-within : x ≤ k → leb y k ≡ true
-  is-within h = le-leb y k (omega arith)
-
-  pub is-past : k < x → leb y k ≡ false
-  is-past h = lt-leb y k (omega arith)
 
 -- a number equals what a bound keeps of it exactly where it is within the bound
 pub named-is : (y m : ℕ) → leb y m ≡ eqb y (cond (leb y m) y 0)

@@ -14,7 +14,7 @@ use Rattle.mesh.specs.Picture.{rowWords}
 use Rattle.table.specs.Words.{code, wordOf, linkOf, depthFrom, depthOf}
 use Rattle.table.specs.Plain.{Unsigned}
 use Rattle.table.proofs.Signed.{Plus, depth-sum}
-use Rattle.table.proofs.Links.{link-word}
+use Rattle.table.proofs.LinkRanges.{link-word}
 
 -- a word below 2 ^ 31 is not negative
 pub word-unsigned : (t : List ℤ) (n w : ℕ) → wordOf t n w < 2147483648 → Unsigned t n w

@@ -1,5 +1,5 @@
 -- What a lent table says, row by row, whatever stands in it, and what a write makes of it.
-pub mod Digits
+pub mod FlagDigits
 pub mod Words
 pub mod Worked
 pub mod Sides

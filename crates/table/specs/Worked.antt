@@ -3,13 +3,15 @@
 -- Assumes nothing.
 use Prim.Native.Nat.{ℕ, zero, suc, _+_, _-_, _/_, _%_}
 use mathlib.Core.Bool.{Bool, false, not, _&&_, _||_, cond, Bool·beq}
-use mathlib.Core.List.{List, [], _∷_}
+use mathlib.Core.List.{List, [], _∷_, _++_}
 use lib.Dec.{eqb, leb}
 use lib.IntN.{ℤ}
 use Rattle.mesh.specs.Tools.{orElse}
 use Rattle.mesh.specs.Place.{Grid, Wind, at, base, compass, step}
 use Rattle.mesh.specs.Seam.{crosses}
 use Rattle.mesh.specs.Winds.{wordOfWind}
+use Rattle.mesh.specs.Picture.{eastWord, iWord, jWord, neWord, northWord, nwWord, parentWord, seWord, southWord, swWord, westWord}
+use Rattle.mesh.specs.Mesh.{bdyWallHBit, bdyWallVBit, completeBit, grnWallHBit, grnWallVBit}
 use Rattle.table.specs.Words.{wordOf, linkOf, flagOf, depthOf}
 
 -- the word of the kid whose column ends in the digit l and whose row ends in the digit m: NE 1, SE 2, SW 3, NW 4
@@ -25,9 +27,9 @@ staysIn a = leb 1 a && leb a 2
 -- the row that is the neighbour: a kid of the parent, or of the parent's neighbour
 unfoldable pub sideOf : List ℤ → ℕ → ℕ → Wind → ℕ
 sideOf t cap n w =
-    let p = linkOf t cap n 0 in
-    let a = wordOf t n 10 % 2 + compass w .east in
-    let b = wordOf t n 11 % 2 + compass w .north in
+    let p = linkOf t cap n parentWord in
+    let a = wordOf t n iWord % 2 + compass w .east in
+    let b = wordOf t n jWord % 2 + compass w .north in
     linkOf t cap (cond (staysIn a && staysIn b) p (linkOf t cap p (wordOfWind w))) (kidWord ((a + 1) % 2) ((b + 1) % 2))
 
 -- the row of the place with these indices, so many kids down from the root by their digits, the highest first; 0 where there is none
@@ -38,53 +40,65 @@ downTo t cap (suc e) i j = let n = downTo t cap e (i / 2) (j / 2) in cond (eqb n
 -- across the seam of level 0, where the parents are no neighbours, from the root down
 unfoldable pub sideIn : Grid → List ℤ → ℕ → ℕ → Wind → ℕ
 sideIn g t cap n w =
-    let p = at (depthOf t (base g) n) (wordOf t n 10) (wordOf t n 11) in
-    cond (crosses g w p) (orElse 0 (λ q. downTo t cap (q .depth) (q .col) (q .row)) (step g w p)) (sideOf t cap n w)
+    let p = at (depthOf t (base g) n) (wordOf t n iWord) (wordOf t n jWord) in
+    cond (crosses g w p) (orElse 0 (λ q. downTo t cap (q .depth) (q .i) (q .j)) (step g w p)) (sideOf t cap n w)
+
+-- ---- kids, and cells nearby
+
+-- no kid word names a row
+abbrev pub kidless : List ℤ → ℕ → ℕ → Bool
+kidless t cap n = eqb (linkOf t cap n neWord) 0 && (eqb (linkOf t cap n seWord) 0 && (eqb (linkOf t cap n swWord) 0 && eqb (linkOf t cap n nwWord) 0))
+
+-- a cell touches the row's place: its own, or the one west, south or southwest of it
+unfoldable pub touchedIn : List ℤ → ℕ → ℕ → Bool
+touchedIn t cap n =
+    let west = linkOf t cap n westWord in
+    flagOf t completeBit n || (flagOf t completeBit west || (flagOf t completeBit (linkOf t cap n southWord) || flagOf t completeBit (linkOf t cap west southWord)))
 
 -- ---- flags
+
+-- the fourteen flags, bit 0 first: Complete, WallH, WallV; of the boundary walls four, and of the green ones; and the cell's own, Pregnant, Sentenced, Dead
+abbrev pub flagList : Bool → Bool → Bool → List Bool → List Bool → Bool → List Bool
+flagList c south west boundary green sentenced = c ∷ south ∷ west ∷ (boundary ++ (green ++ (false ∷ sentenced ∷ false ∷ [])))
+
+-- the point, the row's own walls h and v, and the cell c; the point by them and the walls of the rows west and south, the cell by them and those north and east
+abbrev pub pointsCell : Bool → Bool → Bool → Bool → Bool → Bool → Bool → List Bool
+pointsCell c h v west south north east = (h || (west || (v || south))) ∷ h ∷ v ∷ (c && (h || (north || (v || east)))) ∷ []
+
+-- the row's own walls alone
+abbrev pub wallsAlone : Bool → Bool → List Bool
+wallsAlone h v = false ∷ h ∷ v ∷ false ∷ []
 
 module _ (t : List ℤ) (cap d : ℕ) where
   -- a cell stands under the number
   abbrev pub cellIn : ℕ → Bool
-  cellIn n = flagOf t 0 n
+  cellIn n = flagOf t completeBit n
 
   -- a wall that is boundary if it has one cell: on level 0, and above where the wall of bit k of the parent is and the word w is even
-  abbrev pub edgeAt : ℕ → Bool → ℕ → ℕ → Bool
-  edgeAt n one w k = one && (eqb (depthOf t d n) d || (eqb (wordOf t n w % 2) 0 && flagOf t k (linkOf t cap n 0)))
+  abbrev pub boundaryAt : ℕ → Bool → ℕ → ℕ → Bool
+  boundaryAt n one w k = one && (eqb (depthOf t d n) d || (eqb (wordOf t n w % 2) 0 && flagOf t k (linkOf t cap n parentWord)))
 
   -- a wall of the row with one cell that is boundary: below the place, and left of it
-  unfoldable pub edgeH : ℕ → Bool
-  edgeH n = edgeAt n (not (Bool·beq (cellIn n) (cellIn (linkOf t cap n 7)))) 11 4
+  unfoldable pub boundaryH : ℕ → Bool
+  boundaryH n = boundaryAt n (not (Bool·beq (cellIn n) (cellIn (linkOf t cap n southWord)))) jWord bdyWallHBit
 
-  unfoldable pub edgeV : ℕ → Bool
-  edgeV n = edgeAt n (not (Bool·beq (cellIn n) (cellIn (linkOf t cap n 8)))) 10 5
+  unfoldable pub boundaryV : ℕ → Bool
+  boundaryV n = boundaryAt n (not (Bool·beq (cellIn n) (cellIn (linkOf t cap n westWord)))) iWord bdyWallVBit
 
-  unfoldable pub innerH : ℕ → Bool
-  innerH n = not (Bool·beq (cellIn n) (cellIn (linkOf t cap n 7))) && not (edgeH n)
+  unfoldable pub greenH : ℕ → Bool
+  greenH n = not (Bool·beq (cellIn n) (cellIn (linkOf t cap n southWord))) && not (boundaryH n)
 
-  unfoldable pub innerV : ℕ → Bool
-  innerV n = not (Bool·beq (cellIn n) (cellIn (linkOf t cap n 8))) && not (edgeV n)
+  unfoldable pub greenV : ℕ → Bool
+  greenV n = not (Bool·beq (cellIn n) (cellIn (linkOf t cap n westWord))) && not (boundaryV n)
 
   -- the flags of a row from level 0 up, bit 0 first; a neighbour's walls are read off its flags
   unfoldable pub flagsFrom : ℕ → Bool → List Bool
   flagsFrom n sentenced =
       let c = cellIn n in
-      let north = linkOf t cap n 5 in
-      let east = linkOf t cap n 6 in
-      let south = linkOf t cap n 7 in
-      let west = linkOf t cap n 8 in
-      c ∷
-      (c || cellIn south) ∷
-      (c || cellIn west) ∷
-      (edgeH n || (flagOf t 4 west || (edgeV n || flagOf t 5 south))) ∷
-      edgeH n ∷
-      edgeV n ∷
-      (c && (edgeH n || (flagOf t 4 north || (edgeV n || flagOf t 5 east)))) ∷
-      (innerH n || (flagOf t 8 west || (innerV n || flagOf t 9 south))) ∷
-      innerH n ∷
-      innerV n ∷
-      (c && (innerH n || (flagOf t 8 north || (innerV n || flagOf t 9 east)))) ∷
-      false ∷
-      sentenced ∷
-      false ∷
-      []
+      let north = linkOf t cap n northWord in
+      let east = linkOf t cap n eastWord in
+      let south = linkOf t cap n southWord in
+      let west = linkOf t cap n westWord in
+      flagList c (c || cellIn south) (c || cellIn west)
+      (pointsCell c (boundaryH n) (boundaryV n) (flagOf t bdyWallHBit west) (flagOf t bdyWallVBit south) (flagOf t bdyWallHBit north) (flagOf t bdyWallVBit east))
+      (pointsCell c (greenH n) (greenV n) (flagOf t grnWallHBit west) (flagOf t grnWallVBit south) (flagOf t grnWallHBit north) (flagOf t grnWallVBit east)) sentenced

@@ -4,7 +4,7 @@ use Prim.Native.Nat.{ℕ, _+_, _*_}
 use mathlib.Core.List.{List, [], _∷_, _++_}
 use lib.ListN.{take, drop, replicate}
 use lib.IntN.{ℤ, pos}
-use Rattle.mesh.specs.Picture.{rowWords}
+use Rattle.mesh.specs.Picture.{rowWords, freeFlags}
 
 -- the table with x in the place of the row n
 unfoldable pub putRow : List ℤ → ℕ → List ℤ → List ℤ
@@ -12,7 +12,7 @@ putRow t n x = take (n * rowWords) t ++ x ++ drop (n * rowWords + rowWords) t
 
 -- "A free row has flags 8192 and every other word 0."
 abbrev pub freeRow : List ℤ
-freeRow = replicate 12 (pos 0) ++ (pos 8192 ∷ pos 0 ∷ [])
+freeRow = replicate 12 (pos 0) ++ (pos freeFlags ∷ pos 0 ∷ [])
 
 -- "row 0 is the nil patch: all words zero"
 abbrev pub nilRow : List ℤ

@@ -1,10 +1,8 @@
 // A row found from the root down, by the digits of its indices.
 ghost use mathlib.Core.Path.{_≡_};
 ghost use mathlib.Core.Bool.{cond};
-ghost use Prim.Native.Nat.{_+_, _*_, _<_, _≤_};
+ghost use Prim.Native.Nat.{_+_, _<_, _≤_};
 ghost use lib.Dec.{eqb};
-ghost use lib.ListN.{length};
-ghost use Rattle.mesh.specs.Picture.{rowWords};
 ghost use Rattle.table.specs.Plain.{Plain};
 ghost use Rattle.table.specs.Words.{linkOf};
 ghost use Rattle.table.specs.Worked.{downTo};
@@ -26,7 +24,7 @@ fn root_at(i: u32, j: u32) -> usize
 
 // The row that the word w of the row n names; row 0 names none.
 fn named_by(t: &[i32], cap: usize, n: usize, w: usize) -> usize
-    requires { ⌜ (cap * rowWords + rowWords ≤ length (now t)) × (cap ≤ 4095) × (n ≤ cap) × (w < 9) × Plain (now t) cap ⌝ }
+    requires { ⌜ Plain (now t) cap × (n ≤ cap) × (w < 9) ⌝ }
     ensures { λ r. ⌜ (r ≤ cap) × (r ≡ cond (eqb n 0) 0 (linkOf (now (t .entry)) cap n w)) ⌝ }
 {
     if n == 0 {
@@ -37,7 +35,7 @@ fn named_by(t: &[i32], cap: usize, n: usize, w: usize) -> usize
 
 // The row of the place with the indices i and j, d kids down from the root, or 0.
 pub fn down_to(t: &[i32], cap: usize, d: u32, i: u32, j: u32) -> usize
-    requires { ⌜ (cap * rowWords + rowWords ≤ length (now t)) × (1 ≤ cap) × (cap ≤ 4095) × (d < 32) × Plain (now t) cap ⌝ }
+    requires { ⌜ Plain (now t) cap × (1 ≤ cap) × (d < 32) ⌝ }
     ensures { λ r. ⌜ (r ≤ cap) × (r ≡ downTo (now (t .entry)) cap d i j) ⌝ }
 {
     let mut n = root_at(i >> d, j >> d);

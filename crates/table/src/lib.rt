@@ -1,5 +1,6 @@
 // The lent table: every read and write of its words and values.
 pub mod down;
+pub mod flag_bits;
 pub mod pairs;
 pub mod plain;
 pub mod values;

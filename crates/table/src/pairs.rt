@@ -1,22 +1,23 @@
 // Walls of both kinds at once: a boundary wall counts 1 and a green one 16, since their flags stand four bits apart.
 ghost use mathlib.Core.Path.{_≡_};
 ghost use mathlib.Core.Bool.{not, _&&_, _||_};
-ghost use Prim.Native.Nat.{_+_, _*_, _<_, _≤_};
-ghost use lib.ListN.{length};
+ghost use Prim.Native.Nat.{_+_, _<_, _≤_};
 ghost use lib.Bits.{bitOr};
-ghost use Rattle.mesh.specs.Picture.{rowWords};
-ghost use Rattle.table.specs.Digits.{pair};
+ghost use Rattle.mesh.specs.Mesh.{bdyWallHBit, bdyWallVBit, grnWallHBit, grnWallVBit};
+ghost use Rattle.table.specs.FlagDigits.{pair};
 ghost use Rattle.table.specs.Words.{linkOf, flagOf};
 ghost use Rattle.table.specs.Plain.{Plain};
+use crate::flag_bits::BDY_WALL_H;
+use crate::flag_bits::BDY_WALL_V;
 use crate::plain::flags;
 use crate::plain::link;
 use crate::worked::weigh;
 
 // A wall that has one cell, if it has one: 1 where it is boundary, 16 where it is green.
-pub fn counted(one: bool, edge: bool) -> u32
-    ensures { λ r. ⌜ (r < 32) × (r ≡ pair edge (one && not edge)) ⌝ }
+pub fn boundary_or_green(one: bool, boundary: bool) -> u32
+    ensures { λ r. ⌜ (r < 32) × (r ≡ pair boundary (one && not boundary)) ⌝ }
 {
-    if edge {
+    if boundary {
         return 1;
     }
     weigh(one, 16)
@@ -24,7 +25,7 @@ pub fn counted(one: bool, edge: bool) -> u32
 
 // The wall of bit k of the row n, boundary or green.
 pub fn wall(t: &[i32], cap: usize, k: u32, n: usize) -> u32
-    requires { ⌜ (cap * rowWords + rowWords ≤ length (now t)) × (n ≤ cap) × (k < 28) × Plain (now t) cap ⌝ }
+    requires { ⌜ Plain (now t) cap × (n ≤ cap) × (k < 28) ⌝ }
     ensures { λ r. ⌜ (r < 32) × (r ≡ pair (flagOf (now (t .entry)) k n) (flagOf (now (t .entry)) (k + 4) n)) ⌝ }
 {
     let w = flags(t, cap, n);
@@ -41,11 +42,11 @@ pub fn join(a: u32, b: u32) -> u32
 
 // The walls that the neighbours at the words a and b have at a corner: an H-wall and a V-wall.
 pub fn corner(t: &[i32], cap: usize, n: usize, a: usize, b: usize) -> u32
-    requires { ⌜ (cap * rowWords + rowWords ≤ length (now t)) × (cap ≤ 4095) × (n ≤ cap) × (a < 9) × (b < 9) × Plain (now t) cap ⌝ }
-    ensures { λ r. ⌜ (r < 32) × (r ≡ pair (flagOf (now (t .entry)) 4 (linkOf (now (t .entry)) cap n a) || flagOf (now (t .entry)) 5 (linkOf (now (t .entry)) cap n b)) (flagOf (now (t .entry)) 8 (linkOf (now (t .entry)) cap n a) || flagOf (now (t .entry)) 9 (linkOf (now (t .entry)) cap n b))) ⌝ }
+    requires { ⌜ Plain (now t) cap × (n ≤ cap) × (a < 9) × (b < 9) ⌝ }
+    ensures { λ r. ⌜ (r < 32) × (r ≡ pair (flagOf (now (t .entry)) bdyWallHBit (linkOf (now (t .entry)) cap n a) || flagOf (now (t .entry)) bdyWallVBit (linkOf (now (t .entry)) cap n b)) (flagOf (now (t .entry)) grnWallHBit (linkOf (now (t .entry)) cap n a) || flagOf (now (t .entry)) grnWallVBit (linkOf (now (t .entry)) cap n b))) ⌝ }
 {
     join(
-        wall(t, cap, 4, link(t, cap, n, a)),
-        wall(t, cap, 5, link(t, cap, n, b)),
+        wall(t, cap, BDY_WALL_H, link(t, cap, n, a)),
+        wall(t, cap, BDY_WALL_V, link(t, cap, n, b)),
     )
 }

@@ -5,12 +5,16 @@ ghost use lib.Dec.{eqb};
 ghost use lib.ListN.{length, getD};
 ghost use lib.IntN.{pos};
 ghost use Rattle.mesh.specs.Picture.{rowWords};
-ghost use Rattle.table.specs.Words.{code, wordOf, linkOf, flagOf, vacant, taken, depthFrom, depthOf};
+ghost use Rattle.table.specs.Plain.{Sized};
+ghost use Rattle.table.specs.Words.{code, wordOf, linkOf, flagOf, freeAt, taken, depthFrom, depthOf};
+use crate::flag_bits::FREE;
 
 // The words of a row.
 pub const ROW_WORDS: usize = 14;
 
-// The words of the kids: the parent's is 0, and then they stand in the order of the winds.
+pub const PARENT: usize = 0;
+
+// The kids, in the order of the winds.
 pub const NE_KID: usize = mesh::NE + 1;
 
 pub const SE_KID: usize = mesh::SE + 1;
@@ -19,7 +23,7 @@ pub const SW_KID: usize = mesh::SW + 1;
 
 pub const NW_KID: usize = mesh::NW + 1;
 
-// The words of the neighbours, behind those of the kids: N, E, S and W, as in the table of winds.
+// The neighbours, in the order of the winds.
 pub const NORTH: usize = 5;
 
 pub const EAST: usize = 6;
@@ -27,6 +31,16 @@ pub const EAST: usize = 6;
 pub const SOUTH: usize = 7;
 
 pub const WEST: usize = 8;
+
+pub const LEVEL: usize = 9;
+
+pub const INDEX_I: usize = 10;
+
+pub const INDEX_J: usize = 11;
+
+pub const FLAGS: usize = 12;
+
+pub const STATUS: usize = 13;
 
 // A signed word as a number.
 pub fn coded(x: i32) -> u32
@@ -58,7 +72,7 @@ pub fn word(t: &[i32], n: usize, w: usize) -> u32
 
 // The row that the word w of the row n names, or 0 where it names none of 1 to the capacity.
 pub fn link(t: &[i32], cap: usize, n: usize, w: usize) -> usize
-    requires { ⌜ (cap * rowWords + rowWords ≤ length (now t)) × (n ≤ cap) × (w < rowWords) × (cap ≤ 4095) ⌝ }
+    requires { ⌜ Sized (now t) cap × (n ≤ cap) × (w < rowWords) ⌝ }
     ensures { λ r. ⌜ (r ≤ cap) × (r ≡ linkOf (now (t .entry)) cap n w) ⌝ }
 {
     // A capacity that is seen to fit 16 bits makes the two tests one.
@@ -74,7 +88,7 @@ pub fn link(t: &[i32], cap: usize, n: usize, w: usize) -> usize
 
 // Whether the word w of the row n is the number of a row, or 0.
 pub fn named(t: &[i32], cap: usize, n: usize, w: usize) -> bool
-    requires { ⌜ (cap * rowWords + rowWords ≤ length (now t)) × (n ≤ cap) × (w < rowWords) × (cap ≤ 4095) ⌝ }
+    requires { ⌜ Sized (now t) cap × (n ≤ cap) × (w < rowWords) ⌝ }
     ensures { λ r. ⌜ r ≡ eqb (wordOf (now (t .entry)) n w) (linkOf (now (t .entry)) cap n w) ⌝ }
 {
     let top = cap as u16 as i32;
@@ -95,20 +109,20 @@ pub fn flag(t: &[i32], k: u32, n: usize) -> bool
     requires { ⌜ (n * rowWords + rowWords ≤ length (now t)) × (k < 32) ⌝ }
     ensures { λ r. ⌜ r ≡ flagOf (now (t .entry)) k n ⌝ }
 {
-    (word(t, n, 12) >> k) % 2 == 1
+    (word(t, n, FLAGS) >> k) % 2 == 1
 }
 
 // Whether the row n is a free row.
-pub fn is_vacant(t: &[i32], n: usize) -> bool
+pub fn is_free(t: &[i32], n: usize) -> bool
     requires { ⌜ n * rowWords + rowWords ≤ length (now t) ⌝ }
-    ensures { λ r. ⌜ r ≡ vacant (now (t .entry)) n ⌝ }
+    ensures { λ r. ⌜ r ≡ freeAt (now (t .entry)) n ⌝ }
 {
-    says(t, n, 12, 8192)
+    says(t, n, FLAGS, FREE)
 }
 
 // Whether the number n is that of a patch.
 pub fn is_taken(t: &[i32], cap: usize, n: usize) -> bool
-    requires { ⌜ cap * rowWords + rowWords ≤ length (now t) ⌝ }
+    requires { ⌜ Sized (now t) cap ⌝ }
     ensures { λ r. ⌜ r ≡ taken (now (t .entry)) cap n ⌝ }
 {
     if n == 0 {
@@ -117,7 +131,7 @@ pub fn is_taken(t: &[i32], cap: usize, n: usize) -> bool
     if cap < n {
         return false;
     }
-    !is_vacant(t, n)
+    !is_free(t, n)
 }
 
 // The depth that a level's word says, with level 0 at depth d.
@@ -138,5 +152,5 @@ pub fn depth(t: &[i32], d: u32, n: usize) -> u32
     requires { ⌜ (n * rowWords + rowWords ≤ length (now t)) × (d ≤ 32) ⌝ }
     ensures { λ r. ⌜ (r < 2147483680) × (r ≡ depthOf (now (t .entry)) d n) ⌝ }
 {
-    depth_from(d, raw(t, n, 9))
+    depth_from(d, raw(t, n, LEVEL))
 }

@@ -14,16 +14,16 @@ use Rattle.mesh.specs.Valid.{Valid}
 use Rattle.mesh.specs.Picture.{table, amounts}
 use Rattle.mesh.specs.Refusal.{refusal}
 use Rattle.mesh.specs.Request.{Request, refine, sentence, remove, kill, setValue, looseChecks, checks, effect}
-use Rattle.numbering.proofs.Checks.{loosely}
-use Rattle.deciding.specs.Decide.{refineRefusal, sentenceRefusal, removeRefusal, killRefusal, setRefusal}
-use Rattle.deciding.specs.Marks.{sentenceTable, measureTable}
-use Rattle.deciding.proofs.Marked.{sentence-table, sentence-amounts, set-table, set-amounts}
-use Rattle.editing.specs.Tables.{refineTable, refineValues, removeTable, removeValues, killTable, killValues}
-use Rattle.editing.proofs.Refined.{refine-table}
-use Rattle.editing.proofs.RefinedValues.{refine-values}
-use Rattle.editing.proofs.Removal.{remove-table, remove-values}
-use Rattle.editing.proofs.Killing.{kill-table, kill-values}
-use Rattle.edit.specs.Lent.{lending}
+use Rattle.number_laws.proofs.Checks.{loosely}
+use Rattle.refusals.specs.Decide.{refineRefusal, sentenceRefusal, removeRefusal, killRefusal, setRefusal}
+use Rattle.refusals.specs.OneRow.{sentenceTable, measureTable}
+use Rattle.refusals.proofs.OneRow.{sentence-table, sentence-amounts, set-table, set-amounts}
+use Rattle.edit_laws.specs.Tables.{refineTable, refineValues, removeTable, removeValues, killTable, killValues}
+use Rattle.edit_laws.proofs.Refined.{refine-table}
+use Rattle.edit_laws.proofs.RefinedValues.{refine-values}
+use Rattle.edit_laws.proofs.Removal.{remove-table, remove-values}
+use Rattle.edit_laws.proofs.Killing.{kill-table, kill-values}
+use Rattle.near.specs.NearSpots.{lending}
 use Rattle.tape.specs.Drawn.{Drawn}
 use Rattle.tape.specs.Applied.{Applied}
 use Rattle.tape.proofs.Drawing.{from-picture, marked-drawn}
@@ -48,7 +48,7 @@ module _ (q : Request) (cap d : ℕ) (t : List ℤ) (v : List Float) where
 module _ (cap d n : ℕ) (t : List ℤ) (v : List Float) where
   -- ---- refine
 
-  pub refine-applied : {why : ℕ} (t′ : List ℤ) (v′ : List Float) → why ≡ refineRefusal t cap d n → why ≡ 0
+  pub refine-applied : {given : ℕ} (t′ : List ℤ) (v′ : List Float) → given ≡ refineRefusal t cap d n → given ≡ 0
       → t′ ≡ refineTable cap d n (lending t 1) .words → v′ ≡ refineValues t′ cap n v → Applied (refine n) cap d t v t′ v′ 0
   refine-applied t′ v′ x z y w = accepted-applied (refine n) cap d t v t′ v′ (refine-decides cap d n t v (sym z ∙ x)) makes
     where
@@ -63,7 +63,7 @@ module _ (cap d n : ℕ) (t : List ℤ) (v : List Float) where
 
   -- ---- sentence
 
-  pub sentence-applied : {why : ℕ} (t′ : List ℤ) → why ≡ sentenceRefusal t cap d n → why ≡ 0 → t′ ≡ sentenceTable t n → Applied (sentence n) cap d t v t′ v 0
+  pub sentence-applied : {given : ℕ} (t′ : List ℤ) → given ≡ sentenceRefusal t cap d n → given ≡ 0 → t′ ≡ sentenceTable t n → Applied (sentence n) cap d t v t′ v 0
   sentence-applied t′ x z y = accepted-applied (sentence n) cap d t v t′ v (sentence-decides cap d n t v (sym z ∙ x)) makes
     where
       makes : Makes (sentence n) cap d t v t′ v
@@ -72,7 +72,7 @@ module _ (cap d n : ℕ) (t : List ℤ) (v : List Float) where
   -- ---- set value
 
   module _ (x : Float) where
-    pub set-applied : {why : ℕ} (t′ : List ℤ) (v′ : List Float) → why ≡ setRefusal t cap n x → why ≡ 0 → t′ ≡ measureTable t n → v′ ≡ set v n x → Applied (setValue n x) cap d t v t′ v′ 0
+    pub set-applied : {given : ℕ} (t′ : List ℤ) (v′ : List Float) → given ≡ setRefusal t cap n x → given ≡ 0 → t′ ≡ measureTable t n → v′ ≡ set v n x → Applied (setValue n x) cap d t v t′ v′ 0
     set-applied t′ v′ r z y w = accepted-applied (setValue n x) cap d t v t′ v′ (set-decides cap d n t v x (sym z ∙ r)) makes
       where
         makes : Makes (setValue n x) cap d t v t′ v′
@@ -80,7 +80,7 @@ module _ (cap d n : ℕ) (t : List ℤ) (v : List Float) where
 
   -- ---- remove and kill
 
-  pub remove-applied : {why : ℕ} (t′ : List ℤ) (v′ : List Float) → why ≡ removeRefusal t cap n → why ≡ 0
+  pub remove-applied : {given : ℕ} (t′ : List ℤ) (v′ : List Float) → given ≡ removeRefusal t cap n → given ≡ 0
       → t′ ≡ removeTable t cap d n → v′ ≡ removeValues t cap n v → Applied (remove n) cap d t v t′ v′ 0
   remove-applied t′ v′ x z y w = accepted-applied (remove n) cap d t v t′ v′ (remove-decides cap d n t v (sym z ∙ x)) makes
     where
@@ -90,7 +90,7 @@ module _ (cap d n : ℕ) (t : List ℤ) (v : List Float) where
         w ∙ rw (p .is-values) (from-picture (λ t cap d. removeValues t cap n (amounts s) ≡ amounts (effect s (remove n))) p e (remove-values s (p .valid) n ok)),
       )
 
-  pub kill-applied : {why : ℕ} (t′ : List ℤ) (v′ : List Float) → why ≡ killRefusal t cap d n → why ≡ 0
+  pub kill-applied : {given : ℕ} (t′ : List ℤ) (v′ : List Float) → given ≡ killRefusal t cap d n → given ≡ 0
       → t′ ≡ killTable t cap d n → v′ ≡ killValues n v → Applied (kill n) cap d t v t′ v′ 0
   kill-applied t′ v′ x z y w = accepted-applied (kill n) cap d t v t′ v′ (kill-decides cap d n t v (sym z ∙ x)) makes
     where

@@ -12,8 +12,8 @@ use Rattle.mesh.specs.State.{State}
 use Rattle.mesh.specs.Valid.{Valid, finite}
 use Rattle.mesh.specs.Refusal.{refusal}
 use Rattle.mesh.specs.Request.{Request, refine, sentence, remove, kill, setValue, looseChecks, checks, withKids, no8, no16}
-use Rattle.numbering.proofs.Checks.{passes}
-use Rattle.numbering.proofs.Naming.{named}
+use Rattle.number_laws.proofs.Checks.{passes}
+use Rattle.number_laws.proofs.Naming.{named}
 use Rattle.tape.specs.Applied.{Applied}
 use Rattle.tape.specs.Asked.{asked, StandsFor}
 
@@ -31,8 +31,8 @@ same-checks : (s : State) (n : ℕ) (x y : Float) → finite x ≡ finite y → 
 unfolding looseChecks checks
 same-checks s n x y e = rw e
 
-pub standing-applied : {cap d n w why : ℕ} {x : Float} {t t′ : List ℤ} {v v′ : List Float} → StandsFor w x → Applied (setValue n x) cap d t v t′ v′ why → Applied (setValue n (ofBits binary64 w)) cap d t v t′ v′ why
-standing-applied {cap} {d} {n} {w} {why} {x} {t} {t′} {v} {v′} f a = record {
+pub standing-applied : {cap d n w given : ℕ} {x : Float} {t t′ : List ℤ} {v v′ : List Float} → StandsFor w x → Applied (setValue n x) cap d t v t′ v′ given → Applied (setValue n (ofBits binary64 w)) cap d t v t′ v′ given
+standing-applied {cap} {d} {n} {w} {given} {x} {t} {t′} {v} {v′} f a = record {
   decided = λ s g mark p e. a .decided s g mark p e ∙ ap refusal (same-checks s n x (ofBits binary64 w) (f .alike));
   done = λ s g mark p e h. rw (← f .is (finite-then s n x (p .valid) (sym (a .decided s g mark p e) ∙ h))) (a .done s g mark p e h);
   refused = a .refused;
@@ -61,5 +61,5 @@ module _ (k n w : ℕ) where
   unfolding asked
   asked-set e = rw e
 
-pub same-applied : {q q′ : Request} {cap d why : ℕ} {t t′ : List ℤ} {v v′ : List Float} → q ≡ q′ → Applied q cap d t v t′ v′ why → Applied q′ cap d t v t′ v′ why
-same-applied {cap = cap} {d = d} {why = why} {t = t} {t′ = t′} {v = v} {v′ = v′} e a = subst (λ (q : Request). Applied q cap d t v t′ v′ why) e a
+pub same-applied : {q q′ : Request} {cap d given : ℕ} {t t′ : List ℤ} {v v′ : List Float} → q ≡ q′ → Applied q cap d t v t′ v′ given → Applied q′ cap d t v t′ v′ given
+same-applied {cap = cap} {d = d} {given = given} {t = t} {t′ = t′} {v = v} {v′ = v′} e a = subst (λ (q : Request). Applied q cap d t v t′ v′ given) e a

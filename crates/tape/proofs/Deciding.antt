@@ -11,59 +11,59 @@ use Rattle.mesh.specs.Place.{Grid, base}
 use Rattle.mesh.specs.State.{State}
 use Rattle.mesh.specs.Refusal.{refusal}
 use Rattle.mesh.specs.Request.{Request, refine, sentence, remove, kill, setValue, checks}
-use Rattle.deciding.specs.Decide.{refineRows, sentenceRows, removeRows, killRows, setRows, refineRefusal, sentenceRefusal, removeRefusal, killRefusal, setRefusal}
-use Rattle.deciding.proofs.Arms.{accepted-within}
-use Rattle.deciding.proofs.Refusing.{refine-refusal, sentence-refusal, remove-refusal, kill-refusal, set-refusal}
+use Rattle.refusals.specs.Decide.{refineRows, sentenceRows, removeRows, killRows, setRows, refineRefusal, sentenceRefusal, removeRefusal, killRefusal, setRefusal}
+use Rattle.refusals.proofs.Arms.{accepted-within}
+use Rattle.refusals.proofs.Refusing.{refine-refusal, sentence-refusal, remove-refusal, kill-refusal, set-refusal}
 use Rattle.tape.specs.Drawn.{Drawn}
 use Rattle.tape.specs.Applied.{Applied}
 use Rattle.tape.proofs.Drawing.{from-picture}
 
 -- on every picture the refusal is the rules'
 abbrev pub Decides : Request → ℕ → ℕ → List ℤ → List Float → ℕ → Type 0
-Decides q cap d t v why = (s : State) (g : Grid) (mark : ℕ) → Drawn s g mark cap t v → base g ≡ d → why ≡ refusal (checks s q)
+Decides q cap d t v given = (s : State) (g : Grid) (mark : ℕ) → Drawn s g mark cap t v → base g ≡ d → given ≡ refusal (checks s q)
 
 -- ---- the five kinds
 
 module _ (cap d n : ℕ) (t : List ℤ) (v : List Float) where
-  pub refine-decides : {why : ℕ} → why ≡ refineRefusal t cap d n → Decides (refine n) cap d t v why
+  pub refine-decides : {given : ℕ} → given ≡ refineRefusal t cap d n → Decides (refine n) cap d t v given
   refine-decides x s g mark p e = x ∙ from-picture (λ t cap d. refineRefusal t cap d n ≡ refusal (checks s (refine n))) p e (refine-refusal s (p .valid) n)
 
-  pub sentence-decides : {why : ℕ} → why ≡ sentenceRefusal t cap d n → Decides (sentence n) cap d t v why
+  pub sentence-decides : {given : ℕ} → given ≡ sentenceRefusal t cap d n → Decides (sentence n) cap d t v given
   sentence-decides x s g mark p e = x ∙ from-picture (λ t cap d. sentenceRefusal t cap d n ≡ refusal (checks s (sentence n))) p e (sentence-refusal s (p .valid) n)
 
-  pub remove-decides : {why : ℕ} → why ≡ removeRefusal t cap n → Decides (remove n) cap d t v why
+  pub remove-decides : {given : ℕ} → given ≡ removeRefusal t cap n → Decides (remove n) cap d t v given
   remove-decides x s g mark p e = x ∙ from-picture (λ t cap d. removeRefusal t cap n ≡ refusal (checks s (remove n))) p e (remove-refusal s (p .valid) n)
 
-  pub kill-decides : {why : ℕ} → why ≡ killRefusal t cap d n → Decides (kill n) cap d t v why
+  pub kill-decides : {given : ℕ} → given ≡ killRefusal t cap d n → Decides (kill n) cap d t v given
   kill-decides x s g mark p e = x ∙ from-picture (λ t cap d. killRefusal t cap d n ≡ refusal (checks s (kill n))) p e (kill-refusal s (p .valid) n)
 
-  pub set-decides : (x : Float) {why : ℕ} → why ≡ setRefusal t cap n x → Decides (setValue n x) cap d t v why
+  pub set-decides : (x : Float) {given : ℕ} → given ≡ setRefusal t cap n x → Decides (setValue n x) cap d t v given
   set-decides x y s g mark p e = y ∙ from-picture (λ t cap d. setRefusal t cap n x ≡ refusal (checks s (setValue n x))) p e (set-refusal s (p .valid) n x)
 
 module _ (t : List ℤ) (cap d n : ℕ) where
   -- a request that is not refused names one of the rows
-  pub refine-within : {why : ℕ} → why ≡ refineRefusal t cap d n → why ≡ 0 → n ≤ cap
+  pub refine-within : {given : ℕ} → given ≡ refineRefusal t cap d n → given ≡ 0 → n ≤ cap
   unfolding refineRefusal
   refine-within x z = accepted-within t cap n (drop 1 (refineRows t cap d n)) (sym x ∙ z) .1
 
-  pub sentence-within : {why : ℕ} → why ≡ sentenceRefusal t cap d n → why ≡ 0 → n ≤ cap
+  pub sentence-within : {given : ℕ} → given ≡ sentenceRefusal t cap d n → given ≡ 0 → n ≤ cap
   unfolding sentenceRefusal
   sentence-within x z = accepted-within t cap n (drop 1 (sentenceRows t cap d n)) (sym x ∙ z) .1
 
-  pub kill-within : {why : ℕ} → why ≡ killRefusal t cap d n → why ≡ 0 → n ≤ cap
+  pub kill-within : {given : ℕ} → given ≡ killRefusal t cap d n → given ≡ 0 → n ≤ cap
   unfolding killRefusal
   kill-within x z = accepted-within t cap n (drop 1 (killRows t cap d n)) (sym x ∙ z) .1
 
 module _ (t : List ℤ) (cap n : ℕ) where
-  pub remove-within : {why : ℕ} → why ≡ removeRefusal t cap n → why ≡ 0 → n ≤ cap
+  pub remove-within : {given : ℕ} → given ≡ removeRefusal t cap n → given ≡ 0 → n ≤ cap
   unfolding removeRefusal
   remove-within x z = accepted-within t cap n (drop 1 (removeRows t cap n)) (sym x ∙ z) .1
 
-  pub set-within : (x : Float) {why : ℕ} → why ≡ setRefusal t cap n x → why ≡ 0 → n ≤ cap
+  pub set-within : (x : Float) {given : ℕ} → given ≡ setRefusal t cap n x → given ≡ 0 → n ≤ cap
   unfolding setRefusal
   set-within x y z = accepted-within t cap n (drop 1 (setRows t cap n x)) (sym y ∙ z) .1
 
 -- ---- a refused request
 
-pub refused-applied : (q : Request) (cap d : ℕ) (t : List ℤ) (v : List Float) (why : ℕ) → Decides q cap d t v why → why ≢ 0 → Applied q cap d t v t v why
-refused-applied q cap d t v why x z = record { decided = x; done = λ s g mark p e h. absurd (z h); refused = λ _. (refl, refl) }
+pub refused-applied : (q : Request) (cap d : ℕ) (t : List ℤ) (v : List Float) (given : ℕ) → Decides q cap d t v given → given ≢ 0 → Applied q cap d t v t v given
+refused-applied q cap d t v given x z = record { decided = x; done = λ s g mark p e h. absurd (z h); refused = λ _. (refl, refl) }

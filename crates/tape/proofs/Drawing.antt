@@ -11,7 +11,7 @@ use Rattle.mesh.specs.Valid.{Valid}
 use Rattle.mesh.specs.Picture.{table, amounts}
 use Rattle.mesh.specs.Refusal.{refusal}
 use Rattle.mesh.specs.Request.{Request, checks, effect, marked, accepted, request}
-use Rattle.laws.proofs.Requests.{Done, request-done}
+use Rattle.demand_laws.proofs.Requests.{Done, request-done}
 use Rattle.tape.specs.Drawn.{Drawn}
 
 -- level 0 is at the header's depth

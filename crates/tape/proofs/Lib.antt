@@ -1,5 +1,5 @@
 -- From bytes to requests, from a request on a picture to the rules', and from one request to the next.
-pub mod Reading
+pub mod HighFirst
 pub mod Patterns
 pub mod Bodies
 pub mod Drawing
@@ -10,4 +10,4 @@ pub mod Stocking
 pub mod Asking
 pub mod Turning
 pub mod Running
-pub mod Called
+pub mod TapeCalled

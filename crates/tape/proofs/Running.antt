@@ -12,12 +12,12 @@ use Rattle.mesh.specs.Place.{Grid, base}
 use Rattle.mesh.specs.State.{State}
 use Rattle.mesh.specs.Tape.{runFrom, run}
 use Rattle.mesh.proofs.Runs.{run-end}
-use Rattle.stock.specs.Stock.{Stocked}
-use Rattle.stock.specs.Free.{NoneBelow}
-use Rattle.stock.proofs.Keeping.{first-stock}
-use Rattle.tape.specs.Drawn.{Drawn, Sized, Tame, Pictured}
+use Rattle.free.specs.Stock.{Stocked}
+use Rattle.free.specs.Free.{NoneBelow}
+use Rattle.free.proofs.KeepingStock.{first-stock}
+use Rattle.tape.specs.Drawn.{Drawn, Ranged, Tame, Pictured}
 use Rattle.tape.specs.Ran.{Turned, Ran}
-use Rattle.tape.proofs.Tamed.{drawn-tame, drawn-sized}
+use Rattle.tape.proofs.Tamed.{drawn-tame, drawn-ranged}
 
 -- the run from s goes on from a state that is pictured now
 pub record Present (s : State) (g : Grid) (mark cap : ℕ) (t : List ℤ) (v : List Float) (bytes : List ℕ) (at done : ℕ) : Type 0 where
@@ -38,11 +38,11 @@ module _ (bytes : List ℕ) (cap d mark₀ : ℕ) (t₀ : List ℤ) (v₀ : List
 
   module _ {t : List ℤ} {v : List Float} {stock : List ℕ} {at done mark : ℕ} (o : Ongoing t v stock at done mark) where
     -- what the code asks for, at each request
-    pub asked-for : Pictured mark₀ cap d t₀ v₀ → Sized t v cap d × Tame t cap d
-    asked-for p = let x = o .present (p .state) (p .grid) (p .drawn) (p .depth) in (drawn-sized (x .drawn) (p .depth), drawn-tame (x .drawn) (p .depth))
+    pub asked-for : Pictured mark₀ cap d t₀ v₀ → Ranged t v cap d × Tame t cap d
+    asked-for p = let x = o .present (p .state) (p .grid) (p .drawn) (p .depth) in (drawn-ranged (x .drawn) (p .depth), drawn-tame (x .drawn) (p .depth))
 
-    module _ {t′ : List ℤ} {v′ : List Float} {why next : ℕ} (u : Turned bytes at cap d t v t′ v′ why next) where
-      pub goes-next : {stock′ : List ℕ} {mark′ : ℕ} → Stocked cap t′ [] stock′ → why ≡ 0 → mark′ ≡ (mark + 1) % 65536 → Ongoing t′ v′ stock′ next (done + 1) mark′
+    module _ {t′ : List ℤ} {v′ : List Float} {given next : ℕ} (u : Turned bytes at cap d t v t′ v′ given next) where
+      pub goes-next : {stock′ : List ℕ} {mark′ : ℕ} → Stocked cap t′ [] stock′ → given ≡ 0 → mark′ ≡ (mark + 1) % 65536 → Ongoing t′ v′ stock′ next (done + 1) mark′
       goes-next h z m = let (a, b) = u .further z in record {
         within = b;
         few = omega (arith, o .few);
@@ -53,7 +53,7 @@ module _ (bytes : List ℕ) (cap d mark₀ : ℕ) (t₀ : List ℤ) (v₀ : List
         stocked = h;
       }
 
-      pub ran-stopped : why ≢ 0 → Ran bytes cap d mark₀ t₀ v₀ t′ v′ done why at mark
+      pub ran-stopped : given ≢ 0 → Ran bytes cap d mark₀ t₀ v₀ t′ v′ done given at mark
       ran-stopped z = record {
         answer = λ s g p e.
             let x = o .present s g p e in

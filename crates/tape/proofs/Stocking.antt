@@ -11,16 +11,16 @@ use lib.IntN.{ℤ}
 use lib.ListN.{length, getD}
 use Rattle.mesh.specs.Tools.{any}
 use Rattle.mesh.specs.Picture.{rowWords}
-use Rattle.table.specs.Words.{wordOf, flagOf, vacant}
+use Rattle.table.specs.Words.{wordOf, flagOf, freeAt}
 use Rattle.table.specs.Worked.{kidWord}
-use Rattle.table.proofs.Links.{link-within}
-use Rattle.stock.specs.Stock.{Stocked, Nine, Lowered}
-use Rattle.stock.proofs.Keeping.{freed-stock, lowered-stock}
-use Rattle.deciding.specs.Marks.{sentenceTable, measureTable}
-use Rattle.editing.specs.Tables.{Lowers, Spot, kidAt, wantedSpots, refineTable, removeTable}
-use Rattle.editing.proofs.Lowering.{FreesNone, frees-flags, frees-word}
-use Rattle.editing.proofs.Freeing.{frees-stock, frees-refined, NotOne, freed-removed}
-use Rattle.edit.specs.Lent.{lending}
+use Rattle.table.proofs.LinkRanges.{link-within}
+use Rattle.free.specs.Stock.{Stocked, Nine, Lowered}
+use Rattle.free.proofs.KeepingStock.{freed-stock, lowered-stock}
+use Rattle.refusals.specs.OneRow.{sentenceTable, measureTable}
+use Rattle.edit_laws.specs.Tables.{Lowers, Spot, kidAt, wantedSpots, refineTable, removeTable, FreesNone}
+use Rattle.edit_laws.proofs.Lowering.{frees-flags, frees-word}
+use Rattle.edit_laws.proofs.Freeing.{frees-stock, frees-refined, NotOne, freed-removed}
+use Rattle.near.specs.NearSpots.{lending}
 
 -- ---- the two that write one row
 
@@ -45,7 +45,7 @@ module _ {t u : List ℤ} (n : ℕ) where
 
 kids-within : (t : List ℤ) (cap : ℕ) (xs : List Spot) (i : ℕ) → getD (map (kidAt t cap) xs) i 0 ≤ cap
 kids-within t cap [] i = omega arith
-kids-within t cap (x ∷ xs) zero = link-within t cap (x .row) (kidWord (x .l) (x .m))
+kids-within t cap (x ∷ xs) zero = link-within t cap (x .parent) (kidWord (x .l) (x .m))
 kids-within t cap (x ∷ xs) (suc i) = kids-within t cap xs i
 
 pub nine-near : (t : List ℤ) (cap n : ℕ) {ks : List ℕ} → ks ≡ map (kidAt t cap) (wantedSpots t cap n) → Nine cap ks
@@ -60,12 +60,12 @@ module _ {cap : ℕ} {t u : List ℤ} {s : List ℕ} (d n : ℕ) (h : Stocked ca
 
   -- the nine near the cell are still to be kept
   pub remove-stock : {ks : List ℕ} → cap * rowWords + rowWords ≤ length t → ks ≡ map (kidAt t cap) (wantedSpots t cap n) → u ≡ removeTable t cap d n → Stocked cap u ks s
-  remove-stock {ks} fits i e = rw e (freed-stock h (nil (vacant (removeTable t cap d n) 0) refl) (λ k f v. freed-removed t cap d n k fits (rw i at (others k f)) v))
+  remove-stock {ks} fits i e = rw e (freed-stock h (nil (freeAt (removeTable t cap d n) 0) refl) (λ k f v. freed-removed t cap d n k fits (rw i at (others k f)) v))
     where
       others : (k : ℕ) → any (eqb k) ks ≡ false → NotOne ks k
       others k f y z g j = let o : true ≡ false = sym g ∙ ap (λ (x : ℕ). any (eqb x) ks) (sym j) ∙ f in let w : _≡_ {A = ℕ} 0 1 = cc in omega arith
 
-      nil : (x : Bool) → vacant (removeTable t cap d n) 0 ≡ x → vacant (removeTable t cap d n) 0 ≡ false
+      nil : (x : Bool) → freeAt (removeTable t cap d n) 0 ≡ x → freeAt (removeTable t cap d n) 0 ≡ false
       nil true v = absurd (let o : true ≡ false = sym (freed-removed t cap d n 0 fits (λ y z g j. z (sym j)) v) ∙ h .nil in let w : _≡_ {A = ℕ} 0 1 = cc in omega arith)
       nil false v = v
 

@@ -24,9 +24,9 @@ use Rattle.tape.proofs.Bodies.{unknown, Known, known, run-body}
 
 -- ---- a request by its refusal
 
-request-refused : (s : State) (q : Request) (why : ℕ) → why ≡ refusal (checks s q) → why ≢ 0 → request s q ≡ refused why
+request-refused : (s : State) (q : Request) (given : ℕ) → given ≡ refusal (checks s q) → given ≢ 0 → request s q ≡ refused given
 unfolding request
-request-refused s q why e z = rw (← e, ne-eqb why 0 z)
+request-refused s q given e z = rw (← e, ne-eqb given 0 z)
 
 -- ---- the bytes from a kind byte on
 
@@ -37,7 +37,7 @@ module _ (bytes : List ℕ) (at k : ℕ) (inside : at < length bytes) (is : k �
   split : drop at bytes ≡ k ∷ rest
   split = rw (is, add-one at) (drop-cons bytes at 0 inside)
 
-  stopped : (s : State) (r : ℕ) → stepBy s (kind k) rest ≡ stop r → (n : ℕ) → runFrom 0 s n at (drop at bytes) ≡ record { state = s; done = n; why = r; offset = at }
+  stopped : (s : State) (r : ℕ) → stepBy s (kind k) rest ≡ stop r → (n : ℕ) → runFrom 0 s n at (drop at bytes) ≡ record { state = s; done = n; refusal = r; offset = at }
   stopped s r e n = rw split (run-stop s n at k r rest e)
 
   module _ (cap d : ℕ) (t : List ℤ) (v : List Float) where
@@ -61,9 +61,9 @@ module _ (bytes : List ℕ) (at k : ℕ) (inside : at < length bytes) (is : k �
 
   -- ---- a request with its body
 
-  module _ {cap d len n w why : ℕ} {t t′ : List ℤ} {v v′ : List Float} (is-len : len ≡ bodyLength k) (some-len : len ≢ 0) (enough : len < length bytes - at)
+  module _ {cap d len n w given : ℕ} {t t′ : List ℤ} {v v′ : List Float} (is-len : len ≡ bodyLength k) (some-len : len ≢ 0) (enough : len < length bytes - at)
       (is-n : n ≡ highFirst 0 (take 2 (drop (at + 1) bytes))) (is-w : w ≡ highFirst 0 (take (len - 2) (drop (at + 3) bytes)))
-      (a : Applied (asked k n w) cap d t v t′ v′ why) where
+      (a : Applied (asked k n w) cap d t v t′ v′ given) where
     abbrev q : Request
     q = asked k n w
 
@@ -78,7 +78,7 @@ module _ (bytes : List ℕ) (at k : ℕ) (inside : at < length bytes) (is : k �
     whole : its .its .len ≤ length rest
     whole = simp length-drop (omega (arith, its .is-length))
 
-    step-refused : (s : State) → request s q ≡ refused why → stepBy s (kind k) rest ≡ stop why
+    step-refused : (s : State) → request s q ≡ refused given → stepBy s (kind k) rest ≡ stop given
     step-refused s e = rw (its .is-kind, le-ltb (length rest) (its .its .len) whole, asks, e)
 
     step-accepted : (s s′ : State) → request s q ≡ accepted s′ → stepBy s (kind k) rest ≡ next s′ len
@@ -91,9 +91,9 @@ module _ (bytes : List ℕ) (at k : ℕ) (inside : at < length bytes) (is : k �
         ∙ run-body len s′ (m + 1) (at + 1) rest (omega (arith, whole, its .is-length))
         ∙ ap (runFrom 0 s′ (m + 1) (at + 1 + len)) (drop-drop len (at + 1) bytes))
 
-    pub turned-request : Turned bytes at cap d t v t′ v′ why (at + 1 + len)
+    pub turned-request : Turned bytes at cap d t v t′ v′ given (at + 1 + len)
     turned-request = record {
-      stops = λ z s g mark p e. stopped s why (step-refused s (request-refused s q why (a .decided s g mark p e) z));
+      stops = λ z s g mark p e. stopped s given (step-refused s (request-refused s q given (a .decided s g mark p e) z));
       same = λ z. (a .refused z .0, a .refused z .1);
       goes = λ z s g mark p e.
           record { state = marked (effect s q); drawn = a .done s g mark p e z; goes-on = on s (marked (effect s q)) (request-accepted s q (sym (a .decided s g mark p e) ∙ z)) };

@@ -9,9 +9,9 @@ use lib.ListN.{length}
 use Rattle.mesh.specs.Place.{Grid, base}
 use Rattle.mesh.specs.State.{State, capacity}
 use Rattle.mesh.specs.Valid.{Valid}
-use Rattle.mesh.specs.Picture.{rowWords, table, amounts}
+use Rattle.mesh.specs.Picture.{rowWords, table, amounts, flagsWord}
 use Rattle.table.specs.Words.{wordOf}
-use Rattle.steps.specs.Small.{AllSmall}
+use Rattle.patch.specs.Small.{AllSmall}
 use Rattle.table.specs.Plain.{Plain}
 
 -- the header, the words and the values are those of the state
@@ -25,7 +25,7 @@ pub record Drawn (s : State) (g : Grid) (mark cap : ℕ) (t : List ℤ) (v : Lis
 -- ---- what the code asks for
 
 -- the lengths of the lists and the ranges of the numbers
-pub record Sized (t : List ℤ) (v : List Float) (cap d : ℕ) : Type 0 where
+pub record Ranged (t : List ℤ) (v : List Float) (cap d : ℕ) : Type 0 where
   pub words : length t ≡ rowWords * (cap + 1)
   pub values : length v ≡ cap + 1
   pub cap-from : 5 ≤ cap
@@ -35,7 +35,7 @@ pub record Sized (t : List ℤ) (v : List Float) (cap d : ℕ) : Type 0 where
 -- the words of every row are small enough for sums with them to fit, and its links and flags are read as they stand; those of a picture are
 pub record Tame (t : List ℤ) (cap d : ℕ) : Type 0 where
   pub indices : AllSmall 1048576 t cap d
-  pub flags : (n : ℕ) → wordOf t n 12 < 16384
+  pub flags : (n : ℕ) → wordOf t n flagsWord < 16384
   pub plain : Plain t cap
 
 -- some state is pictured, whose level 0 is at depth d

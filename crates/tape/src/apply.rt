@@ -1,24 +1,24 @@
 // One request on a table: it is decided first, and a refused one writes nothing. The answer is the refusal, 0 for none.
-ghost use mathlib.Core.List.{[]};
 ghost use Prim.Native.Nat.{_≤_};
+ghost use mathlib.Core.List.{[]};
 ghost use Rattle.mesh.specs.Request.{refine, sentence, remove, kill, setValue};
-ghost use Rattle.stock.specs.Stock.{Stocked};
-ghost use Rattle.editing.proofs.Lowering.{FreesNone};
-ghost use Rattle.tape.specs.Drawn.{Sized, Tame};
+ghost use Rattle.free.specs.Stock.{Stocked};
+ghost use Rattle.tape.specs.Drawn.{Ranged, Tame};
 ghost use Rattle.tape.specs.Applied.{Applied};
 ghost use Rattle.tape.specs.Asked.{asked};
+ghost use Rattle.edit_laws.specs.Tables.{FreesNone};
 use crate::bytes::value_of;
-use deciding::marks::sentence_at;
-use deciding::marks::set_at;
-use deciding::refusals::kill_refusal;
-use deciding::refusals::refine_refusal;
-use deciding::refusals::remove_refusal;
-use deciding::refusals::sentence_refusal;
-use deciding::refusals::set_refusal;
-use edit::near::near_rows;
-use stock::keep::keep_nine;
-use stock::keep::lower;
-use stock::restock::restock;
+use free::keep::keep_nine;
+use free::keep::lower;
+use free::restock::restock;
+use near::rows::near_rows;
+use refusals::one_row::sentence_at;
+use refusals::one_row::set_at;
+use refusals::requests::kill_refusal;
+use refusals::requests::refine_refusal;
+use refusals::requests::remove_refusal;
+use refusals::requests::sentence_refusal;
+use refusals::requests::set_refusal;
 
 pub fn refine(
     t: &mut [i32],
@@ -28,25 +28,25 @@ pub fn refine(
     d: u32,
     n: usize,
 ) -> u32
-    requires { ⌜ Sized (now t) (now v) cap d × Tame (now t) cap d × Stocked cap (now t) [] (now stock) ⌝ }
+    requires { ⌜ Ranged (now t) (now v) cap d × Tame (now t) cap d × Stocked cap (now t) [] (now stock) ⌝ }
     ensures { λ r. ⌜ Applied (refine n) cap d (now (t .entry)) (now (v .entry)) (now (t .exit)) (now (v .exit)) r × Stocked cap (now (t .exit)) [] (now (stock .exit)) ⌝ }
 {
     let spare = restock(t, cap, stock);
-    let why = refine_refusal(t, cap, d, n, spare);
-    if why != 0 {
-        return why;
+    let refusal = refine_refusal(t, cap, d, n, spare);
+    if refusal != 0 {
+        return refusal;
     }
-    edit::refine::refine(t, v, cap, d, n, stock);
+    refine::refine(t, v, cap, d, n, stock);
     0
 }
 
 pub fn sentence(t: &mut [i32], v: &[f64], cap: usize, d: u32, n: usize) -> u32
-    requires { ⌜ Sized (now t) (now v) cap d × Tame (now t) cap d ⌝ }
+    requires { ⌜ Ranged (now t) (now v) cap d × Tame (now t) cap d ⌝ }
     ensures { λ r. ⌜ Applied (sentence n) cap d (now (t .entry)) (now (v .entry)) (now (t .exit)) (now (v .entry)) r × FreesNone (now (t .entry)) (now (t .exit)) ⌝ }
 {
-    let why = sentence_refusal(t, cap, d, n);
-    if why != 0 {
-        return why;
+    let refusal = sentence_refusal(t, cap, d, n);
+    if refusal != 0 {
+        return refusal;
     }
     sentence_at(t, n);
     0
@@ -60,15 +60,15 @@ pub fn remove(
     d: u32,
     n: usize,
 ) -> u32
-    requires { ⌜ Sized (now t) (now v) cap d × Tame (now t) cap d × Stocked cap (now t) [] (now stock) ⌝ }
+    requires { ⌜ Ranged (now t) (now v) cap d × Tame (now t) cap d × Stocked cap (now t) [] (now stock) ⌝ }
     ensures { λ r. ⌜ Applied (remove n) cap d (now (t .entry)) (now (v .entry)) (now (t .exit)) (now (v .exit)) r × Stocked cap (now (t .exit)) [] (now (stock .exit)) ⌝ }
 {
-    let why = remove_refusal(t, cap, n);
-    if why != 0 {
-        return why;
+    let refusal = remove_refusal(t, cap, n);
+    if refusal != 0 {
+        return refusal;
     }
     let near = near_rows(t, cap, n);
-    edit::remove::remove(t, v, cap, d, n);
+    remove::remove(t, v, cap, d, n);
     keep_nine(t, cap, stock, &near);
     0
 }
@@ -81,12 +81,12 @@ pub fn kill(
     d: u32,
     n: usize,
 ) -> u32
-    requires { ⌜ Sized (now t) (now v) cap d × Tame (now t) cap d × Stocked cap (now t) [] (now stock) ⌝ }
+    requires { ⌜ Ranged (now t) (now v) cap d × Tame (now t) cap d × Stocked cap (now t) [] (now stock) ⌝ }
     ensures { λ r. ⌜ Applied (kill n) cap d (now (t .entry)) (now (v .entry)) (now (t .exit)) (now (v .exit)) r × Stocked cap (now (t .exit)) [] (now (stock .exit)) ⌝ }
 {
-    let why = kill_refusal(t, cap, d, n);
-    if why != 0 {
-        return why;
+    let refusal = kill_refusal(t, cap, d, n);
+    if refusal != 0 {
+        return refusal;
     }
     let least = kill::kill(t, v, cap, d, n, cap + 1);
     lower(stock, least as u16);
@@ -94,12 +94,12 @@ pub fn kill(
 }
 
 pub fn set_value(t: &mut [i32], v: &mut [f64], cap: usize, d: u32, n: usize, x: f64) -> u32
-    requires { ⌜ Sized (now t) (now v) cap d ⌝ }
+    requires { ⌜ Ranged (now t) (now v) cap d ⌝ }
     ensures { λ r. ⌜ Applied (setValue n x) cap d (now (t .entry)) (now (v .entry)) (now (t .exit)) (now (v .exit)) r × FreesNone (now (t .entry)) (now (t .exit)) ⌝ }
 {
-    let why = set_refusal(t, cap, n, x);
-    if why != 0 {
-        return why;
+    let refusal = set_refusal(t, cap, n, x);
+    if refusal != 0 {
+        return refusal;
     }
     set_at(t, v, n, x);
     0
@@ -116,7 +116,7 @@ pub fn request(
     n: usize,
     w: u64,
 ) -> u32
-    requires { ⌜ Sized (now t) (now v) cap d × Tame (now t) cap d × Stocked cap (now t) [] (now stock) × (1 ≤ k) × (k ≤ 5) ⌝ }
+    requires { ⌜ Ranged (now t) (now v) cap d × Tame (now t) cap d × Stocked cap (now t) [] (now stock) × (1 ≤ k) × (k ≤ 5) ⌝ }
     ensures { λ r. ⌜ Applied (asked k n w) cap d (now (t .entry)) (now (v .entry)) (now (t .exit)) (now (v .exit)) r × Stocked cap (now (t .exit)) [] (now (stock .exit)) ⌝ }
 {
     if k == 1 {

@@ -1,10 +1,10 @@
 // The requests of a tape, one after the other, up to the first that is refused.
-ghost use mathlib.Core.List.{[]};
 ghost use Prim.Native.Nat.{_<_};
+ghost use mathlib.Core.List.{[]};
 ghost use lib.ListN.{length};
-ghost use Rattle.stock.specs.Free.{NoneBelow};
-ghost use Rattle.stock.specs.Stock.{Stocked};
-ghost use Rattle.tape.specs.Drawn.{Sized, Tame, Pictured};
+ghost use Rattle.free.specs.Free.{NoneBelow};
+ghost use Rattle.free.specs.Stock.{Stocked};
+ghost use Rattle.tape.specs.Drawn.{Ranged, Tame, Pictured};
 ghost use Rattle.tape.specs.Ran.{Turned, Ran};
 use crate::apply::request;
 use crate::bytes::body_length;
@@ -12,7 +12,7 @@ use crate::bytes::high_first;
 
 // The refusal, 0 for none, and the offset of the next kind byte.
 pub struct Turn {
-    pub why: u32,
+    pub refusal: u32,
     pub next: usize,
 }
 
@@ -26,22 +26,28 @@ fn turn_at(
     tape: &[u8],
     at: usize,
 ) -> Turn
-    requires { ⌜ Sized (now t) (now v) cap d × Tame (now t) cap d × Stocked cap (now t) [] (now stock) × (at < length (now tape)) ⌝ }
-    ensures { λ r. ⌜ Turned (now (tape .entry)) at cap d (now (t .entry)) (now (v .entry)) (now (t .exit)) (now (v .exit)) (r .why) (r .next) × Stocked cap (now (t .exit)) [] (now (stock .exit)) ⌝ }
+    requires { ⌜ Ranged (now t) (now v) cap d × Tame (now t) cap d × Stocked cap (now t) [] (now stock) × (at < length (now tape)) ⌝ }
+    ensures { λ r. ⌜ Turned (now (tape .entry)) at cap d (now (t .entry)) (now (v .entry)) (now (t .exit)) (now (v .exit)) (r .refusal) (r .next) × Stocked cap (now (t .exit)) [] (now (stock .exit)) ⌝ }
 {
     let k = tape[at];
     let len = body_length(k);
     if len == 0 {
-        return Turn { why: 5, next: at };
+        return Turn {
+            refusal: 5,
+            next: at,
+        };
     }
     if tape.len() - at <= len {
-        return Turn { why: 4, next: at };
+        return Turn {
+            refusal: 4,
+            next: at,
+        };
     }
     let n = high_first(tape, at + 1, 2) as usize;
     let w = high_first(tape, at + 3, len - 2);
-    let why = request(t, v, stock, cap, d, k, n, w);
+    let refusal = request(t, v, stock, cap, d, k, n, w);
     Turn {
-        why,
+        refusal,
         next: at + 1 + len,
     }
 }
@@ -49,7 +55,7 @@ fn turn_at(
 // The requests done, the refusal or 0, the offset of the refused kind byte or the tape's length, and the mark.
 pub struct Run {
     pub done: usize,
-    pub why: u32,
+    pub refusal: u32,
     pub offset: usize,
     pub mark: u16,
 }
@@ -65,7 +71,7 @@ pub fn run_tape(
     tape: &[u8],
 ) -> Run
     requires { ⌜ Pictured mark cap d (now t) (now v) × NoneBelow cap (now t) first ⌝ }
-    ensures { λ r. ⌜ Ran (now (tape .entry)) cap d mark (now (t .entry)) (now (v .entry)) (now (t .exit)) (now (v .exit)) (r .done) (r .why) (r .offset) (r .mark) ⌝ }
+    ensures { λ r. ⌜ Ran (now (tape .entry)) cap d mark (now (t .entry)) (now (v .entry)) (now (t .exit)) (now (v .exit)) (r .done) (r .refusal) (r .offset) (r .mark) ⌝ }
 {
     let mut at = 0;
     let mut done = 0;
@@ -74,10 +80,10 @@ pub fn run_tape(
     let mut stock = [low; 16];
     while at < tape.len() {
         let s = turn_at(t, v, &mut stock, cap, d, tape, at);
-        if s.why != 0 {
+        if s.refusal != 0 {
             return Run {
                 done,
-                why: s.why,
+                refusal: s.refusal,
                 offset: at,
                 mark: m,
             };
@@ -88,7 +94,7 @@ pub fn run_tape(
     }
     Run {
         done,
-        why: 0,
+        refusal: 0,
         offset: at,
         mark: m,
     }

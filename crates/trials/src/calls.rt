@@ -1,19 +1,19 @@
 // The calls, each on as much of the lists as the numbers say. The sums that are told are those of the whole lists, so that what is not lent is
 // seen to stay.
 use crate::lent;
-use crate::lines::end_line;
-use crate::lines::mix;
-use crate::lines::mix_value;
-use crate::lines::tell;
-use crate::lines::tell_bytes;
-use crate::lines::tell_lists;
-use crate::lines::tell_shorts;
-use crate::lines::tell_value;
 use crate::lists::word;
+use crate::report::end_line;
+use crate::report::mix;
+use crate::report::mix_value;
+use crate::report::tell;
+use crate::report::tell_bytes;
+use crate::report::tell_lists;
+use crate::report::tell_shorts;
+use crate::report::tell_value;
+use lookup::Reading;
 use mesh::header::Header;
 use mesh::header::fresh;
 use mesh::header::with_mark;
-use walk::calls::Reading;
 ghost use Prim.Native.Nat.{_≤_, _<_};
 ghost use lib.ListN.{length};
 
@@ -117,7 +117,7 @@ fn lookup(t: &[i32], v: &[f64], h: &[u32; 13], n: usize, m: usize)
     requires { ⌜ (n ≤ length (now t)) × (m ≤ length (now v)) ⌝ }
 {
     let r = grid::lookup(header(h), &t[..n], &v[..m], h[4], h[7], h[8]);
-    tell(r.why as u64);
+    tell(r.refusal as u64);
     tell(r.leaf as u64);
     let reading = r.reading;
     match reading {
@@ -141,7 +141,7 @@ fn look(t: &[i32], v: &[f64], h: &[u32; 13], n: usize, m: usize, x: u32, y: u32,
     ensures { λ r. ⌜ r < 4294967291 ⌝ }
 {
     let r = grid::lookup(header(h), &t[..n], &v[..m], h[4], x, y);
-    let w = mix(s, r.why);
+    let w = mix(s, r.refusal);
     let k = mix(w, r.leaf);
     let reading = r.reading;
     match reading {

@@ -1,6 +1,6 @@
 // What is lent, changed item by item.
 use crate::input::number;
-ghost use Prim.Native.Nat.{_≤_, _<_};
+ghost use Prim.Native.Nat.{_<_};
 
 // The word that a number stands for.
 pub fn word(n: u64) -> i32 {

@@ -20,8 +20,8 @@
 mod calls;
 mod input;
 mod lent;
-mod lines;
 mod lists;
+mod report;
 
 use crate::calls::call;
 use crate::input::short;

@@ -33,7 +33,7 @@ fn answer(b: &[u8], n: usize)
     requires { ⌜ n ≤ length (now b) ⌝ }
 {
     let mut out = [0u8; 104000];
-    let w = printing::print(&b[..n], &mut out);
+    let w = program::print(&b[..n], &mut out);
     let k = w.count;
     io::write_all(STDOUT_FILENO, &out[..k]);
 }

@@ -1,5 +1,3 @@
--- Scan and lookup, row by row, what they answer, the words they read, and a list written into a lent one.
-pub mod Rows
-pub mod Plain
-pub mod Written
-pub mod Calls
+-- Leaves and walks by the rows of a table.
+pub mod WalkRows
+pub mod Walkable

@@ -17,13 +17,7 @@ root-table-requires c κs =
 grow-levels-requires : tie.Need-grow-levels-requires
 grow-levels-requires c κs =
     let p = c .before .before .before .before .before .before .pre in
-    let ground = c .before .before .before .before .ground-depth .ensures in (
-      omega (arith, c .before .before .root-table .kept .0),
-      omega arith,
-      omega (arith, depth-small _ _ _ ground (p .4) (p .2) (p .3) (p .5)),
-      ground,
-      all-levels _ _ _ ground (p .4) (p .2) (p .3) (p .5) _ (c .before .before .root-table .ensures),
-    )
+    let ground = c .before .before .before .before .ground-depth .ensures in (search needs, omega (arith, depth-small _ _ _ ground (p .4) (p .2) (p .3) (p .5)), ground, all-levels _ _ _ ground (p .4) (p .2) (p .3) (p .5) _ (c .before .before .root-table .ensures))
 
 seam-rows-requires : tie.Need-seam-rows-requires
 seam-rows-requires c κs =
@@ -32,16 +26,7 @@ seam-rows-requires c κs =
     let a = b₂ .before .before in
     let p = a .before .before .pre in
     let ground = a .ground-depth .ensures in
-    let r = b₁ .grow-levels .ensures in (
-      omega (arith, b₂ .root-table .kept .0, b₁ .grow-levels .kept .0),
-      omega arith,
-      omega arith,
-      omega (arith, depth-small _ _ _ ground (p .4) (p .2) (p .3) (p .5)),
-      p .4 .2,
-      r .before,
-      r .high,
-      grown-plain _ _ _ ground (p .4) (p .2) (p .3) (p .5) _ _ _ _ (b₂ .root-table .ensures) r,
-    )
+    let r = b₁ .grow-levels .ensures in (grown-plain _ _ _ ground (p .4) (p .2) (p .3) (p .5) _ _ _ _ (b₂ .root-table .ensures) r, omega arith, omega (arith, depth-small _ _ _ ground (p .4) (p .2) (p .3) (p .5)), p .4 .2, r .before, r .high)
 
 put-ground-requires : tie.Need-put-ground-requires
 put-ground-requires c κs = search needs
@@ -55,17 +40,10 @@ wall-rows-requires c κs =
     let a = b₄ .before .before in
     let p = a .before .before .pre in
     let ground = a .ground-depth .ensures in
-    let r = b₃ .grow-levels .ensures in (
-      omega (arith, b₄ .root-table .kept .0, b₃ .grow-levels .kept .0, b₂ .seam-rows .kept .0, b₁ .put-ground .kept .0),
-      omega arith,
-      omega (arith, depth-small _ _ _ ground (p .4) (p .2) (p .3) (p .5)),
-      r .before,
-      r .high,
-      ground-plain _ _ _ ground (p .4) (p .2) (p .3) (p .5) _ _ _ _ (b₄ .root-table .ensures) r _ _ (b₂ .seam-rows .ensures) (b₁ .put-ground .ensures),
-    )
+    let r = b₃ .grow-levels .ensures in (ground-plain _ _ _ ground (p .4) (p .2) (p .3) (p .5) _ _ _ _ (b₄ .root-table .ensures) r _ _ (b₂ .seam-rows .ensures) (b₁ .put-ground .ensures), omega (arith, depth-small _ _ _ ground (p .4) (p .2) (p .3) (p .5)), r .before, r .high)
 
-mark-rows-requires : tie.Need-mark-rows-requires
-mark-rows-requires c κs = search needs
+point-rows-requires : tie.Need-point-rows-requires
+point-rows-requires c κs = search needs
 
 blank-values-requires : tie.Need-blank-values-requires
 blank-values-requires c κs = search needs
@@ -90,7 +68,7 @@ returns c =
     let b₇ = b₆ .before .before .before in
     let a = b₇ .before .before in
     let p = a .before .before .pre in
-    made _ _ _ (a .ground-depth .ensures) (p .4) (p .2) (p .3) (p .5) _ _ _ _ (b₇ .root-table .ensures) (b₆ .grow-levels .ensures) _ _ (b₅ .seam-rows .ensures) (b₄ .put-ground .ensures) _ _ _ (b₃ .wall-rows .ensures .0) (b₂ .mark-rows .ensures) (b₁ .blank-values .ensures)
+    made _ _ _ (a .ground-depth .ensures) (p .4) (p .2) (p .3) (p .5) _ _ _ _ (b₇ .root-table .ensures) (b₆ .grow-levels .ensures) _ _ (b₅ .seam-rows .ensures) (b₄ .put-ground .ensures) _ _ _ (b₃ .wall-rows .ensures .0) (b₂ .point-rows .ensures) (b₁ .blank-values .ensures)
 
 pub build-table-spec : {M : Type 1} → statement M
 build-table-spec =
@@ -102,7 +80,7 @@ build-table-spec =
     seam-rows-requires
     put-ground-requires
     wall-rows-requires
-    mark-rows-requires
+    point-rows-requires
     blank-values-requires
     sub-result
     same-length

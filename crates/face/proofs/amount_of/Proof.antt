@@ -3,8 +3,8 @@
 use borrow.Author.Needs.{needs}
 use mathlib.Core.Path.{sym, ap, _∙_}
 use Rattle.mesh.specs.State.{amount}
-use Rattle.walk.specs.declared.calls.Reading.{Reading}
-use Rattle.walk.specs.Calls.{valueOfReading}
+use Rattle.lookup.specs.declared.Reading.{Reading}
+use Rattle.lookup.specs.LookupRows.{valueOfReading}
 use Rattle.table.proofs.Bits.{plus-zero}
 use Rattle.face.proofs.amount_of.Statement.{statement}
 use Rattle.face.proofs.amount_of.Tie as tie

@@ -1,7 +1,7 @@
 -- `face::build_core` meets its contract: what `grid::build_core` answers, and the number in use fits 32 bits.
 -- Assumes nothing.
 use borrow.Author.Needs.{needs}
-use Rattle.face.proofs.Counts.{build-fits}
+use Rattle.face.proofs.CountsFit.{build-fits}
 use Rattle.face.proofs.build_core.Statement.{statement}
 use Rattle.face.proofs.build_core.Tie as tie
 

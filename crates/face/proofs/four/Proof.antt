@@ -1,7 +1,7 @@
 -- `face::four` meets its contract: the four bytes where there are four, and else four zeros.
 -- Assumes nothing.
 use borrow.Author.Needs.{needs}
-use Rattle.face.proofs.Orders.{four-none, four-bytes}
+use Rattle.face.proofs.AnyOrder.{four-none, four-bytes}
 use Rattle.face.proofs.four.Statement.{statement}
 use Rattle.face.proofs.four.Tie as tie
 

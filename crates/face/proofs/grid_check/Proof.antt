@@ -2,7 +2,7 @@
 -- Each other &mut is passed on for good, at its own lifetime, share and ghost name; what a & owns is had twice. No field is named. Assumes nothing.
 use mathlib.Core.Path.{refl}
 use Prim.Native.Nat.{ℕ, _<_, _^_}
-use mathlib.Core.List.{[], _∷_, List}
+use mathlib.Core.List.{_∷_, List, []}
 use lib.IntN.{ℤ}
 use lib.Ieee.{Float}
 use lib.ListN.{length}

@@ -2,8 +2,8 @@
 -- Assumes nothing.
 use borrow.Author.Needs.{needs}
 use mir.Facts.{toZ-ofZ}
-use Rattle.face.proofs.Counts.{scan-fits}
-use Rattle.face.proofs.Orders.{scanned}
+use Rattle.face.proofs.CountsFit.{scan-fits}
+use Rattle.face.proofs.AnyOrder.{scanned}
 use Rattle.face.proofs.scan_core.Statement.{statement}
 use Rattle.face.proofs.scan_core.Tie as tie
 

@@ -1,14 +1,10 @@
 -- `grid::build_core` meets its contract: refused by the first checks or for want of numbers, or built.
 -- Assumes nothing.
-use Rattle.grid.proofs.Builds.{build-refused, sized, buildable, build-made}
+use Rattle.grid.proofs.BuildCalls.{build-refused, sized, buildable, build-made}
 use native.Mathlib.Omega.{arith}
 use borrow.Author.Needs.{needs}
 use Rattle.grid.proofs.build_core.Statement.{statement}
 use Rattle.grid.proofs.build_core.Tie as tie
-use Rattle.grid.proofs.build_core.Reads as reads
-use Rattle.grid.proofs.build_core.Lts as lts
-use Rattle.build.proofs.build_table.Reads as build-table-reads
-use Rattle.grid.proofs.build_refusal.Reads as build-refusal-reads
 
 fresh-requires : tie.Need-fresh-requires
 fresh-requires c κs = search needs

@@ -1,10 +1,6 @@
-use native.Mathlib.Omega.{arith}
 use borrow.Author.Needs.{needs}
 use Rattle.grid.proofs.check.Statement.{statement}
 use Rattle.grid.proofs.check.Tie as tie
-use Rattle.grid.proofs.check.Reads as reads
-use Rattle.grid.proofs.check.Lts as lts
-use Rattle.sound.proofs.checks.check.Reads as check-reads
 
 check-requires : tie.Need-check-requires
 check-requires c κs = search needs

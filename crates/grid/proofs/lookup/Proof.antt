@@ -3,7 +3,7 @@
 use borrow.Author.Needs.{needs}
 use native.Mathlib.Omega.{arith}
 use mathlib.Core.Path.{sym, _∙_}
-use Rattle.grid.proofs.First.{sizes, shallow, lent-plain, lookup-first, lookup-beyond, lookup-done}
+use Rattle.grid.proofs.First.{sizes, shallow, lent-walkable, lookup-first, lookup-beyond, lookup-done}
 use Rattle.grid.proofs.lookup.Statement.{statement}
 use Rattle.grid.proofs.lookup.Tie as tie
 
@@ -27,7 +27,7 @@ lookup-out-requires c κs =
     let ok = sym (c .before .before .before .before .check .ensures) ∙ c .before .before .before .if1 .left in
     let s = sizes _ _ ok in
     let e = c .ground-depth .ensures in
-    (lent-plain _ _ _ ok e, omega (arith, s .values), omega (arith, s .low), omega (arith, shallow _ _ s, e))
+    (lent-walkable _ _ _ ok e, omega (arith, s .values), omega (arith, s .low), omega (arith, shallow _ _ s, e))
 
 returns-3 : tie.Need-returns-3
 returns-3 c =

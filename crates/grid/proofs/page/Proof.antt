@@ -21,7 +21,7 @@ write-page-requires : tie.Need-write-page-requires
 write-page-requires c κs =
     let ok = sym (c .before .before .before .check .ensures) ∙ c .before .before .if1 .left in
     let s = sizes _ _ ok in
-    (omega (arith, s .words), omega (arith, s .low), omega (arith, s .values), s .high, page-listed _ _ _ ok (s .high) (c .before .ground-depth .ensures))
+    (record { words = omega (arith, s .words); small = s .high }, omega (arith, s .low), omega (arith, s .values), page-listed _ _ _ ok (s .high) (c .before .ground-depth .ensures))
 
 same-length : tie.Need-same-length
 same-length c = search needs

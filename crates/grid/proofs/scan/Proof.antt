@@ -3,15 +3,10 @@
 use borrow.Author.Needs.{needs}
 use mathlib.Core.Path.{sym, _∙_}
 use mir.Facts.{toZ-ofZ}
-use Rattle.grid.proofs.First.{lent-plain, lent-few, scan-first, scan-done}
+use Rattle.grid.proofs.First.{lent-walkable, lent-few, scan-first, scan-done}
 use Rattle.grid.proofs.scan.Statement.{statement}
 use Rattle.grid.proofs.scan.Tie as tie
-use Rattle.grid.proofs.scan.Reads as reads
-use Rattle.grid.proofs.scan.Lts as lts
-use Rattle.grid.proofs.check.Reads as check-reads
-use Rattle.mesh.proofs.ground_depth.Reads as ground-depth-reads
 use Rattle.mesh.specs.Headers.{lentOf}
-use Rattle.walk.proofs.calls.scan_out.Reads as scan-out-reads
 
 check-requires : tie.Need-check-requires
 check-requires c κs = search needs
@@ -29,7 +24,7 @@ scan-out-requires c κs =
     let l = lentOf (a .header) (a .table .now) (a .values .now) in
     let ok = sym (c .before .before .before .check .ensures) ∙ c .before .before .if1 .left in
     let e = c .before .ground-depth .ensures in
-    (lent-plain (a .capacity) l _ ok e, lent-few (a .capacity) l (a .start) (a .order) (a .kind) _ ok e (toZ-ofZ (start .fits .from)) (toZ-ofZ (start .fits .to)))
+    (lent-walkable (a .capacity) l _ ok e, lent-few (a .capacity) l (a .start) (a .order) (a .kind) _ ok e (toZ-ofZ (start .fits .from)) (toZ-ofZ (start .fits .to)))
 
 same-length : tie.Need-same-length
 same-length c = search needs

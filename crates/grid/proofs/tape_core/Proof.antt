@@ -2,14 +2,9 @@
 -- Assumes nothing.
 use borrow.Author.Needs.{needs}
 use mathlib.Core.Path.{sym, _∙_}
-use Rattle.grid.proofs.Tapes.{tape-first, tape-pictured, tape-done}
+use Rattle.grid.proofs.TapeCalls.{tape-first, tape-pictured, tape-done}
 use Rattle.grid.proofs.tape_core.Statement.{statement}
 use Rattle.grid.proofs.tape_core.Tie as tie
-use Rattle.grid.proofs.tape_core.Reads as reads
-use Rattle.grid.proofs.tape_core.Lts as lts
-use Rattle.sound.proofs.checks.check_first.Reads as check-first-reads
-use Rattle.mesh.proofs.ground_depth.Reads as ground-depth-reads
-use Rattle.tape.proofs.turns.run_tape.Reads as run-tape-reads
 
 check-first-requires : tie.Need-check-first-requires
 check-first-requires c κs = search needs
@@ -21,7 +16,7 @@ same-length-2 : tie.Need-same-length-2
 same-length-2 c = search needs
 
 returns : tie.Need-returns
-returns c = tape-first _ _ _ _ _ (c .before .before .check-first .result .why) (c .before .before .check-first .ensures .0) (c .if1 .taken)
+returns c = tape-first _ _ _ _ _ (c .before .before .check-first .result .refusal) (c .before .before .check-first .ensures .0) (c .if1 .taken)
 
 ground-depth-requires : tie.Need-ground-depth-requires
 ground-depth-requires c κs = search needs

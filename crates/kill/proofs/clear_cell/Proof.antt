@@ -3,7 +3,7 @@
 use native.Mathlib.Omega.{arith}
 use borrow.Author.Needs.{needs}
 use Rattle.kill.proofs.Borders.{cell-cleared, cleared-lowers}
-use Rattle.steps.proofs.PlainRows.{plain-killed}
+use Rattle.patch.proofs.PlainKept.{plain-killed}
 use Rattle.kill.proofs.clear_cell.Statement.{statement}
 use Rattle.kill.proofs.clear_cell.Tie as tie
 
@@ -17,7 +17,7 @@ drop-corner-requires : tie.Need-drop-corner-requires
 drop-corner-requires c κs =
     let b₁ = c .before .before in
     let b₂ = b₁ .before .before .before in
-    (omega arith, omega arith, omega arith, plain-killed _ (b₂ .before .before .pre .6) (b₂ .put .ensures) (b₁ .put2 .ensures))
+    (plain-killed _ (b₂ .before .before .pre .0) (b₂ .put .ensures) (b₁ .put2 .ensures), omega arith)
 
 drop-corner-requires-2 : tie.Need-drop-corner-requires-2
 drop-corner-requires-2 c κs = search needs
@@ -40,7 +40,7 @@ returns c =
     let b₅ = b₄ .before .before .before in
     let b₆ = b₅ .before .before .before in
     let b₇ = b₆ .before .before in
-    (cell-cleared (b₇ .args .t .now) _ _ _ _ _ _ (b₆ .put .ensures) (b₅ .put2 .ensures) (b₄ .drop-corner .ensures .0) (b₃ .drop-corner2 .ensures .0) (b₂ .drop-corner3 .ensures .0) (b₁ .drop-corner4 .ensures .0), cleared-lowers (b₇ .args .t .now) _ (b₆ .put .ensures) (b₅ .put2 .ensures) (b₄ .drop-corner .ensures .1) (b₃ .drop-corner2 .ensures .1) (b₂ .drop-corner3 .ensures .1) (b₁ .drop-corner4 .ensures .1))
+    (cell-cleared (b₇ .args .t .now) _ _ _ _ _ _ (b₆ .put .ensures) (b₅ .put2 .ensures) (b₄ .drop-corner .ensures .0) (b₃ .drop-corner2 .ensures .0) (b₂ .drop-corner3 .ensures .0) (b₁ .drop-corner4 .ensures .0), cleared-lowers (b₇ .args .t .now) _ (b₆ .put .ensures) (b₅ .put2 .ensures) (b₄ .drop-corner .ensures .1) (b₃ .drop-corner2 .ensures .1) (b₂ .drop-corner3 .ensures .1) (b₁ .drop-corner4 .ensures .1), b₁ .drop-corner4 .ensures .2)
 
 pub clear-cell-spec : {M : Type 1} → statement M
 clear-cell-spec =

@@ -1,13 +1,13 @@
 -- `edit::kill::drop_corner` meets its contract.
 -- Assumes nothing.
 use borrow.Author.Needs.{needs}
-use Rattle.editing.proofs.Lowering.{lowers-nothing, lowers-then}
-use Rattle.steps.proofs.Dropping.{corner-nil, corner-kept, corner-gone}
+use Rattle.edit_laws.proofs.Lowering.{lowers-nothing, lowers-then}
+use Rattle.patch.proofs.DroppedRows.{corner-nil, corner-kept, corner-gone}
 use Rattle.kill.proofs.drop_corner.Statement.{statement}
 use Rattle.kill.proofs.drop_corner.Tie as tie
 
 returns : tie.Need-returns
-returns c = (corner-nil _ _ _ _ (c .if1 .taken), lowers-nothing _ _, c .before .pre .3)
+returns c = (corner-nil _ _ _ _ (c .if1 .taken), lowers-nothing _ _, c .before .pre .0)
 
 touched-row-requires : tie.Need-touched-row-requires
 touched-row-requires c κs = search needs
@@ -16,7 +16,7 @@ same-length : tie.Need-same-length
 same-length c = search needs
 
 returns-2 : tie.Need-returns-2
-returns-2 c = (corner-kept _ _ _ _ (c .before .before .before .if1 .left) (c .before .touched-row .ensures) (c .if2 .taken), lowers-nothing _ _, c .before .before .before .before .pre .3)
+returns-2 c = (corner-kept _ _ _ _ (c .before .before .before .if1 .left) (c .before .touched-row .ensures) (c .if2 .taken), lowers-nothing _ _, c .before .before .before .before .pre .0)
 
 link-requires : tie.Need-link-requires
 link-requires c κs = search needs

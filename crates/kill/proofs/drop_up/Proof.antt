@@ -7,9 +7,9 @@ use lib.ListN.{length}
 use borrow.Author.Tests.{not-true, not-false}
 use borrow.Author.Needs.{needs}
 use Rattle.table.specs.Plain.{Plain}
-use Rattle.editing.specs.Tables.{Lowers, dropUp}
-use Rattle.editing.proofs.Lowering.{lowers-nothing, lowers-then}
-use Rattle.steps.proofs.Dropping.{up-end, up-nil, up-kept, up-on}
+use Rattle.edit_laws.specs.Tables.{Lowers, dropUp}
+use Rattle.edit_laws.proofs.Lowering.{lowers-nothing, lowers-then}
+use Rattle.patch.proofs.DroppedRows.{up-end, up-nil, up-kept, up-on}
 use Rattle.kill.proofs.drop_up.Statement.{statement}
 use Rattle.kill.proofs.drop_up.Tie as tie
 

@@ -1,7 +1,7 @@
 -- `edit::kill::free_row` meets its contract.
 -- Assumes nothing.
 use borrow.Author.Needs.{needs}
-use Rattle.editing.proofs.Lowering.{lowers-out}
+use Rattle.edit_laws.proofs.Lowering.{lowers-out}
 use Rattle.kill.proofs.free_row.Statement.{statement}
 use Rattle.kill.proofs.free_row.Tie as tie
 
@@ -18,7 +18,7 @@ returns : tie.Need-returns
 returns c =
     let pre = c .before .before .before .before .pre in
     let (e, p) = c .before .before .take-out .ensures in
-    (e, lowers-out _ _ _ (pre .0) (pre .3) _ (pre .2) e (c .lesser .ensures), p)
+    (e, lowers-out _ _ _ (pre .0 .sized .words) (pre .2) _ (pre .1) e (c .lesser .ensures), p)
 
 pub free-row-spec : {M : Type 1} → statement M
 free-row-spec = tie.close (tie.spec take-out-requires lesser-requires same-length returns)

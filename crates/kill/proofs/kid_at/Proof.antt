@@ -10,10 +10,10 @@ shared-slice-read-w : tie.Need-shared-slice-read-w
 shared-slice-read-w c = search needs
 
 cast-w : tie.Need-cast-w
-cast-w c = omega (arith, word-in (c .before .before .args .ws .now) (c .before .before .pre .3) (c .before .before .args .q) (c .before .before .pre .4))
+cast-w c = omega (arith, word-in (c .before .before .args .ws .now) (c .before .before .pre .2) (c .before .before .args .q) (c .before .before .pre .3))
 
 link-requires : tie.Need-link-requires
-link-requires c κs = omega (arith, word-in (c .before .before .args .ws .now) (c .before .before .pre .3) (c .before .before .args .q) (c .before .before .pre .4))
+link-requires c κs = (search needs, search needs, word-in (c .before .before .args .ws .now) (c .before .before .pre .2) (c .before .before .args .q) (c .before .before .pre .3))
 
 returns : tie.Need-returns
 returns c = search needs

@@ -28,7 +28,10 @@ still-border-requires : tie.Need-still-border-requires
 still-border-requires c κs = search needs
 
 refresh-levels-requires : tie.Need-refresh-levels-requires
-refresh-levels-requires c κs = (omega (arith, c .before .before .before .before .before .before .before .before .before .before .before .before .before .before .before .before .pre, c .before .before .before .before .clear-cell .kept), omega (arith, c .before .before .before .before .before .before .before .before .before .before .before .before .before .before .before .before .pre), omega (arith, c .before .before .before .before .before .before .before .before .before .before .before .before .before .before .before .before .pre), c .before .still-border .ensures .0)
+refresh-levels-requires c κs =
+    let b₁ = c .before in
+    let b₂ = b₁ .before .before .before in
+    (b₂ .clear-cell .ensures .2, omega (arith, b₂ .before .before .before .before .before .before .before .before .before .before .before .before .pre), b₁ .still-border .ensures .0)
 
 same-length : tie.Need-same-length
 same-length c = search needs

@@ -4,7 +4,7 @@ use mathlib.Core.Path.{ap, _∙_}
 use lib.ListN.{set}
 use borrow.Author.Needs.{needs}
 use Rattle.table.proofs.Bits.{plus-zero}
-use Rattle.editing.specs.Tables.{killValues}
+use Rattle.edit_laws.specs.Tables.{killValues}
 use Rattle.kill.proofs.kill_values.Statement.{statement}
 use Rattle.kill.proofs.kill_values.Tie as tie
 

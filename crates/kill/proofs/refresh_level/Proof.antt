@@ -1,46 +1,28 @@
--- `edit::kill::refresh_level` meets its contract.
+-- `kill::refresh_level` meets its contract.
 -- Assumes nothing.
-use native.Mathlib.Omega.{arith}
 use borrow.Author.Needs.{needs}
-use Rattle.kill.proofs.Borders.{level-refreshed}
+use Rattle.kill.specs.Borders.{borderOf}
+use Rattle.kill.proofs.Borders.{level-refreshed, level-met}
 use Rattle.kill.proofs.refresh_level.Statement.{statement}
 use Rattle.kill.proofs.refresh_level.Tie as tie
 
-slice-aggregate-refresh-down : tie.Need-slice-aggregate-refresh-down
-slice-aggregate-refresh-down c = search needs
+pass-corners-requires : tie.Need-pass-corners-requires
+pass-corners-requires c κs = search needs
 
-refresh-down-requires : tie.Need-refresh-down-requires
-refresh-down-requires c κs = search needs
+pass-corners-requires-2 : tie.Need-pass-corners-requires-2
+pass-corners-requires-2 c κs = search needs
 
-slice-aggregate-refresh-down-2 : tie.Need-slice-aggregate-refresh-down-2
-slice-aggregate-refresh-down-2 c = search needs
+slice-aggregate-pass-down : tie.Need-slice-aggregate-pass-down
+slice-aggregate-pass-down c = search needs
 
-refresh-down-requires-2 : tie.Need-refresh-down-requires-2
-refresh-down-requires-2 c κs = search needs
+pass-down-requires : tie.Need-pass-down-requires
+pass-down-requires c κs = search needs
 
-slice-aggregate-refresh-down-3 : tie.Need-slice-aggregate-refresh-down-3
-slice-aggregate-refresh-down-3 c = search needs
+slice-aggregate-pass-down-2 : tie.Need-slice-aggregate-pass-down-2
+slice-aggregate-pass-down-2 c = search needs
 
-refresh-down-requires-3 : tie.Need-refresh-down-requires-3
-refresh-down-requires-3 c κs = search needs
-
-slice-aggregate-refresh-down-4 : tie.Need-slice-aggregate-refresh-down-4
-slice-aggregate-refresh-down-4 c = search needs
-
-refresh-down-requires-4 : tie.Need-refresh-down-requires-4
-refresh-down-requires-4 c κs = search needs
-
-slice-aggregate-refresh-down-5 : tie.Need-slice-aggregate-refresh-down-5
-slice-aggregate-refresh-down-5 c = search needs
-
-refresh-down-requires-5 : tie.Need-refresh-down-requires-5
-refresh-down-requires-5 c κs = search needs
-
-slice-aggregate-refresh-down-6 : tie.Need-slice-aggregate-refresh-down-6
-slice-aggregate-refresh-down-6 c = search needs
-
-refresh-down-requires-6 : tie.Need-refresh-down-requires-6
-refresh-down-requires-6 c κs = (omega (arith, c .before .before .before .before .before .before .before .before .before .before .before .before .before .before .before .before .before .before .before .before .before .before .pre, c .before .before .before .before .before .before .before .before .before .before .before .before .before .before .before .before .before .before .before .refresh-down .kept, c .before .before .before .before .before .before .before .before .before .before .before .before .before .before .before .refresh-down2 .kept, c .before .before .before .before .before .before .before .before .before .before .before .refresh-down3 .kept), omega (arith, c .before .before .before .before .before .before .before .before .before .before .before .before .before .before .before .before .before .before .before .before .before .before .pre), omega (arith, c .before .before .before .before .before .before .before .before .before .before .before .before .before .before .before .before .before .before .before .before .before .before .pre .3 .west), omega (arith, c .before .before .before .before .before .before .before .before .before .before .before .before .before .before .before .before .before .before .before .before .before .before .pre), tt)
+pass-down-requires-2 : tie.Need-pass-down-requires-2
+pass-down-requires-2 c κs = search needs
 
 same-length : tie.Need-same-length
 same-length c = search needs
@@ -50,26 +32,23 @@ returns c =
     let b₁ = c .before in
     let b₂ = b₁ .before .before .before .before in
     let b₃ = b₂ .before .before .before .before in
-    let b₄ = b₃ .before .before .before .before in
-    let b₅ = b₄ .before .before .before .before in
-    let b₆ = b₅ .before .before .before .before in
-    level-refreshed _ _ _ _ _ (b₆ .refresh-down .ensures) (b₅ .refresh-down2 .ensures) (b₄ .refresh-down3 .ensures) (b₃ .refresh-down4 .ensures) (b₂ .refresh-down5 .ensures) (b₁ .refresh-down6 .ensures)
+    let b₄ = b₃ .before .before .before in
+    let a = b₄ .before .before .args in
+    let (h₁, p₁, k₁) = b₄ .pass-corners .ensures in
+    let (h₂, p₂, k₂) = b₃ .pass-corners2 .ensures in
+    let (h₃, p₃, k₃) = b₂ .pass-down .ensures in
+    let (h₄, p₄, k₄) = b₁ .pass-down2 .ensures in
+    (level-refreshed (borderOf (a .b)) (a .cap) (a .d) (a .e) (a .t .now) h₁ h₂ h₃ h₄, p₄, level-met (borderOf (a .b)) (a .cap) (a .d) (a .e) (a .t .now) h₁ h₂ h₃ h₄ k₂ k₃ k₄)
 
 pub refresh-level-spec : {M : Type 1} → statement M
 refresh-level-spec =
     tie.close
     (tie.spec
-    slice-aggregate-refresh-down
-    refresh-down-requires
-    slice-aggregate-refresh-down-2
-    refresh-down-requires-2
-    slice-aggregate-refresh-down-3
-    refresh-down-requires-3
-    slice-aggregate-refresh-down-4
-    refresh-down-requires-4
-    slice-aggregate-refresh-down-5
-    refresh-down-requires-5
-    slice-aggregate-refresh-down-6
-    refresh-down-requires-6
+    pass-corners-requires
+    pass-corners-requires-2
+    slice-aggregate-pass-down
+    pass-down-requires
+    slice-aggregate-pass-down-2
+    pass-down-requires-2
     same-length
     returns)

@@ -1,6 +1,5 @@
 -- `trials::main` is safe and ends. The measure is the number of turns that are left.
 -- Assumes nothing.
-use borrow.Author.Needs.{needs}
 use native.Mathlib.Omega.{arith}
 use Rattle.trials.proofs.main.Statement.{statement}
 use Rattle.trials.proofs.main.Tie as tie

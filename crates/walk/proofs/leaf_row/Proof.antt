@@ -1,7 +1,7 @@
 -- `walk::leaf_row` meets its contract.
 -- Assumes nothing.
 use borrow.Author.Needs.{needs}
-use Rattle.walk.specs.Rows.{leafRow}
+use Rattle.walk.specs.WalkRows.{leafRow}
 use Rattle.walk.proofs.leaf_row.Statement.{statement}
 use Rattle.walk.proofs.leaf_row.Tie as tie
 

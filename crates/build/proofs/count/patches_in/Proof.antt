@@ -2,10 +2,10 @@
 -- Assumes nothing.
 use Prim.Native.Nat.{_+_, _*_, _-_, _≤_}
 use mathlib.Core.Path.{_≡_, sym}
+use Rattle.number_laws.specs.Sizes.{levelsSize}
 use Rattle.mesh.specs.Headers.{headerOf}
-use Rattle.geometry.proofs.Base.{base-range}
-use Rattle.numbering.proofs.Sizes.{levelsSize}
-use Rattle.build.proofs.Sizes.{sizes-none, sizes-more, sizes-all}
+use Rattle.place_laws.proofs.Base.{base-range}
+use Rattle.build.proofs.LevelSizes.{sizes-none, sizes-more, sizes-all}
 use native.Mathlib.Omega.{arith}
 use Rattle.build.proofs.count.patches_in.Statement.{statement}
 use Rattle.build.proofs.count.patches_in.Tie as tie

@@ -4,7 +4,7 @@ use Prim.Native.Nat.{_+_, _-_, _*_, _≤_}
 use mathlib.Core.Path.{_≡_, _∙_}
 use lib.ListN.{length, take}
 use Rattle.mesh.specs.Picture.{rowWords}
-use Rattle.editing.specs.Built.{emptyTable}
+use Rattle.edit_laws.specs.Built.{emptyTable}
 use Rattle.build.proofs.Empty.{empty-start, empty-on, empty-done}
 use native.Mathlib.Omega.{arith}
 use Rattle.build.proofs.fill.empty_table.Statement.{statement}

@@ -1,7 +1,7 @@
 -- `build::ground::put_cell` meets its contract.
 -- Assumes nothing.
 use Rattle.mesh.specs.Headers.{headerOf}
-use Rattle.build.proofs.Grounds.{row-out, row-in}
+use Rattle.build.proofs.GroundRow.{row-out, row-in}
 use borrow.Author.Needs.{needs}
 use Rattle.build.proofs.ground.put_cell.Statement.{statement}
 use Rattle.build.proofs.ground.put_cell.Tie as tie

@@ -4,8 +4,8 @@ use Prim.Native.Nat.{_-_, _≤_}
 use mathlib.Core.Path.{_≡_, refl, sym, _∙_}
 use lib.ListN.{length}
 use Rattle.mesh.specs.Headers.{headerOf}
-use Rattle.editing.specs.Built.{eachRow, groundRow}
-use Rattle.build.proofs.Turns.{rows-on, rows-done}
+use Rattle.edit_laws.specs.Built.{eachRow, groundRow}
+use Rattle.build.proofs.RowTurns.{rows-on, rows-done}
 use native.Mathlib.Omega.{arith}
 use Rattle.build.proofs.ground.put_ground.Statement.{statement}
 use Rattle.build.proofs.ground.put_ground.Tie as tie

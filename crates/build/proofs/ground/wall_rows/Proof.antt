@@ -3,10 +3,10 @@
 use Prim.Native.Nat.{_-_, _≤_}
 use mathlib.Core.Path.{_≡_, refl, sym, _∙_}
 use lib.ListN.{length}
-use Rattle.editing.specs.Anew.{wallRow}
-use Rattle.editing.specs.Built.{eachRow}
+use Rattle.edit_laws.specs.Anew.{wallRow}
+use Rattle.edit_laws.specs.Built.{eachRow}
 use Rattle.table.specs.Plain.{Plain}
-use Rattle.build.proofs.Turns.{rows-on, rows-done}
+use Rattle.build.proofs.RowTurns.{rows-on, rows-done}
 use native.Mathlib.Omega.{arith}
 use Rattle.build.proofs.ground.wall_rows.Statement.{statement}
 use Rattle.build.proofs.ground.wall_rows.Tie as tie
@@ -18,10 +18,10 @@ abbrev μ-loop : tie.MeasureT-loop
 μ-loop t₀ cap d a b n₀ t n = b - n
 
 loop-holds : tie.Need-loop-holds Inv-loop μ-loop
-loop-holds c = (omega arith, omega arith, refl, refl, c .pre .5)
+loop-holds c = (omega arith, omega arith, refl, refl, c .pre .0)
 
 wall-row-requires : tie.Need-wall-row-requires Inv-loop μ-loop
-wall-row-requires c κs = (omega arith, omega arith, omega arith, omega arith, c .before .before .loop .inv .4)
+wall-row-requires c κs = (c .before .before .loop .inv .4, omega arith, omega arith)
 
 add-n : tie.Need-add-n Inv-loop μ-loop
 add-n c = omega arith

@@ -40,7 +40,7 @@ returns c =
     let s = k .before in
     let kid = k .kid-digits .ensures .2 in
     let a = s .args in
-    kid-not _ _ _ (a .up) (a .p) _ _ (a .next) (a .t .now) (s .pre .5) (kid .col) (kid .row) (b .before .before .before .word .ensures) (b .before .word2 .ensures) (b .in-full .ensures) (c .if1 .taken)
+    kid-not _ _ _ (a .up) (a .p) _ _ (a .next) (a .t .now) (s .pre .3) (kid .l-is) (kid .m-is) (b .before .before .before .word .ensures) (b .before .word2 .ensures) (b .in-full .ensures) (c .if1 .taken)
 
 link-in-requires : tie.Need-link-in-requires
 link-in-requires c κs =
@@ -48,17 +48,7 @@ link-in-requires c κs =
     let k = b .before .before .before .before .before in
     let s = k .before in
     let kid = k .kid-digits .ensures .2 in
-    let a = s .args in (
-      omega arith,
-      omega arith,
-      s .pre .5 .parent-in,
-      kid-room _ _ _ (a .up) (a .p) _ _ (a .next) (a .t .now) (s .pre .5) (kid .col) (kid .row) (b .before .before .before .word .ensures) (b .before .word2 .ensures) (b .in-full .ensures) (c .before .if1 .left),
-      omega arith,
-      omega arith,
-      omega arith,
-      kid-small _ _ _ (s .pre .5),
-      s .pre .4,
-    )
+    let a = s .args in (s .pre .0, s .pre .3 .parent-in, kid-room _ _ _ (a .up) (a .p) _ _ (a .next) (a .t .now) (s .pre .3) (kid .l-is) (kid .m-is) (b .before .before .before .word .ensures) (b .before .word2 .ensures) (b .in-full .ensures) (c .before .if1 .left), omega arith, omega arith, omega arith, kid-small _ _ _ (s .pre .3))
 
 add-result : tie.Need-add-result
 add-result c = search needs
@@ -73,7 +63,7 @@ returns-2 c =
     let s = k .before in
     let kid = k .kid-digits .ensures .2 in
     let a = s .args in
-    kid-new _ _ _ (a .up) (a .p) _ _ (a .next) (a .t .now) (s .pre .5) (kid .col) (kid .row) (b .before .before .before .word .ensures) (b .before .word2 .ensures) (b .in-full .ensures) (c .before .before .before .if1 .left) (c .before .link-in .ensures .0)
+    kid-new _ _ _ (a .up) (a .p) _ _ (a .next) (a .t .now) (s .pre .3) (kid .l-is) (kid .m-is) (b .before .before .before .word .ensures) (b .before .word2 .ensures) (b .in-full .ensures) (c .before .before .before .if1 .left) (c .before .link-in .ensures .0)
 
 pub grow-kid-spec : {M : Type 1} → statement M
 grow-kid-spec =

@@ -1,13 +1,14 @@
 -- `build::grow::grow_level` meets its contract. The invariant: the rows left make of the table what all make of the one at the start, and there is room for their kids.
 -- Assumes nothing.
+use borrow.Author.Needs.{needs}
 use Prim.Native.Nat.{_-_, _≤_}
 use mathlib.Core.Path.{_≡_, refl, sym, _∙_}
 use lib.ListN.{length}
+use Rattle.edit_laws.specs.Growing.{LevelToGrow}
 use Rattle.mesh.specs.Headers.{headerOf}
-use Rattle.editing.specs.Built.{growLevel}
-use Rattle.editing.proofs.Sprouts.{LevelToGrow}
-use Rattle.build.specs.Steps.{growth}
-use Rattle.build.proofs.Turns.{rows-on, rows-done}
+use Rattle.edit_laws.specs.Built.{growLevel}
+use Rattle.build.specs.BuildSteps.{growth}
+use Rattle.build.proofs.RowTurns.{rows-on, rows-done}
 use Rattle.build.proofs.Growths.{row-kids, row-rest}
 use native.Mathlib.Omega.{arith}
 use Rattle.build.proofs.grow.grow_level.Statement.{statement}
@@ -20,10 +21,10 @@ abbrev μ-loop : tie.MeasureT-loop
 μ-loop t₀ cap header d up p next q₀ k₀ t q k = next - q
 
 loop-holds : tie.Need-loop-holds Inv-loop μ-loop
-loop-holds c = (omega arith, omega arith, refl, refl, c .pre .6)
+loop-holds c = (omega arith, omega arith, refl, refl, c .pre .5)
 
 grow-kids-requires : tie.Need-grow-kids-requires Inv-loop μ-loop
-grow-kids-requires c κs = (omega arith, omega arith, omega arith, c .before .before .before .pre .3, row-kids _ _ _ (c .before .before .before .pre .3) _ (c .before .before .loop .q) _ (growth (c .before .before .loop .t) (c .before .before .loop .k)) (omega arith) (c .before .before .loop .inv .4))
+grow-kids-requires c κs = (search needs, omega arith, c .before .before .before .pre .2, row-kids _ _ _ (c .before .before .before .pre .2) _ (c .before .before .loop .q) _ (growth (c .before .before .loop .t) (c .before .before .loop .k)) (omega arith) (c .before .before .loop .inv .4))
 
 add-q : tie.Need-add-q Inv-loop μ-loop
 add-q c = omega arith
@@ -34,7 +35,7 @@ loop-less c = omega arith
 loop-again : tie.Need-loop-again Inv-loop μ-loop
 loop-again c =
     let l = c .before .before .before .before .loop in
-    let e = c .before .before .before .before .before .pre .3 in (
+    let e = c .before .before .before .before .before .pre .2 in (
       omega arith,
       omega arith,
       c .before .grow-kids .kept .0 ∙ l .inv .2,

@@ -1,12 +1,14 @@
 -- `build::grow::grow_levels` meets its contract. The invariant: the levels left make of the table what all make of the one at the start, and there is room for them.
 -- Assumes nothing.
+use borrow.Author.Needs.{needs}
 use Prim.Native.Nat.{_≤_}
 use mathlib.Core.Path.{_≡_, refl, _∙_}
 use lib.ListN.{length}
+use Rattle.edit_laws.specs.Growing.{LevelsToGrow}
 use Rattle.mesh.specs.Headers.{headerOf}
-use Rattle.editing.specs.Built.{growLevels, groundFrom}
-use Rattle.editing.proofs.Sprouts.{LevelsToGrow, levels-bounds}
-use Rattle.build.specs.Steps.{growth}
+use Rattle.edit_laws.specs.Built.{growLevels, groundFrom}
+use Rattle.edit_laws.proofs.Sprouts.{levels-bounds}
+use Rattle.build.specs.BuildSteps.{growth}
 use Rattle.build.proofs.Growths.{next-level, levels-on, ground-on, levels-left, reached}
 use native.Mathlib.Omega.{arith}
 use Rattle.build.proofs.grow.grow_levels.Statement.{statement}
@@ -19,7 +21,7 @@ abbrev μ-loop : tie.MeasureT-loop
 μ-loop t₀ cap header d up₀ p₀ k₀ t up p k = up
 
 loop-holds : tie.Need-loop-holds Inv-loop μ-loop
-loop-holds c = (omega arith, refl, refl, refl, c .pre .4)
+loop-holds c = (omega arith, refl, refl, refl, c .pre .3)
 
 sub-up : tie.Need-sub-up Inv-loop μ-loop
 sub-up c = omega arith
@@ -27,15 +29,7 @@ sub-up c = omega arith
 grow-level-requires : tie.Need-grow-level-requires Inv-loop μ-loop
 grow-level-requires c κs =
     let l = c .before .before .loop in
-    let (a, b, e) = levels-bounds (l .up) (l .inv .4) in (
-      omega arith,
-      omega arith,
-      omega arith,
-      c .before .before .before .pre .3,
-      b,
-      e,
-      next-level _ _ _ (c .before .before .before .pre .3) (l .up) (l .p) (omega arith) (growth (l .t) (l .k)) (l .inv .4),
-    )
+    let (a, b, e) = levels-bounds (l .up) (l .inv .4) in (search needs, omega arith, c .before .before .before .pre .2, b, e, next-level _ _ _ (c .before .before .before .pre .2) (l .up) (l .p) (omega arith) (growth (l .t) (l .k)) (l .inv .4))
 
 loop-less : tie.Need-loop-less Inv-loop μ-loop
 loop-less c = omega arith
@@ -43,7 +37,7 @@ loop-less c = omega arith
 loop-again : tie.Need-loop-again Inv-loop μ-loop
 loop-again c =
     let l = c .before .before .before .before .loop in
-    let e = c .before .before .before .before .before .pre .3 in
+    let e = c .before .before .before .before .before .pre .2 in
     let s = c .before .grow-level .ensures in (
       omega arith,
       c .before .grow-level .kept .0 ∙ l .inv .1,
@@ -58,7 +52,7 @@ same-length c = c .before .loop .inv .1
 returns : tie.Need-returns Inv-loop μ-loop
 returns c =
     let l = c .before .loop in
-    reached _ _ _ (c .before .before .pre .3) (l .up) (l .p) _ (growth (l .t) (l .k)) (omega arith) (l .inv .2) (l .inv .3) (l .inv .4)
+    reached _ _ _ (c .before .before .pre .2) (l .up) (l .p) _ (growth (l .t) (l .k)) (omega arith) (l .inv .2) (l .inv .3) (l .inv .4)
 
 pub grow-levels-spec : {M : Type 1} → statement M
 grow-levels-spec =

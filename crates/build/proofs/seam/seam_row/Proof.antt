@@ -1,6 +1,5 @@
 -- `build::seam::seam_row` meets its contract.
 -- Assumes nothing.
-use native.Mathlib.Omega.{arith}
 use borrow.Author.Needs.{needs}
 use mathlib.Core.Path.{refl}
 use Rattle.mesh.specs.Headers.{headerOf}
@@ -33,7 +32,7 @@ returns : tie.Need-returns
 returns c =
     let e = c .before .before .before .before .before .before .before in
     let s = e .before .before .before .before in
-    sew-north (headerOf (s .args .header) .grid) _ _ _ _ (c .before .before .before .before .before .word2 .ensures) (e .before .word .ensures) (s .pre .6) (e .if1 .taken) (c .before .before .before .down-to .ensures .0) (c .before .before .before .down-to .ensures .1) (c .before .put .ensures)
+    sew-north (headerOf (s .args .header) .grid) _ _ _ _ (c .before .before .before .before .before .word2 .ensures) (e .before .word .ensures) (s .pre .0) (e .if1 .taken) (c .before .before .before .down-to .ensures .0) (c .before .before .before .down-to .ensures .1) (c .before .put .ensures)
 
 same-length-2 : tie.Need-same-length-2
 same-length-2 c = search needs
@@ -42,7 +41,7 @@ returns-2 : tie.Need-returns-2
 returns-2 c =
     let e = c .before in
     let s = e .before .before .before .before in
-    sew-not (headerOf (s .args .header) .grid) _ _ _ _ refl (e .before .word .ensures) (s .pre .6) (e .if1 .left) (c .if2 .taken) refl
+    sew-not (headerOf (s .args .header) .grid) _ _ _ _ refl (e .before .word .ensures) (s .pre .0) (e .if1 .left) (c .if2 .taken) refl
 
 word-requires-3 : tie.Need-word-requires-3
 word-requires-3 c κs = search needs
@@ -63,7 +62,7 @@ returns-3 : tie.Need-returns-3
 returns-3 c =
     let e = c .before .before .before .before .before .before .before .before in
     let s = e .before .before .before .before in
-    sew-south (headerOf (s .args .header) .grid) _ _ _ _ (c .before .before .before .before .before .word3 .ensures) (e .before .word .ensures) (s .pre .6) (e .if1 .left) (c .before .before .before .before .before .before .before .if2 .left) (c .before .before .before .down-to2 .ensures .0) (c .before .before .before .down-to2 .ensures .1) (c .before .put2 .ensures)
+    sew-south (headerOf (s .args .header) .grid) _ _ _ _ (c .before .before .before .before .before .word3 .ensures) (e .before .word .ensures) (s .pre .0) (e .if1 .left) (c .before .before .before .before .before .before .before .if2 .left) (c .before .before .before .down-to2 .ensures .0) (c .before .before .before .down-to2 .ensures .1) (c .before .put2 .ensures)
 
 pub seam-row-spec : {M : Type 1} → statement M
 seam-row-spec =

@@ -6,9 +6,9 @@ use mathlib.Core.Path.{_≡_, refl, sym, _∙_}
 use lib.ListN.{length}
 use borrow.Author.Tests.{not-true, not-false}
 use Rattle.mesh.specs.Headers.{headerOf}
-use Rattle.editing.specs.Built.{eachRow, seamRow}
+use Rattle.edit_laws.specs.Built.{eachRow, seamRow}
 use Rattle.table.specs.Plain.{Plain}
-use Rattle.build.proofs.Turns.{rows-on, rows-done}
+use Rattle.build.proofs.RowTurns.{rows-on, rows-done}
 use Rattle.build.proofs.seam.seam_rows.Statement.{statement}
 use Rattle.build.proofs.seam.seam_rows.Tie as tie
 
@@ -27,10 +27,10 @@ returns : tie.Need-returns Inv-loop μ-loop
 returns c = rw (sym (c .before .is-ring .ensures) ∙ not-true _ (c .if1 .taken))
 
 loop-holds : tie.Need-loop-holds Inv-loop μ-loop
-loop-holds c = (omega arith, omega arith, refl, refl, c .before .before .pre .7)
+loop-holds c = (omega arith, omega arith, refl, refl, c .before .before .pre .0)
 
 seam-row-requires : tie.Need-seam-row-requires Inv-loop μ-loop
-seam-row-requires c κs = (omega arith, omega arith, omega arith, omega arith, omega arith, omega arith, c .before .before .loop .inv .4)
+seam-row-requires c κs = (c .before .before .loop .inv .4, omega arith, omega arith, omega arith, omega arith)
 
 add-n : tie.Need-add-n Inv-loop μ-loop
 add-n c = omega arith

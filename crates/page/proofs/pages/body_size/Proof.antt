@@ -3,7 +3,7 @@
 use native.Mathlib.Omega.{arith}
 use borrow.Author.Needs.{needs}
 use Rattle.mesh.specs.Headers.{headerOf}
-use Rattle.page.proofs.Paged.{body-size}
+use Rattle.page.proofs.PagePut.{body-size}
 use Rattle.page.proofs.pages.body_size.Tie as tie
 use Rattle.page.proofs.pages.body_size.Statement.{statement}
 

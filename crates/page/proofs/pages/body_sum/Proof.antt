@@ -6,9 +6,9 @@ use lib.Seq.{length-take-le}
 use borrow.Author.Needs.{needs}
 use Rattle.mesh.specs.Page.{total}
 use Rattle.mesh.specs.Headers.{headerOf}
-use Rattle.page.proofs.Puts.{text-put, put-front}
-use Rattle.page.proofs.Worded.{head-short}
-use Rattle.page.proofs.Paged.{body-total}
+use Rattle.lines.proofs.Puts.{text-put, put-front}
+use Rattle.lines.proofs.Worded.{head-short}
+use Rattle.page.proofs.PagePut.{body-total}
 use Rattle.page.proofs.pages.body_sum.Tie as tie
 use Rattle.page.proofs.pages.body_sum.Statement.{statement}
 

@@ -6,7 +6,7 @@ use lib.Dec.{leb}
 use borrow.Author.Needs.{needs}
 use borrow.Author.Tests.{le-leb}
 use Rattle.mesh.specs.Headers.{headerOf}
-use Rattle.page.proofs.Paged.{page-short, page-size}
+use Rattle.page.proofs.PagePut.{page-short, page-size}
 use Rattle.page.proofs.pages.fits.Tie as tie
 use Rattle.page.proofs.pages.fits.Statement.{statement}
 

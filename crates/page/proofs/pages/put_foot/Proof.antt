@@ -2,8 +2,8 @@
 -- Assumes nothing.
 use native.Mathlib.Omega.{arith}
 use borrow.Author.Needs.{needs}
-use Rattle.page.proofs.Puts.{put-more, put-as, text-put}
-use Rattle.page.proofs.Worded.{foot-line, foot-size, number-put}
+use Rattle.lines.proofs.Puts.{put-more, put-as, text-put}
+use Rattle.lines.proofs.Worded.{foot-line, foot-size, number-put}
 use Rattle.page.proofs.pages.put_foot.Tie as tie
 use Rattle.page.proofs.pages.put_foot.Statement.{statement}
 

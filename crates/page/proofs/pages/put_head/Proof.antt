@@ -3,8 +3,8 @@
 use native.Mathlib.Omega.{arith}
 use borrow.Author.Needs.{needs}
 use Rattle.mesh.specs.Headers.{headerOf}
-use Rattle.page.proofs.Puts.{put-more, put-as, text-put}
-use Rattle.page.proofs.Worded.{head-line, head-size, number-put}
+use Rattle.lines.proofs.Puts.{put-more, put-as, text-put}
+use Rattle.lines.proofs.Worded.{head-line, head-size, number-put}
 use Rattle.page.proofs.pages.put_head.Tie as tie
 use Rattle.page.proofs.pages.put_head.Statement.{statement}
 

@@ -2,8 +2,8 @@
 -- Assumes nothing.
 use borrow.Author.Needs.{needs}
 use Rattle.mesh.specs.Headers.{headerOf}
-use Rattle.page.proofs.Puts.{put-as}
-use Rattle.page.proofs.Worded.{ring-word, open-word}
+use Rattle.lines.proofs.Puts.{put-as}
+use Rattle.lines.proofs.Worded.{ring-word, open-word}
 use Rattle.page.proofs.pages.put_mode.Tie as tie
 use Rattle.page.proofs.pages.put_mode.Statement.{statement}
 

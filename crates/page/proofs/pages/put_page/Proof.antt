@@ -6,8 +6,8 @@ use mathlib.Core.Path.{refl, sym, ap, _∙_}
 use lib.Seq.{length-take-le}
 use borrow.Author.Needs.{needs}
 use Rattle.mesh.specs.Headers.{headerOf}
-use Rattle.page.proofs.Puts.{text-put}
-use Rattle.page.proofs.Paged.{page-long, page-lines, body-sum, page-put}
+use Rattle.lines.proofs.Puts.{text-put}
+use Rattle.page.proofs.PagePut.{page-long, page-lines, body-sum, page-put}
 use Rattle.page.proofs.pages.put_page.Tie as tie
 use Rattle.page.proofs.pages.put_page.Statement.{statement}
 

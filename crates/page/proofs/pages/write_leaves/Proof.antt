@@ -2,8 +2,8 @@
 -- Assumes nothing.
 use borrow.Author.Needs.{needs}
 use Rattle.mesh.specs.Headers.{headerOf}
-use Rattle.page.specs.Rows.{pageOf}
-use Rattle.page.proofs.Paged.{page-over, page-room, page-refused, page-written}
+use Rattle.page.specs.PageRows.{pageOf}
+use Rattle.page.proofs.PagePut.{page-over, page-room, page-refused, page-written}
 use Rattle.page.proofs.pages.write_leaves.Tie as tie
 use Rattle.page.proofs.pages.write_leaves.Statement.{statement}
 

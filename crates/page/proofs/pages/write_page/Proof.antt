@@ -5,10 +5,11 @@ use mathlib.Core.Path.{sym, ap, _∙_}
 use lib.Seq.{length-take-le}
 use borrow.Author.Needs.{needs}
 use Rattle.mesh.specs.Headers.{headerOf}
-use Rattle.page.specs.Rows.{rowPage, rowOut, pageOf, pageOut}
-use Rattle.page.proofs.Puts.{text-put, put-front}
-use Rattle.page.proofs.Worded.{leaves-within}
-use Rattle.page.proofs.Paged.{found-few, found-within}
+use Rattle.mesh.specs.Call.{writing}
+use Rattle.page.specs.PageRows.{rowPage, rowOut, pageOf}
+use Rattle.lines.proofs.Puts.{text-put, put-front}
+use Rattle.page.proofs.LeafRows.{leaves-within}
+use Rattle.page.proofs.PagePut.{found-few, found-within}
 use Rattle.page.proofs.pages.write_page.Tie as tie
 use Rattle.page.proofs.pages.write_page.Statement.{statement}
 
@@ -29,7 +30,7 @@ slice-aggregate-write-leaves c = sym (length-take-le _ _ (omega (arith, c .befor
 
 write-leaves-requires : tie.Need-write-leaves-requires
 write-leaves-requires c κs =
-    (c .before .before .before .before .before .before .before .pre .0, c .before .before .before .before .before .before .before .pre .2, c .before .before .before .before .before .before .before .pre .3, found-few (c .before .before .before .find-leaves .ensures) (c .before .before .before .before .before .before .before .pre .4) (c .before .before .before .before .before .before .before .pre .4), found-within (c .before .before .before .find-leaves .ensures) (c .before .before .before .before .before .before .before .pre .4) _ (leaves-within _ _ _ _ (c .before .before .before .before .before .before .before .pre .1)))
+    (c .before .before .before .before .before .before .before .pre .0 .words, c .before .before .before .before .before .before .before .pre .2, c .before .before .before .before .before .before .before .pre .0 .small, found-few (c .before .before .before .find-leaves .ensures) (c .before .before .before .before .before .before .before .pre .3) (c .before .before .before .before .before .before .before .pre .3), found-within (c .before .before .before .find-leaves .ensures) (c .before .before .before .before .before .before .before .pre .3) _ (leaves-within _ _ _ _ (c .before .before .before .before .before .before .before .pre .1)))
 
 same-length : tie.Need-same-length
 same-length c = search needs
@@ -39,7 +40,7 @@ unfolding rowOut rowPage
 returns c =
     let a = c .before .before .before .before .before .before .before .before .before .before .args in
     c .before .before .write-leaves .ensures
-    ∙ ap (λ ns. pageOut (pageOf (headerOf (a .header)) (a .t .now) (a .v .now) ns) (a .out .now)) (put-front (c .before .before .before .before .before .before .find-leaves .ensures) (c .before .before .before .before .before .before .before .before .before .before .pre .4))
+    ∙ ap (λ ns. writing (pageOf (headerOf (a .header)) (a .t .now) (a .v .now) ns) (a .out .now)) (put-front (c .before .before .before .before .before .before .find-leaves .ensures) (c .before .before .before .before .before .before .before .before .before .before .pre .3))
 
 pub write-page-spec : {M : Type 1} → statement M
 write-page-spec =

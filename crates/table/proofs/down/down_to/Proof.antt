@@ -41,7 +41,7 @@ kid-word-requires c κs = (omega arith, omega arith)
 named-by-requires : tie.Need-named-by-requires Inv-loop μ-loop
 named-by-requires c κs =
     let p = c .before .before .before .before .pre in
-    (p .0, p .2, c .before .before .loop .inv .1, omega (arith, c .kid-word .ensures .0), p .4)
+    (p .0, c .before .before .loop .inv .1, omega (arith, c .kid-word .ensures .0))
 
 loop-less : tie.Need-loop-less Inv-loop μ-loop
 loop-less c = search needs

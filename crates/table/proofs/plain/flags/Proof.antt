@@ -6,7 +6,7 @@ use Rattle.table.proofs.plain.flags.Statement.{statement}
 use Rattle.table.proofs.plain.flags.Tie as tie
 
 word-requires : tie.Need-word-requires
-word-requires c κs = (omega arith, word-unsigned (c .args .t .now) (c .args .n) 12 (c .pre .2 .flags (c .args .n) (c .pre .1)))
+word-requires c κs = (omega arith, word-unsigned (c .args .t .now) (c .args .n) 12 (c .pre .0 .flags (c .args .n) (c .pre .1)))
 
 returns : tie.Need-returns
 returns c = c .word .ensures

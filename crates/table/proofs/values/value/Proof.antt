@@ -2,7 +2,7 @@
 -- Assumes nothing.
 use lib.Ieee.{nan}
 use Rattle.mesh.specs.State.{plusZero}
-use Rattle.table.proofs.Rows.{getD-any}
+use Rattle.table.proofs.PutRows.{getD-any}
 use borrow.Author.Needs.{needs}
 use Rattle.table.proofs.values.value.Statement.{statement}
 use Rattle.table.proofs.values.value.Tie as tie

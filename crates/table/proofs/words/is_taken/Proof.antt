@@ -11,11 +11,11 @@ returns c = taken-nil _ _ _ (c .if1 .taken)
 returns-2 : tie.Need-returns-2
 returns-2 c = taken-past _ _ _ (c .if2 .taken)
 
-is-vacant-requires : tie.Need-is-vacant-requires
-is-vacant-requires c κs = search needs
+is-free-requires : tie.Need-is-free-requires
+is-free-requires c κs = search needs
 
 returns-3 : tie.Need-returns-3
-returns-3 c = taken-there _ _ _ _ (c .before .before .if1 .left) (c .before .if2 .left) (c .is-vacant .ensures)
+returns-3 c = taken-there _ _ _ _ (c .before .before .if1 .left) (c .before .if2 .left) (c .is-free .ensures)
 
 pub is-taken-spec : {M : Type 1} → statement M
-is-taken-spec = tie.close (tie.spec returns returns-2 is-vacant-requires returns-3)
+is-taken-spec = tie.close (tie.spec returns returns-2 is-free-requires returns-3)

@@ -31,7 +31,7 @@ returns c =
     let p1 = c .before in
     let p2 = p1 .before in
     let p3 = p2 .before in
-    rw (← p2 .raw .ensures, toZ-ofZ {z = p2 .raw .result} (sfits-of (p2 .raw .ok))) (link-kept _ (p3 .pre .3) (plus {z = p2 .raw .result} (sfits-of (p2 .raw .ok)) (p1 .if1 .taken)) (rw (toZ-ofZ {z = p2 .raw .result} (sfits-of (p2 .raw .ok))) at (c .if2 .taken)))
+    rw (← p2 .raw .ensures, toZ-ofZ {z = p2 .raw .result} (sfits-of (p2 .raw .ok))) (link-kept _ (p3 .pre .0 .small) (plus {z = p2 .raw .result} (sfits-of (p2 .raw .ok)) (p1 .if1 .taken)) (rw (toZ-ofZ {z = p2 .raw .result} (sfits-of (p2 .raw .ok))) at (c .if2 .taken)))
 
 returns-2 : tie.Need-returns-2
 unfolding linkOf wordOf
@@ -39,14 +39,14 @@ returns-2 c =
     let p1 = c .before in
     let p2 = p1 .before in
     let p3 = p2 .before in
-    rw (← p2 .raw .ensures) (link-past _ (p3 .pre .3) (plus {z = p2 .raw .result} (sfits-of (p2 .raw .ok)) (p1 .if1 .taken)) (rw (toZ-ofZ {z = p2 .raw .result} (sfits-of (p2 .raw .ok))) at (c .if2 .left)))
+    rw (← p2 .raw .ensures) (link-past _ (p3 .pre .0 .small) (plus {z = p2 .raw .result} (sfits-of (p2 .raw .ok)) (p1 .if1 .taken)) (rw (toZ-ofZ {z = p2 .raw .result} (sfits-of (p2 .raw .ok))) at (c .if2 .left)))
 
 returns-3 : tie.Need-returns-3
 unfolding linkOf wordOf
 returns-3 c =
     let p1 = c .before in
     let p2 = p1 .before in
-    rw (← p1 .raw .ensures) (link-none _ (p2 .pre .3) (minus {z = p1 .raw .result} (sfits-of (p1 .raw .ok)) (c .if1 .left)))
+    rw (← p1 .raw .ensures) (link-none _ (p2 .pre .0 .small) (minus {z = p1 .raw .result} (sfits-of (p1 .raw .ok)) (c .if1 .left)))
 
 pub link-spec : {M : Type 1} → statement M
 link-spec =

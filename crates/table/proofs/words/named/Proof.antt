@@ -22,7 +22,7 @@ returns : tie.Need-returns
 unfolding linkOf wordOf
 returns c =
     let p1 = c .before in
-    rw (← c .raw .ensures) (within-is (p1 .args .cap) (p1 .pre .3) {z = c .raw .result} (sfits-of (c .raw .ok)) ∙ named-is (code (c .raw .result)) (p1 .args .cap))
+    rw (← c .raw .ensures) (within-is (p1 .args .cap) (p1 .pre .0 .small) {z = c .raw .result} (sfits-of (c .raw .ok)) ∙ named-is (code (c .raw .result)) (p1 .args .cap))
 
 pub named-spec : {M : Type 1} → statement M
 named-spec = tie.close (tie.spec cast-top cast-top-2 raw-requires returns)

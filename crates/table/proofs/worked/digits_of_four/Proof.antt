@@ -1,6 +1,6 @@
 -- `table::digits_of_four` meets its contract.
 -- Assumes nothing.
-use Rattle.table.specs.Digits.{four}
+use Rattle.table.specs.FlagDigits.{four}
 use borrow.Author.Needs.{needs}
 use Rattle.table.proofs.worked.digits_of_four.Statement.{statement}
 use Rattle.table.proofs.worked.digits_of_four.Tie as tie

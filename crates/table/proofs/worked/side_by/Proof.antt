@@ -13,13 +13,13 @@ add-a : tie.Need-add-a
 add-a c =
     let p1 = c .before in
     let p2 = p1 .before in
-    omega (arith, small _ _ (p2 .pre .5) (p1 .wind .ensures))
+    omega (arith, small _ _ (p2 .pre .4) (p1 .wind .ensures))
 
 add-b : tie.Need-add-b
 add-b c =
     let p2 = c .before .before in
     let p3 = p2 .before in
-    omega (arith, small _ _ (p3 .pre .5) (p2 .wind .ensures))
+    omega (arith, small _ _ (p3 .pre .4) (p2 .wind .ensures))
 
 add-hub : tie.Need-add-hub
 add-hub c = search needs
@@ -37,13 +37,13 @@ add-kid-word : tie.Need-add-kid-word
 add-kid-word c =
     let p5 = c .before .before .before .before .before in
     let p6 = p5 .before in
-    omega (arith, small _ _ (p6 .pre .5) (p5 .wind .ensures))
+    omega (arith, small _ _ (p6 .pre .4) (p5 .wind .ensures))
 
 add-kid-word-2 : tie.Need-add-kid-word-2
 add-kid-word-2 c =
     let p5 = c .before .before .before .before .before in
     let p6 = p5 .before in
-    omega (arith, small _ _ (p6 .pre .5) (p5 .wind .ensures))
+    omega (arith, small _ _ (p6 .pre .4) (p5 .wind .ensures))
 
 kid-word-requires : tie.Need-kid-word-requires
 kid-word-requires c κs = search needs
@@ -54,7 +54,7 @@ link-requires c κs = search needs
 returns : tie.Need-returns
 returns c =
     let p8 = c .before .before .before .before .before .before .before .before in
-    (search needs, cc (side-at (p8 .args .t .now) (p8 .args .cap) (p8 .args .p) (p8 .args .l) (p8 .args .m) (p8 .args .w) (p8 .pre .5)))
+    (search needs, cc (side-at (p8 .args .t .now) (p8 .args .cap) (p8 .args .p) (p8 .args .l) (p8 .args .m) (p8 .args .w) (p8 .pre .4)))
 
 pub side-by-spec : {M : Type 1} → statement M
 side-by-spec =

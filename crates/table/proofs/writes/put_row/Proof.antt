@@ -6,23 +6,24 @@ use borrow.Author.Needs.{needs, sfits-of, scaled-fits}
 use mir.Facts.{toZ-ofZ}
 use lib.ListN.{length, length-set}
 use lib.Seq.{paste, paste-zero}
-use Rattle.table.proofs.Rows.{pasted-more, pasted-all}
+use Rattle.mesh.specs.Picture.{rowWords}
+use Rattle.table.proofs.PutRows.{pasted-more, pasted-all}
 use borrow.Author.Needs.{needs}
 use native.Mathlib.Omega.{arith}
 use Rattle.table.proofs.writes.put_row.Statement.{statement}
 use Rattle.table.proofs.writes.put_row.Tie as tie
 
 abbrev Inv-loop : tie.InvT-loop
-Inv-loop t₀ n x b w₀ t w = (w ≤ 14) × (length x ≡ 14) × (length t ≡ length t₀) × (t ≡ paste t₀ b x w)
+Inv-loop t₀ n x b w₀ t w = (w ≤ rowWords) × (length x ≡ rowWords) × (length t ≡ length t₀) × (t ≡ paste t₀ b x w)
 
 abbrev μ-loop : tie.MeasureT-loop
-μ-loop t₀ n x b w₀ t w = 14 - w
+μ-loop t₀ n x b w₀ t w = rowWords - w
 
 mul-b : tie.Need-mul-b Inv-loop μ-loop
 mul-b c = search needs
 
 loop-holds : tie.Need-loop-holds Inv-loop μ-loop
-loop-holds c = (search needs, search needs, refl, paste-zero (c .args .t .now) (c .args .n * 14) (c .args .t3))
+loop-holds c = (search needs, search needs, refl, paste-zero (c .args .t .now) (c .args .n * rowWords) (c .args .t3))
 
 mul-t : tie.Need-mul-t Inv-loop μ-loop
 mul-t c = search needs
@@ -49,7 +50,7 @@ loop-again : tie.Need-loop-again Inv-loop μ-loop
 loop-again c =
     let a = c .before .before .before .args in
     let l = c .before .before .loop in
-    (search needs, l .inv .1, simp length-set (l .inv .2), pasted-more (a .t .now) (a .n * 14) _ (l .w) (l .t) _ (omega arith) (omega arith) (l .inv .3) (toZ-ofZ (sfits-of (c .t .given))))
+    (search needs, l .inv .1, simp length-set (l .inv .2), pasted-more (a .t .now) (a .n * rowWords) _ (l .w) (l .t) _ (omega arith) (omega arith) (l .inv .3) (toZ-ofZ (sfits-of (c .t .given))))
 
 same-length : tie.Need-same-length Inv-loop μ-loop
 same-length c = c .before .loop .inv .2

@@ -21,7 +21,7 @@ add-kill : tie.Need-add-kill
 add-kill c = search needs
 
 kill-requires : tie.Need-kill-requires
-kill-requires c κs = let w = kill-within _ _ _ _ (c .before .before .before .kill-refusal .ensures) (c .before .before .if1 .left) in (omega arith, omega arith, omega arith, w, omega arith, c .before .before .before .before .before .before .pre .1 .plain)
+kill-requires c κs = let w = kill-within _ _ _ _ (c .before .before .before .kill-refusal .ensures) (c .before .before .if1 .left) in (c .before .before .before .before .before .before .pre .1 .plain, omega arith, w, omega arith)
 
 cast-lower : tie.Need-cast-lower
 cast-lower c = let l = c .before .before .before .before .kill .ensures .2 .below in omega arith

@@ -1,4 +1,4 @@
--- `tape::apply::refine` meets its contract: the refusal is the rules', and what `edit::refine::refine` writes is the picture of the refined state.
+-- `tape::apply::refine` meets its contract: the refusal is the rules', and what `refine::refine` writes is the picture of the refined state.
 -- Assumes nothing.
 use native.Mathlib.Omega.{arith}
 use borrow.Author.Needs.{needs}
@@ -21,7 +21,7 @@ returns : tie.Need-returns
 returns c = (refused-applied _ _ _ _ _ _ (refine-decides _ _ _ _ _ (c .before .refine-refusal .ensures)) (c .if1 .taken), c .before .before .before .restock .ensures .0)
 
 refine-requires : tie.Need-refine-requires
-refine-requires c κs = (omega arith, omega arith, omega arith, refine-within _ _ _ _ (c .before .before .before .before .refine-refusal .ensures) (c .before .before .before .if1 .left), omega arith, c .before .before .before .before .before .before .before .before .before .before .pre .1 .indices, c .before .before .before .before .before .before .before .before .before .before .pre .1 .plain, c .before .before .before .before .before .before .restock .ensures .0)
+refine-requires c κs = (c .before .before .before .before .before .before .before .before .before .before .pre .1 .plain, omega arith, refine-within _ _ _ _ (c .before .before .before .before .refine-refusal .ensures) (c .before .before .before .if1 .left), omega arith, c .before .before .before .before .before .before .before .before .before .before .pre .1 .indices, c .before .before .before .before .before .before .restock .ensures .0)
 
 same-length-2 : tie.Need-same-length-2
 same-length-2 c = search needs

@@ -1,4 +1,4 @@
--- `tape::apply::remove` meets its contract: the refusal is the rules', and what `edit::remove::remove` writes is the picture of the state without the kids.
+-- `tape::apply::remove` meets its contract: the refusal is the rules', and what `remove::remove` writes is the picture of the state without the kids.
 -- Assumes nothing.
 use native.Mathlib.Omega.{arith}
 use borrow.Author.Needs.{needs}
@@ -18,13 +18,13 @@ returns : tie.Need-returns
 returns c = (refused-applied _ _ _ _ _ _ (remove-decides _ _ _ _ _ (c .before .remove-refusal .ensures)) (c .if1 .taken), c .before .before .before .before .pre .2)
 
 near-rows-requires : tie.Need-near-rows-requires
-near-rows-requires c κs = let w = remove-within _ _ _ (c .before .before .remove-refusal .ensures) (c .before .if1 .left) in (omega arith, omega arith, w)
+near-rows-requires c κs = let w = remove-within _ _ _ (c .before .before .remove-refusal .ensures) (c .before .if1 .left) in (search needs, w)
 
 remove-requires : tie.Need-remove-requires
-remove-requires c κs = let w = remove-within _ _ _ (c .before .before .before .before .before .remove-refusal .ensures) (c .before .before .before .before .if1 .left) in (omega arith, omega arith, omega arith, w, omega arith, c .before .before .before .before .before .before .before .before .pre .1 .plain)
+remove-requires c κs = let w = remove-within _ _ _ (c .before .before .before .before .before .remove-refusal .ensures) (c .before .before .before .before .if1 .left) in (c .before .before .before .before .before .before .before .before .pre .1 .plain, omega arith, w, omega arith)
 
 keep-nine-requires : tie.Need-keep-nine-requires
-keep-nine-requires c κs = (omega arith, omega arith, nine-near _ _ _ (c .before .before .before .before .before .before .before .before .before .near-rows .ensures), remove-stock _ _ (c .before .before .before .before .before .before .before .before .before .before .before .before .before .before .before .pre .2) (omega arith) (c .before .before .before .before .before .before .before .before .before .near-rows .ensures) (c .before .before .before .before .before .before .remove .ensures .0))
+keep-nine-requires c κs = (search needs, nine-near _ _ _ (c .before .before .before .before .before .before .before .before .before .near-rows .ensures), remove-stock _ _ (c .before .before .before .before .before .before .before .before .before .before .before .before .before .before .before .pre .2) (omega arith) (c .before .before .before .before .before .before .before .before .before .near-rows .ensures) (c .before .before .before .before .before .before .remove .ensures .0))
 
 same-length-2 : tie.Need-same-length-2
 same-length-2 c = search needs

@@ -2,7 +2,7 @@
 -- Assumes nothing.
 use native.Mathlib.Omega.{arith}
 use borrow.Author.Needs.{needs}
-use Rattle.editing.proofs.Freeing.{frees-stock}
+use Rattle.edit_laws.proofs.Freeing.{frees-stock}
 use Rattle.tape.proofs.Asking.{same-applied, standing-applied, asked-refine, asked-sentence, asked-remove, asked-kill, asked-set}
 use Rattle.tape.proofs.apply.request.Statement.{statement}
 use Rattle.tape.proofs.apply.request.Tie as tie

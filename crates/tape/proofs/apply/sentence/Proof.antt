@@ -2,7 +2,7 @@
 -- Assumes nothing.
 use native.Mathlib.Omega.{arith}
 use borrow.Author.Needs.{needs}
-use Rattle.editing.proofs.Lowering.{nothing}
+use Rattle.edit_laws.proofs.Lowering.{nothing}
 use Rattle.tape.proofs.Deciding.{refused-applied, sentence-decides, sentence-within}
 use Rattle.tape.proofs.Applying.{sentence-applied}
 use Rattle.tape.proofs.Stocking.{sentence-frees}

@@ -6,7 +6,7 @@ use mathlib.Core.Path.{_≡_, refl}
 use lib.ListN.{take, drop}
 use borrow.Author.Needs.{needs}
 use Rattle.mesh.specs.Tape.{highFirst}
-use Rattle.tape.proofs.Reading.{read-more, size-more, size-fits}
+use Rattle.tape.proofs.HighFirst.{read-more, size-more, size-fits}
 use Rattle.tape.proofs.bytes.high_first.Statement.{statement}
 use Rattle.tape.proofs.bytes.high_first.Tie as tie
 

@@ -6,7 +6,7 @@ use mathlib.Core.Path.{_≡_, refl}
 use lib.ListN.{length}
 use borrow.Author.Needs.{needs}
 use Rattle.tape.proofs.Running.{Ongoing, starts, asked-for, goes-next, ran-stopped, ran-over}
-use Rattle.tape.proofs.Tamed.{drawn-sized}
+use Rattle.tape.proofs.Tamed.{drawn-ranged}
 use Rattle.tape.proofs.turns.run_tape.Statement.{statement}
 use Rattle.tape.proofs.turns.run_tape.Tie as tie
 
@@ -17,7 +17,7 @@ abbrev μ-loop : tie.MeasureT-loop
 μ-loop t₀ v₀ cap d first mark tape at₀ done₀ m₀ low stock₀ t v at done m stock = length tape - at
 
 cast-low : tie.Need-cast-low Inv-loop μ-loop
-cast-low c = let p = c .before .before .pre .0 in let l = c .before .before .pre .1 .to in let m = drawn-sized (p .drawn) (p .depth) .cap-to in omega arith
+cast-low c = let p = c .before .before .pre .0 in let l = c .before .before .pre .1 .to in let m = drawn-ranged (p .drawn) (p .depth) .cap-to in omega arith
 
 loop-holds : tie.Need-loop-holds Inv-loop μ-loop
 loop-holds c = (refl, refl, starts _ _ _ _ _ _ (c .before .before .pre .1))

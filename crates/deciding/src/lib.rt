@@ -1,4 +1,0 @@
-// What a request is refused for, decided on the words of a table; and the two requests that change one row alone.
-pub mod asks;
-pub mod marks;
-pub mod refusals;

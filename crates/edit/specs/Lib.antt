@@ -1,2 +1,0 @@
--- Short names for what the functions answer.
-pub mod Lent

@@ -1,0 +1,58 @@
+-- As many words as there were: after words are written in their place, and after a row is freed.
+-- Assumes nothing.
+use Prim.Native.Nat.{ℕ, _+_, _*_, _%_, _≤_}
+use native.Mathlib.Omega.{arith}
+use mathlib.Core.Path.{_≡_, refl, _∙_}
+use mathlib.Core.Bool.{Bool, true, false, cond}
+use mathlib.Core.List.{List, [], _∷_}
+use lib.Dec.{eqb}
+use lib.IntN.{ℤ}
+use lib.ListN.{length, length-set}
+use Rattle.mesh.specs.Place.{Wind, N, E, S, W, compass}
+use Rattle.mesh.specs.Winds.{wordOfWind}
+use Rattle.mesh.specs.Picture.{rowWords}
+use Rattle.table.specs.Words.{wordOf, linkOf}
+use Rattle.table.specs.Worked.{kidWord}
+use Rattle.table.specs.Writes.{freeRow}
+use Rattle.edit_laws.specs.Steps.{putWord, putUnlessNil, dropSide, takeOut}
+use Rattle.edit_laws.specs.Tables.{Spot, kidAt, putCells}
+use Rattle.edit_laws.proofs.Slots.{put-length}
+
+-- ---- words
+
+length-cond : {A : Type 0} (b : Bool) {n : ℕ} (t u : List A) → length t ≡ n → length u ≡ n → length (cond b t u) ≡ n
+length-cond true t u e h = e
+length-cond false t u e h = h
+
+pub length-putWord : (t : List ℤ) (n w x : ℕ) → length (putWord t n w x) ≡ length t
+length-putWord t n w x = simp length-set
+
+pub length-putUnlessNil : (t : List ℤ) (n w x : ℕ) → length (putUnlessNil t n w x) ≡ length t
+length-putUnlessNil t n w x = length-cond (eqb n 0) _ _ refl (length-putWord t n w x)
+
+pub length-putCells : (xs : List Spot) (t : List ℤ) (cap f st : ℕ) → length (putCells xs t cap f st) ≡ length t
+unfolding putCells
+length-putCells [] t cap f st = refl
+length-putCells (x ∷ xs) t cap f st =
+    length-putCells xs (putUnlessNil (putUnlessNil t (kidAt t cap x) 12 f) (kidAt t cap x) 13 st) cap f st
+    ∙ length-putUnlessNil (putUnlessNil t (kidAt t cap x) 12 f) (kidAt t cap x) 13 st ∙ length-putUnlessNil t (kidAt t cap x) 12 f
+
+-- ---- a patch that goes
+
+pub length-dropSide : (t : List ℤ) (cap k : ℕ) (w : Wind) → length (dropSide t cap k w) ≡ length t
+unfolding dropSide
+length-dropSide t cap k w = length-putUnlessNil t (linkOf t cap k (wordOfWind w)) (wordOfWind (compass w .opposite)) 0
+
+-- the table in which no other row names the row k
+abbrev pub unnamed : List ℤ → ℕ → ℕ → List ℤ
+unnamed t cap k =
+    let t₁ = putWord t (linkOf t cap k 0) (kidWord (wordOf t k 10 % 2) (wordOf t k 11 % 2)) 0 in
+    dropSide (dropSide (dropSide (dropSide t₁ cap k N) cap k E) cap k S) cap k W
+
+pub length-unnamed : (t : List ℤ) (cap k : ℕ) → length (unnamed t cap k) ≡ length t
+length-unnamed t cap k = simp (length-dropSide, length-set)
+
+module _ (t : List ℤ) (cap : ℕ) (fits : cap * rowWords + rowWords ≤ length t) where
+  pub length-takeOut : (k : ℕ) → k ≤ cap → length (takeOut t cap k) ≡ length t
+  unfolding takeOut
+  length-takeOut k h = put-length (unnamed t cap k) freeRow k refl (omega (arith, length-unnamed t cap k)) ∙ length-unnamed t cap k

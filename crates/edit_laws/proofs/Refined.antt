@@ -1,0 +1,206 @@
+-- An accepted refinement on the table: the nine patches are supplied where they are missing, the kids become cells with what they inherit, and
+-- the rows around them are refreshed. What is left is the picture of the refined state.
+-- Assumes nothing.
+use Prim.Native.Nat.{ℕ, _+_, _≤_, _<_}
+use native.Mathlib.Omega.{arith}
+use mathlib.Core.Path.{_≡_, refl, sym, ap, _∙_, subst}
+use mathlib.Core.Logic.{_≢_}
+use mathlib.Core.Bool.{Bool, true, false, _||_, cond}
+use mathlib.Core.Option.{some}
+use mathlib.Core.List.{List, map}
+use lib.Dec.{T}
+use lib.IntN.{ℤ}
+use Rattle.number_laws.specs.Numbered.{Numbered}
+use Rattle.mesh.specs.Tools.{any, orElse}
+use Rattle.mesh.specs.Place.{Place, Grid, base, same, kids, parent, toEast, In}
+use Rattle.mesh.specs.State.{State, Entry, Cell, Value, blank, measured, carried, status, isFree, valueOf, placeOf, stands, entry, cells, number, freeCount, gridOf, capacity, withEntries, contents}
+use Rattle.mesh.specs.Valid.{Valid}
+use Rattle.mesh.specs.Picture.{table}
+use Rattle.mesh.specs.Refusal.{refusal}
+use Rattle.mesh.specs.Request.{refine, wanted, missing, looseChecks, give, fill, inherited, kidCell, effect}
+use Rattle.place_laws.proofs.Bools.{no-is}
+use Rattle.place_laws.proofs.Kids.{parent-depth, up, up-is, in-parent}
+use Rattle.place_laws.proofs.Near.{Corner, c-east, corner-up}
+use Rattle.place_laws.proofs.Tree.{touched-patch}
+use Rattle.place_laws.proofs.Base.{lap-many}
+use Rattle.place_laws.proofs.Wanted.{wanted-corner, wanted-distinct, kid-wanted}
+use Rattle.place_laws.proofs.Frames.{grown-else}
+use Rattle.number_laws.proofs.NumberedPlaces.{valid-numbered, numbered-not-zero}
+use Rattle.number_laws.proofs.Filling.{filled-free, fill-entry, fill-place, fill-number}
+use Rattle.number_laws.proofs.Giving.{next-free, Gave, kept-place, kept-number}
+use Rattle.number_laws.proofs.Refining.{Refinable, refinable, have, here, kids-there, after-numbered, after-contents, after-cells, after-valid, effect-is, refine-takes}
+use Rattle.table.specs.Words.{wordOf}
+use Rattle.table_laws.proofs.LinkedRows.{corner-numbered}
+use Rattle.edit_laws.specs.Linked.{Flags, tableWith, flagsOf}
+use Rattle.edit_laws.specs.Tables.{Lending, kidSpots, wantedSpots, refreshNear, putCells, suppliedAll, kidStatus, refineTable}
+use Rattle.edit_laws.proofs.Linked.{status-of, picture-linked}
+use Rattle.edit_laws.proofs.Rooted.{valid-rooted}
+use Rattle.edit_laws.proofs.Setting.{fill-rooted}
+use Rattle.edit_laws.proofs.FlagsAnew.{bit}
+use Rattle.edit_laws.proofs.Named.{AllNamed, kidsInTurn, kids-turn, kids-named, wanted-named}
+use Rattle.edit_laws.proofs.Celling.{withAll, fill-same, put-cells}
+use Rattle.edit_laws.proofs.Supplying.{next-from, Lends, give-lends}
+use Rattle.edit_laws.proofs.Starting.{startFlags, start-stands, start-blank, start-alive, start-complete, start-sentenced, picture-start}
+use Rattle.edit_laws.proofs.Nearby.{Nearly, refresh-near}
+
+-- "kids of a blank cell are blank, otherwise carried"
+status-down : (w : Value) → kidStatus (status w) ≡ status (inherited w)
+status-down blank = refl
+status-down (measured y) = refl
+status-down (carried y) = refl
+
+module _ (s : State) (v : Valid s) (n : ℕ) (p : Place) (x : Cell) (r : Refinable s n p x) where
+  abbrev g : Grid
+  g = gridOf s
+
+  abbrev es : List Entry
+  es = s .entries
+
+  abbrev cap : ℕ
+  cap = capacity s
+
+  abbrev f : Flags
+  f = startFlags (gridOf s) (s .entries)
+
+  abbrev given : State
+  given = give s (wanted (gridOf s) p)
+
+  abbrev after : List Entry
+  after = fill (kids p) (some (kidCell x)) (given .entries)
+
+  u : Numbered es
+  u = valid-numbered v
+
+  gave : Gave s given (wanted g p)
+  gave = have s v n p x r
+
+  own : placeOf (entry es n) ≡ some p
+  own = ap placeOf (r .stood)
+
+  -- ---- the patches that stand
+
+  low : base g ≤ p .depth
+  low = v .mesh .low p (here s v n p x r)
+
+  -- the places above the nine are among them
+  above-stands : (q o : Place) → In q (wanted g p) → parent q ≡ some o → number es o ≢ 0
+  above-stands q o i e =
+      let (k, a, c) = wanted-corner g p low q i in
+      corner-numbered s v (here s v n p x r) (subst (λ (z : Place). Corner g p z) (up-is q o e) (subst (λ (z : Place). Corner g z (up q)) (up-is k p a) (corner-up (omega (arith, low, parent-depth k p a)) c)))
+
+  given-own : placeOf (entry (given .entries) n) ≡ some p
+  given-own = kept-place gave n p own
+
+  pub kids-stand : (q : Place) → In q (kidsInTurn p) → number (given .entries) q ≢ 0
+  kids-stand q i = kids-there s v n p x r q (subst T (kids-turn p q) i)
+
+  pub after-own : placeOf (entry after n) ≡ some p
+  after-own = fill-place (kids p) (some (kidCell x)) (given .entries) n ∙ given-own
+
+  pub after-number : (q : Place) → number after q ≡ number (given .entries) q
+  after-number = fill-number (kids p) (some (kidCell x)) (given .entries)
+
+  east-stands : number after (toEast g p) ≢ 0
+  east-stands z = let y = corner-numbered s v (here s v n p x r) c-east in y (sym (after-number (toEast g p) ∙ kept-number gave (toEast g p) y) ∙ z)
+
+  -- ---- the flags before the rows are refreshed
+
+  status-is : kidStatus (wordOf (table s) n 13) ≡ status (inherited (x .value))
+  status-is = rw (picture-start s u) (ap kidStatus (status-of g es f n p own ∙ ap (λ (e : Entry). status (valueOf e)) (r .stood)) ∙ status-down (x .value))
+
+  abbrev flagsThen : Flags
+  flagsThen = withAll (kidsInTurn p) 1 f
+
+  nearly : Nearly g after p (cells es) flagsThen
+  unfolding flagsOf
+  nearly = record {
+    mesh = after-valid s v n p x r .mesh;
+    low = low;
+    else = λ q h. grown-else (cells es) (kids p) q (λ i. h (in-parent q p i)) ∙ ap (λ (c : Place → Bool). c q) (sym (after-cells s v n p x r));
+    stood = λ q e t. after-valid s v n p x r .every q (touched-patch g (cells after) q (omega (arith, low)) t);
+    complete = λ q t. rw (kids-turn p q, after-cells s v n p x r) (complete q (any (same q) (kids p)));
+    sentenced = λ q t. rw (kids-turn p q, after-contents s v n p x r q) (sentenced q (any (same q) (kids p)));
+    away = λ q t out. rw (kids-turn p q, after-contents s v n p x r q, no-is (any (same q) (kids p)) (λ i. out (kid-wanted g p q i))) (start-stands g es q (old q t out));
+  }
+    where
+      complete : (q : Place) (b : Bool) → bit 0 (cond b 1 (f q)) ≡ (cells es q || b)
+      complete q b = go b (cells es q) (start-complete g es u q)
+        where
+          go : (b d : Bool) → bit 0 (f q) ≡ d → bit 0 (cond b 1 (f q)) ≡ (d || b)
+          go true true e = refl
+          go true false e = refl
+          go false true e = e
+          go false false e = e
+
+      sentenced : (q : Place) (b : Bool) → bit 12 (cond b 1 (f q)) ≡ orElse false (λ y. y .sentenced) (cond b (some (kidCell x)) (contents es q))
+      sentenced q true = refl
+      sentenced q false = start-sentenced g es u q
+
+      old : (q : Place) → T (any (stands q) after) → (In q (wanted g p) → ⊥) → number es q ≢ 0
+      old q t out z = numbered-not-zero after (after-numbered s v n p x r) q t (after-number q ∙ gave .elsewhere q out ∙ z)
+
+  -- ---- the new patches
+
+  module _ (l : ℕ) (positive : 1 ≤ l) (none-below : (k : ℕ) → k < l → isFree (entry es k) ≡ false) (some-free : 0 < freeCount es) where
+    abbrev lending : Lending
+    lending = record { words = table s; low = l }
+
+    start : Lends g cap f s lending
+    start = let next = next-free s (u .zeroth) some-free in record {
+      rooted = valid-rooted v;
+      is-table = picture-start s u;
+      blank = start-blank g es;
+      none-below = none-below;
+      low-from = positive;
+      low-to = omega (arith, next .inside, next-from s l next none-below);
+    }
+
+    abbrev supply : Lending
+    supply = suppliedAll cap (base g) (wantedSpots (table s) cap n) lending
+
+    supplied-table : Lends g cap f given supply
+    supplied-table =
+        let names : AllNamed es (p .depth) (wantedSpots (table s) cap n) (map some (wanted g p)) = rw (picture-start s u) (wanted-named (valid-rooted v) f n p own (corner-numbered s v (here s v n p x r) c-east)) in
+        give-lends (start-alive g es) (r .low) low (wanted g p) start names above-stands (wanted-distinct g p (lap-many g (v .rectangle) (p .depth))) (r .room)
+
+    -- ---- the kids are cells
+
+    abbrev celled : List ℤ
+    celled = putCells (kidSpots (table s) cap n) (supply .words) cap 1 (kidStatus (wordOf (table s) n 13))
+
+    cell-table : celled ≡ tableWith g after flagsThen
+    cell-table =
+        rw (supplied-table .is-table, status-is)
+        (put-cells (supplied-table .rooted) f 1 (some (kidCell x)) (kidsInTurn p) (kids-named (supplied-table .rooted) f n p given-own) kids-stand
+        ∙ ap (λ (ds : List Entry). tableWith g ds flagsThen) (fill-same (kidsInTurn p) (kids p) (some (kidCell x)) (given .entries) (kids-turn p)))
+
+    -- ---- the flags around them
+
+    refined-words : refreshNear celled cap (base g) n ≡ table (withEntries s after)
+    refined-words =
+        rw cell-table
+        (refresh-near nearly (fill-rooted (kids p) (some (kidCell x)) (supplied-table .rooted)) n after-own east-stands
+        ∙ sym (picture-linked (withEntries s after) (after-numbered s v n p x r)))
+
+    -- ---- free numbers
+
+    none-free : (k : ℕ) → k < supply .low → isFree (entry after k) ≡ false
+    none-free k h = ap isFree (fill-entry (kids p) (some (kidCell x)) (given .entries) k) ∙ filled-free (kids p) (some (kidCell x)) (entry (given .entries) k) ∙ supplied-table .none-below k h
+
+    refined : let t = refineTable cap (base g) n lending in
+        (t .words ≡ table (withEntries s after)) × ((k : ℕ) → k < t .low → isFree (entry after k) ≡ false) × (1 ≤ t .low) × (t .low ≤ cap + 1)
+    unfolding refineTable
+    refined = (refined-words, none-free, supplied-table .low-from, supplied-table .low-to)
+
+-- ---- an accepted refinement
+
+module _ (s : State) (v : Valid s) (n : ℕ) (ok : refusal (looseChecks s (refine n)) ≡ 0) where
+  -- with a number below which none is free, and at the end with another one
+  pub refine-table : (low : ℕ) → 1 ≤ low → ((k : ℕ) → k < low → isFree (entry (s .entries) k) ≡ false)
+      → let t = refineTable (capacity s) (base (gridOf s)) n (record { words = table s; low = low }) in
+      (t .words ≡ table (effect s (refine n))) × ((k : ℕ) → k < t .low → isFree (entry (effect s (refine n) .entries) k) ≡ false) × (1 ≤ t .low) × (t .low ≤ capacity s + 1)
+  unfolding missing
+  refine-table low positive none-below =
+      let (p, x, r) = refinable s v n ok in
+      let some-free : 0 < freeCount (s .entries) = omega (arith, r .room, rw (r .stood) at (refine-takes s v n ok .0)) in
+      rw (effect-is s v n p x r) (refined s v n p x r low positive none-below some-free)

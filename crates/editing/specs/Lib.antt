@@ -1,6 +1,0 @@
--- The steps of a request on a table, and the tables between two steps.
-pub mod Linked
-pub mod Steps
-pub mod Anew
-pub mod Tables
-pub mod Built

@@ -1,0 +1,2 @@
+-- Lookup by the rows of a table.
+pub mod LookupRows

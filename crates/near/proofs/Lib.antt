@@ -1,0 +1,2 @@
+-- Steps over the kids near a cell.
+pub mod SpotSteps

@@ -1,0 +1,46 @@
+-- `near::spots::point_corners` meets its contract.
+-- Assumes nothing.
+use borrow.Author.Needs.{needs}
+use Rattle.edit_laws.specs.Anew.{pointRow}
+use Rattle.near.proofs.SpotSteps.{each-more, each-none}
+use Rattle.near.proofs.spots.point_corners.Statement.{statement}
+use Rattle.near.proofs.spots.point_corners.Tie as tie
+
+point-kid-requires : tie.Need-point-kid-requires
+point-kid-requires c κs = search needs
+
+point-kid-requires-2 : tie.Need-point-kid-requires-2
+point-kid-requires-2 c κs = search needs
+
+point-kid-requires-3 : tie.Need-point-kid-requires-3
+point-kid-requires-3 c κs = search needs
+
+point-kid-requires-4 : tie.Need-point-kid-requires-4
+point-kid-requires-4 c κs = search needs
+
+point-kid-requires-5 : tie.Need-point-kid-requires-5
+point-kid-requires-5 c κs = search needs
+
+same-length : tie.Need-same-length
+same-length c = search needs
+
+returns : tie.Need-returns
+returns c =
+    let b₁ = c .before in
+    let b₂ = b₁ .before .before .before in
+    let b₃ = b₂ .before .before .before in
+    let b₄ = b₃ .before .before .before in
+    let b₅ = b₄ .before .before .before in
+    (each-more _ _ _ (pointRow _) _ (b₅ .point-kid .ensures .0) (each-more _ _ _ (pointRow _) _ (b₄ .point-kid2 .ensures .0) (each-more _ _ _ (pointRow _) _ (b₃ .point-kid3 .ensures .0) (each-more _ _ _ (pointRow _) _ (b₂ .point-kid4 .ensures .0) (each-more _ _ _ (pointRow _) _ (b₁ .point-kid5 .ensures .0) (each-none _ _ _))))), b₁ .point-kid5 .ensures .1)
+
+pub point-corners-spec : {M : Type 1} → statement M
+point-corners-spec =
+    tie.close
+    (tie.spec
+    point-kid-requires
+    point-kid-requires-2
+    point-kid-requires-3
+    point-kid-requires-4
+    point-kid-requires-5
+    same-length
+    returns)

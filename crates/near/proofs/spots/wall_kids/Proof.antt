@@ -1,0 +1,41 @@
+-- `near::spots::wall_kids` meets its contract.
+-- Assumes nothing.
+use borrow.Author.Needs.{needs}
+use Rattle.edit_laws.specs.Anew.{wallRow}
+use Rattle.near.proofs.SpotSteps.{each-more, each-none}
+use Rattle.near.proofs.spots.wall_kids.Statement.{statement}
+use Rattle.near.proofs.spots.wall_kids.Tie as tie
+
+wall-kid-requires : tie.Need-wall-kid-requires
+wall-kid-requires c κs = search needs
+
+wall-kid-requires-2 : tie.Need-wall-kid-requires-2
+wall-kid-requires-2 c κs = search needs
+
+wall-kid-requires-3 : tie.Need-wall-kid-requires-3
+wall-kid-requires-3 c κs = search needs
+
+wall-kid-requires-4 : tie.Need-wall-kid-requires-4
+wall-kid-requires-4 c κs = search needs
+
+same-length : tie.Need-same-length
+same-length c = search needs
+
+returns : tie.Need-returns
+returns c =
+    let b₁ = c .before in
+    let b₂ = b₁ .before .before .before in
+    let b₃ = b₂ .before .before .before in
+    let b₄ = b₃ .before .before .before in
+    (each-more _ _ _ (wallRow _ _) _ (b₄ .wall-kid .ensures .0) (each-more _ _ _ (wallRow _ _) _ (b₃ .wall-kid2 .ensures .0) (each-more _ _ _ (wallRow _ _) _ (b₂ .wall-kid3 .ensures .0) (each-more _ _ _ (wallRow _ _) _ (b₁ .wall-kid4 .ensures .0) (each-none _ _ _)))), b₁ .wall-kid4 .ensures .1)
+
+pub wall-kids-spec : {M : Type 1} → statement M
+wall-kids-spec =
+    tie.close
+    (tie.spec
+    wall-kid-requires
+    wall-kid-requires-2
+    wall-kid-requires-3
+    wall-kid-requires-4
+    same-length
+    returns)

@@ -1,0 +1,2 @@
+-- The kids near a cell, by their parents and digits.
+pub mod NearSpots

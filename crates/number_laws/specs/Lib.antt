@@ -1,0 +1,3 @@
+-- What the laws about numbers are said with.
+pub mod Sizes
+pub mod Numbered

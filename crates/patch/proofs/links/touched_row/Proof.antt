@@ -1,0 +1,45 @@
+-- `remove::touched_row` meets its contract.
+-- Assumes nothing.
+use borrow.Author.Needs.{needs}
+use Rattle.table.specs.Worked.{touchedIn}
+use Rattle.edit_laws.specs.Tables.{touchedRow}
+use Rattle.patch.proofs.links.touched_row.Statement.{statement}
+use Rattle.patch.proofs.links.touched_row.Tie as tie
+
+link-requires : tie.Need-link-requires
+link-requires c κs = search needs
+
+link-requires-2 : tie.Need-link-requires-2
+link-requires-2 c κs = search needs
+
+link-requires-3 : tie.Need-link-requires-3
+link-requires-3 c κs = search needs
+
+flag-requires : tie.Need-flag-requires
+flag-requires c κs = search needs
+
+flag-requires-2 : tie.Need-flag-requires-2
+flag-requires-2 c κs = search needs
+
+flag-requires-3 : tie.Need-flag-requires-3
+flag-requires-3 c κs = search needs
+
+flag-requires-4 : tie.Need-flag-requires-4
+flag-requires-4 c κs = search needs
+
+returns : tie.Need-returns
+unfolding touchedRow touchedIn
+returns c = cc
+
+pub touched-row-spec : {M : Type 1} → statement M
+touched-row-spec =
+    tie.close
+    (tie.spec
+    link-requires
+    link-requires-2
+    link-requires-3
+    flag-requires
+    flag-requires-2
+    flag-requires-3
+    flag-requires-4
+    returns)

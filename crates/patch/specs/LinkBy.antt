@@ -1,0 +1,15 @@
+-- A new patch and a neighbour of it name each other, by its parent and the digits of its place.
+-- Assumes nothing.
+use Prim.Native.Nat.{ℕ}
+use mathlib.Core.List.{List}
+use lib.IntN.{ℤ}
+use Rattle.mesh.specs.Place.{Wind, compass}
+use Rattle.mesh.specs.Winds.{wordOfWind}
+use Rattle.table.specs.Sides.{sideBy}
+use Rattle.edit_laws.specs.Steps.{putWord, putUnlessNil}
+
+-- the row k, a kid of the row p whose digits are l and m
+unfoldable pub linkBy : List ℤ → ℕ → ℕ → ℕ → ℕ → ℕ → Wind → List ℤ
+linkBy t cap p l m k w =
+    let x = sideBy t cap p l m w in
+    putUnlessNil (putWord t k (wordOfWind w) x) x (wordOfWind (compass w .opposite)) k

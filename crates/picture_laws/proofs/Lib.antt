@@ -1,0 +1,7 @@
+-- The laws of the pictures, bottom up.
+pub mod Rows
+pub mod Decoding
+pub mod Equal
+pub mod Testing
+pub mod Soundness
+pub mod Links

@@ -1,0 +1,26 @@
+-- The laws of the geometry, bottom up.
+pub mod Bools
+pub mod Ranges
+pub mod Lists
+pub mod Laps
+pub mod Places
+pub mod Counting
+pub mod Distinct
+pub mod Kids
+pub mod SideDigits
+pub mod Near
+pub mod Tree
+pub mod Walls
+pub mod Base
+pub mod Full
+pub mod Extent
+pub mod Blocks
+pub mod UnitPoints
+pub mod Tiling
+pub mod Wanted
+pub mod Growing
+pub mod Shrinking
+pub mod Frames
+pub mod Fringe
+pub mod Along
+pub mod Shadow

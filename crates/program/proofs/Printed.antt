@@ -1,0 +1,120 @@
+-- What is printed, branch by branch: the head refuses, or the build does, or a request of the tape, or the page of the state after the tape is
+-- written. For the lists of the capacity picture that state from the build on, so that no first check of a later call refuses.
+-- Assumes nothing.
+use Prim.Native.Nat.{ℕ, _+_, _-_, _*_, _≤_}
+use native.Mathlib.Omega.{arith}
+use mathlib.Core.Path.{_≡_, refl, sym, ap, _∙_}
+use mathlib.Core.Logic.{_≢_}
+use mathlib.Core.List.{List, [], _∷_}
+use lib.ListN.{length, take, drop, length-drop}
+use lib.Seq.{take-all}
+use lib.IntN.{ℤ}
+use lib.Ieee.{Float}
+use Rattle.mesh.specs.State.{State, capacity}
+use Rattle.mesh.specs.Valid.{Valid}
+use Rattle.mesh.specs.Picture.{rowWords}
+use Rattle.mesh.specs.Refusal.{refusal}
+use Rattle.mesh.specs.Scan.{no18}
+use Rattle.mesh.specs.Page.{page, pageChecks}
+use Rattle.mesh.specs.Call as Call
+use Rattle.mesh.specs.Call.{Lent, picture, stateOf, lentChecks, buildChecks, buildCall, tapeCall, wrote, pageCall, writing}
+use Rattle.mesh.specs.Program.{gridIn, refusedLine, headChecks, tapePage, program, programCall, gridChecks, inputChecks}
+use Rattle.mesh.specs.Headers.{lentOf}
+use Rattle.mesh.specs.declared.header.Header.{Header}
+use Rattle.number_laws.proofs.Checks.{past, kept}
+use Rattle.checker.proofs.Checking.{sized}
+use Rattle.demand_laws.proofs.Prefixes.{run-offset}
+use Rattle.demand_laws.proofs.Refusals.{unless-accepted, unless-refused, unless-names}
+use Rattle.demand_laws.proofs.PicturedCalls.{picture-state, picture-accepted, tape-runs}
+use Rattle.call_laws.proofs.Called.{checks-after}
+use Rattle.grid.specs.declared.Built.{Built}
+use Rattle.grid.specs.declared.Taped.{Taped}
+use Rattle.grid.specs.Calls.{tapedOf, Builds, Tapes}
+use Rattle.program.proofs.Head.{head-sizes}
+use Rattle.program.proofs.PrintedTape.{started, ran, started-valid, ran-valid}
+
+-- the page call on the picture of a valid state
+pub page-prints : (s : State) → Valid s → (cap : ℕ) → capacity s ≡ cap → (out : List ℕ) → pageCall cap (picture s) out ≡ writing (page s) out
+unfolding pageCall pageChecks
+page-prints s v cap c out =
+    let ok : refusal (lentChecks cap (picture s)) ≡ 0 = ap (λ (n : ℕ). refusal (lentChecks n (picture s))) (sym c) ∙ picture-accepted s v in
+    ap (λ (r : ℕ). wrote r (page (stateOf (picture s))) out) (checks-after cap (picture s) ok (no18 (length out) (page (stateOf (picture s))) ∷ []))
+    ∙ ap (λ (t : State). writing (page t) out) (picture-state s v)
+
+module _ (input : List ℕ) where
+  -- ---- the program, branch by branch
+
+  pub prints : (out : List ℕ) {w : Call.Wrote} {xs : List ℕ} → xs ≡ program input → w ≡ writing xs out → w ≡ programCall input out
+  unfolding programCall
+  prints out e h = h ∙ ap (λ (ys : List ℕ). writing ys out) e
+
+  refused : (n : ℕ) → n ≡ refusal (headChecks input) → n ≢ 0 → refusedLine n 0 ≡ program input
+  unfolding program
+  refused n e some = sym (rw (sym e) (unless-refused _ _ n some))
+
+  pub head-refused : (n : ℕ) → n ≡ refusal (inputChecks input) → n ≢ 0 → refusedLine n 0 ≡ program input
+  head-refused n e some = refused n (e ∙ sym (kept (inputChecks input) (gridChecks input) (λ z. some (e ∙ z)))) some
+
+  module _ (ok : refusal (inputChecks input) ≡ 0) where
+    after-head : refusal (headChecks input) ≡ refusal (gridChecks input)
+    unfolding inputChecks
+    after-head = past (inputChecks input) (gridChecks input) tt ok
+
+    -- ---- the build
+
+    module _ {h h₁ : Header} {t t₁ : List ℤ} {v v₁ : List Float} {b : Built} (size : length t ≡ rowWords * 1001) (places : length v ≡ 1001)
+        (built-as : Builds h t v 1000 (gridIn input .columns) (gridIn input .rows) 0 h₁ t₁ v₁ b) where
+      checks-same : refusal (buildChecks 1000 (lentOf h t v) (gridIn input)) ≡ refusal (headChecks input)
+      unfolding buildChecks gridChecks
+      checks-same = sized 1000 (lentOf h t v) (gridChecks input) size places (omega arith) (omega arith) ∙ sym after-head
+
+      build-why : b .refusal ≡ refusal (headChecks input)
+      unfolding buildCall
+      build-why = ap (λ (r : Call.Built). r .refusal) (built-as .is) ∙ unless-names _ _ (λ (r : Call.Built). r .refusal) (λ n. refl) refl _ ∙ checks-same
+
+      pub build-refused : b .refusal ≢ 0 → refusedLine (b .refusal) 0 ≡ program input
+      build-refused = refused (b .refusal) build-why
+
+      module _ (none : b .refusal ≡ 0) where
+        passed : refusal (headChecks input) ≡ 0
+        passed = sym build-why ∙ none
+
+        started-lent : lentOf h₁ t₁ v₁ ≡ picture (started input)
+        unfolding buildCall
+        started-lent = ap (λ (r : Call.Built). r .lent) (built-as .is ∙ unless-accepted _ _ _ (checks-same ∙ passed))
+
+        program-ran : program input ≡ tapePage (ran input)
+        unfolding program
+        program-ran = unless-accepted _ _ _ passed
+
+        -- ---- the tape
+
+        module _ {h₂ : Header} {t₂ : List ℤ} {v₂ : List Float} {r : Taped} (taped-as : Tapes h₁ t₁ v₁ 1000 (take (length input - 3) (drop 3 input)) h₂ t₂ v₂ r) where
+          taped : tapedOf r h₂ t₂ v₂ ≡ record { done = ran input .done; refusal = ran input .refusal; offset = ran input .offset; lent = picture (ran input .state) }
+          taped =
+              let (v, c) = started-valid input passed in
+              let rest : take (length input - 3) (drop 3 input) ≡ drop 3 input = take-all (length input - 3) (drop 3 input) (omega (arith, length-drop 3 input)) in
+              taped-as .is
+              ∙ ap (λ (bytes : List ℕ). tapeCall 1000 (lentOf h₁ t₁ v₁) bytes) rest
+              ∙ ap (λ (l : Lent). tapeCall 1000 l (drop 3 input)) started-lent
+              ∙ tape-runs (started input) v 1000 c (drop 3 input)
+
+          same-why : r .refusal ≡ ran input .refusal
+          same-why = ap (λ (x : Call.Taped). x .refusal) taped
+
+          same-offset : r .offset ≡ ran input .offset
+          same-offset = ap (λ (x : Call.Taped). x .offset) taped
+
+          pub offset-low : r .offset ≤ 60000
+          offset-low = omega (arith, same-offset, run-offset (started input) (drop 3 input) .0, length-drop 3 input, head-sizes input ok .1)
+
+          pub tape-refused : r .refusal ≢ 0 → refusedLine (r .refusal) (3 + r .offset) ≡ program input
+          unfolding tapePage
+          tape-refused some = rw (same-why, same-offset) (sym (program-ran ∙ unless-refused _ _ (ran input .refusal) (λ z. some (same-why ∙ z))))
+
+          pub tape-printed : r .refusal ≡ 0 → (out : List ℕ) {w : Call.Wrote} → w ≡ pageCall 1000 (lentOf h₂ t₂ v₂) out → w ≡ programCall input out
+          unfolding tapePage
+          tape-printed calm out e =
+              let (v, c) = ran-valid input passed in
+              let p : page (ran input .state) ≡ program input = sym (program-ran ∙ unless-accepted _ _ (ran input .refusal) (sym same-why ∙ calm)) in
+              prints out p (e ∙ ap (λ (x : Call.Taped). pageCall 1000 (x .lent) out) taped ∙ page-prints (ran input .state) v 1000 c out)

@@ -1,0 +1,3 @@
+-- Words that are read as they stand, and the grid that they are read under.
+pub mod Readable
+pub mod Grounded

@@ -1,0 +1,4 @@
+// What a request is refused for, decided on the words of a table; and the two requests that change one row alone.
+pub mod asks;
+pub mod one_row;
+pub mod requests;

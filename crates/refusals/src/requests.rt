@@ -1,0 +1,128 @@
+// The refusal of each kind of request, 0 for none, by the checks of 01 and of 02, No. 1, in their order; d is the depth of level 0.
+ghost use mathlib.Core.Path.{_≡_};
+ghost use mathlib.Core.Bool.{not};
+ghost use mathlib.Core.List.{[], _∷_};
+ghost use Prim.Native.Nat.{_≤_};
+ghost use Rattle.mesh.specs.Refusal.{_if_, refusal};
+ghost use Rattle.table.specs.Plain.{Plain, Sized};
+ghost use Rattle.free.specs.Free.{Counted};
+ghost use Rattle.refusals.specs.Decide.{row6, row7, refineRefusal, sentenceRefusal, removeRefusal, killRefusal, setRefusal};
+use crate::asks::finer_round;
+use crate::asks::has_kids;
+use crate::asks::kids_sentenced;
+use crate::asks::lack_count;
+use crate::asks::other_under;
+use table::flag_bits::COMPLETE;
+use table::flag_bits::GRN_CELL;
+use table::flag_bits::SENTENCED;
+use table::values::is_finite;
+use table::words::depth;
+use table::words::flag;
+use table::words::is_taken;
+
+// The two checks that every kind begins with: the number is that of a patch, and the patch is a cell.
+fn cell_refusal(t: &[i32], cap: usize, n: usize) -> u32
+    requires { ⌜ Sized (now t) cap ⌝ }
+    ensures { λ r. ⌜ r ≡ refusal (row6 (now (t .entry)) cap n ∷ row7 (now (t .entry)) cap n ∷ []) ⌝ }
+{
+    if !is_taken(t, cap, n) {
+        return 6;
+    }
+    if flag(t, COMPLETE, n) { 0 } else { 7 }
+}
+
+// The two checks that a refinement ends with: a wall of the cell is green, since a coarser leaf lies beside it; and there are numbers enough.
+fn room_refusal(green: bool, enough: bool) -> u32
+    ensures { λ r. ⌜ r ≡ refusal ((21 if green) ∷ (11 if not enough) ∷ []) ⌝ }
+{
+    if green {
+        return 21;
+    }
+    if enough { 0 } else { 11 }
+}
+
+// With the count of the free numbers, up to nine.
+pub fn refine_refusal(t: &[i32], cap: usize, d: u32, n: usize, spare: usize) -> u32
+    requires { ⌜ Plain (now t) cap × (d ≤ 32) × Counted cap (now t) spare ⌝ }
+    ensures { λ r. ⌜ r ≡ refineRefusal (now (t .entry)) cap d n ⌝ }
+{
+    let r = cell_refusal(t, cap, n);
+    if r != 0 {
+        return r;
+    }
+    if has_kids(t, cap, n) {
+        return 8;
+    }
+    if depth(t, d, n) == d + 12 {
+        return 9;
+    }
+    if table::plain::flag(t, cap, SENTENCED, n) {
+        return 10;
+    }
+    room_refusal(
+        table::plain::flag(t, cap, GRN_CELL, n),
+        lack_count(t, cap, n) <= spare,
+    )
+}
+
+pub fn sentence_refusal(t: &[i32], cap: usize, d: u32, n: usize) -> u32
+    requires { ⌜ Sized (now t) cap × (d ≤ 32) ⌝ }
+    ensures { λ r. ⌜ r ≡ sentenceRefusal (now (t .entry)) cap d n ⌝ }
+{
+    let r = cell_refusal(t, cap, n);
+    if r != 0 {
+        return r;
+    }
+    if has_kids(t, cap, n) {
+        return 8;
+    }
+    if depth(t, d, n) == d { 12 } else { 0 }
+}
+
+pub fn remove_refusal(t: &[i32], cap: usize, n: usize) -> u32
+    requires { ⌜ Plain (now t) cap ⌝ }
+    ensures { λ r. ⌜ r ≡ removeRefusal (now (t .entry)) cap n ⌝ }
+{
+    let r = cell_refusal(t, cap, n);
+    if r != 0 {
+        return r;
+    }
+    if !has_kids(t, cap, n) {
+        return 13;
+    }
+    if !kids_sentenced(t, cap, n) {
+        return 14;
+    }
+    if finer_round(t, cap, n) { 22 } else { 0 }
+}
+
+pub fn kill_refusal(t: &[i32], cap: usize, d: u32, n: usize) -> u32
+    requires { ⌜ Sized (now t) cap × (1 ≤ cap) × (d ≤ 32) ⌝ }
+    ensures { λ r. ⌜ r ≡ killRefusal (now (t .entry)) cap d n ⌝ }
+{
+    let r = cell_refusal(t, cap, n);
+    if r != 0 {
+        return r;
+    }
+    if depth(t, d, n) != d {
+        return 12;
+    }
+    if has_kids(t, cap, n) {
+        return 8;
+    }
+    if other_under(t, cap, n, d, 1) { 0 } else { 15 }
+}
+
+pub fn set_refusal(t: &[i32], cap: usize, n: usize, x: f64) -> u32
+    requires { ⌜ Sized (now t) cap ⌝ }
+    ensures { λ r. ⌜ r ≡ setRefusal (now (t .entry)) cap n x ⌝ }
+{
+    let r = cell_refusal(t, cap, n);
+    if r != 0 {
+        return r;
+    }
+    if has_kids(t, cap, n) {
+        return 8;
+    }
+    if is_finite(x) { 0 } else { 16 }
+}

@@ -1,0 +1,2 @@
+-- A removal whole.
+pub mod WholeRemoval

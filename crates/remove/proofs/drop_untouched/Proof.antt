@@ -1,0 +1,44 @@
+-- `remove::drop_untouched` meets its contract.
+-- Assumes nothing.
+use borrow.Author.Needs.{needs}
+use Rattle.patch.proofs.DroppedRows.{untouched-nil, untouched-kept, untouched-gone}
+use Rattle.remove.proofs.drop_untouched.Statement.{statement}
+use Rattle.remove.proofs.drop_untouched.Tie as tie
+
+returns : tie.Need-returns
+returns c = (untouched-nil _ _ _ _ (c .if1 .taken), c .before .pre .0)
+
+touched-row-requires : tie.Need-touched-row-requires
+touched-row-requires c κs = search needs
+
+same-length : tie.Need-same-length
+same-length c = search needs
+
+returns-2 : tie.Need-returns-2
+returns-2 c = (untouched-kept _ _ _ _ (c .before .before .before .if1 .left) (c .before .touched-row .ensures) (c .if2 .taken), c .before .before .before .before .pre .0)
+
+take-out-requires : tie.Need-take-out-requires
+take-out-requires c κs = search needs
+
+same-length-2 : tie.Need-same-length-2
+same-length-2 c = search needs
+
+returns-3 : tie.Need-returns-3
+returns-3 c =
+    let b₁ = c .before in
+    let b₂ = b₁ .before .before in
+    let b₃ = b₂ .before in
+    let b₄ = b₃ .before .before in
+    (untouched-gone _ _ _ _ (b₄ .if1 .left) (b₃ .touched-row .ensures) (b₂ .if2 .left) (b₁ .take-out .ensures .0), b₁ .take-out .ensures .1)
+
+pub drop-untouched-spec : {M : Type 1} → statement M
+drop-untouched-spec =
+    tie.close
+    (tie.spec
+    returns
+    touched-row-requires
+    same-length
+    returns-2
+    take-out-requires
+    same-length-2
+    returns-3)

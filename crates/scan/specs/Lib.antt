@@ -1,0 +1,3 @@
+-- Scan by the rows of a table, and a list written as far as it fits.
+pub mod ScanRows
+pub mod Written

@@ -1,0 +1,2 @@
+-- The test of a row's neighbours in parts.
+pub mod SideTests
