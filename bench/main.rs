@@ -4,8 +4,8 @@
 //!     bench compare                 compared alone, not timed: under an emulator times say nothing
 //!     bench list                    a line for each workload: its name, its units, the calls that check the table it starts from
 //!     bench stack                   how much stack the proved calls take
-//!     bench NAME SIDE REPEATS       one workload alone, compared with nothing, for counting instructions. SIDE is proved or hand; proved-check or
-//!                                   hand-check: one check of the table that the workload starts from; none: the same with calls of nothing
+//!     bench NAME SIDE REPEATS       one workload alone, compared with nothing, for counting instructions. SIDE is proved or hand; proved-idle or
+//!                                   hand-idle: one call with nothing to do on the table that the workload starts from; none: the same with calls of nothing
 
 mod hand;
 mod nothing;
@@ -60,6 +60,20 @@ macro_rules! run {
     }};
 }
 
+/// A call that has nothing to do but what such a call begins with: a tape of no request, or a check.
+macro_rules! idle {
+    ($calls:ident, $job:expr, $lists:expr, $outcome:expr) => {{
+        let (lists, outcome): (&mut Lists, &mut Outcome) = ($lists, $outcome);
+        let capacity = lists.capacity();
+        if let Work::Tapes(_) = &$job.work {
+            let (done, refusal, at) = $calls::tape(&mut lists.header, &mut lists.table, &mut lists.values, capacity, &[]);
+            outcome.answers.extend([done as u64, refusal as u64, at as u64]);
+        } else {
+            outcome.answers.push($calls::check(&lists.header, &lists.table, &lists.values, capacity) as u64);
+        }
+    }};
+}
+
 fn room() -> Outcome {
     Outcome { answers: Vec::with_capacity(1 << 16), numbers: vec![7; 4096], bytes: vec![7; 200_000] }
 }
@@ -70,9 +84,9 @@ fn run_once(side: &str, job: &Job, lists: &mut Lists, outcome: &mut Outcome) {
     match side {
         "proved" => run!(proved, job, lists, outcome),
         "hand" => run!(hand, job, lists, outcome),
-        "proved-check" => outcome.answers.push(proved::check(&lists.header, &lists.table, &lists.values, lists.capacity()) as u64),
-        "hand-check" => outcome.answers.push(hand::check(&lists.header, &lists.table, &lists.values, lists.capacity()) as u64),
-        "none-check" => outcome.answers.push(nothing::check(&lists.header, &lists.table, &lists.values, lists.capacity()) as u64),
+        "proved-idle" => idle!(proved, job, lists, outcome),
+        "hand-idle" => idle!(hand, job, lists, outcome),
+        "none-idle" => idle!(nothing, job, lists, outcome),
         _ => run!(nothing, job, lists, outcome),
     }
 }

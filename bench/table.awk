@@ -1,4 +1,4 @@
-# From the counts of bench/run (name, units, checks, cost of one run: none, proved, hand, none-check, proved-check, hand-check) the tables of docs/SPEED.md.
+# From the counts of bench/run (name, units, checks, cost of one run: none, proved, hand, none-idle, proved-idle, hand-idle) the tables of docs/SPEED.md.
 
 {
     units[$1] = $2
@@ -18,7 +18,7 @@ function grouped(x,   text, out) {
     return text out
 }
 
-# how: whole (calls with their checks) or less (without the check)
+# how: whole (calls with their checks) or less (without what a call with nothing to do costs)
 function cost(name, side, how, per) {
     return (how == "whole" ? whole[name, side] : less[name, side]) / (per ? per : units[name])
 }
@@ -61,6 +61,9 @@ END {
     print "|---|---|---|"
     grows("check, a row, full table of 1,000 rows", "check-1000", "whole")
     grows("check, a row, full table of 4,095 rows", "check-mixed", "whole")
+    grows("check, a row, 120 of 4,095 numbers in use", "check-sparse", "whole")
+    grows("a tape of no request, the whole call, a row, full table of 4,095 rows", "empty-full", "whole", 4095)
+    grows("the same, 120 of 4,095 numbers in use", "empty-sparse", "whole", 4095)
     grows("a request without the check, tape of 5,000", "mixed-1000-short", "less")
     grows("a request without the check, tape of 20,000", "mixed-1000", "less")
     grows("a request without the check, free numbers low and high: three families removed and refined again, capacity 1,000", "families-1000", "less")

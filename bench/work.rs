@@ -70,7 +70,7 @@ impl Job {
         }
     }
 
-    /// How often the calls check the table that the workload starts from; 0: its figure is one of whole calls.
+    /// How often a call with nothing to do is taken off; 0: the figure is one of whole calls.
     pub fn checks(&self) -> usize {
         match &self.work {
             Work::Check | Work::Build(..) => 0,
@@ -103,6 +103,9 @@ pub const WORKLOADS: &[(&str, fn() -> Job)] = &[
     ("check-deep", || check(deep())),
     ("check-mixed", || check(filled(OPEN, 8, 4095, 8))),
     ("check-1000", || check(filled(OPEN, 8, 1000, 8))),
+    ("check-sparse", || check(built(8, 8, OPEN, 4095))),
+    ("empty-full", || empty(nearly_full(OPEN))),
+    ("empty-sparse", || empty(built(8, 8, OPEN, 4095))),
     ("mixed-1000", || mixed(OPEN, 8, 1000, 20_000)),
     ("mixed-1000-short", || mixed(OPEN, 8, 1000, 5_000)),
     ("long-4095", || mixed(OPEN, 16, 4095, 200_000)),
@@ -497,6 +500,11 @@ fn refinement(start: Lists) -> Job {
         }
         seed += 1;
     }
+}
+
+/// A tape of no request.
+fn empty(start: Lists) -> Job {
+    Job { start, work: Work::Tapes(vec![vec![]]), per: Per::Requests(1) }
 }
 
 fn build(mode: u32) -> Job {

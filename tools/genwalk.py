@@ -27,7 +27,10 @@ With --lends CRATE′ it is the other way round: the struct comes by value and i
         ensures { λ r. ⌜ REL header p1 .. pn (r .header) m1 .. mk (r .answer) ⌝ }
     { let answer = CORE(&mut header, P1.., Pn); COREANS { header, answer } }
 
-usage: genwalk.py [--shared | --lends CRATE′] CRATE ENTRY CORE STRUCT ANSWER COREANS SPECMOD REL [--asks ASKS] -- P1 P2 ..    > crates/CRATE/proofs/ENTRY/Proof.antt
+With --lent F N the struct and the first N lists are one argument of REL, at entry and (but with --shared) at exit: F header p1 .. pN, F (r .header) m1 .. mN.
+F is given with its module, as Rattle.header.specs.Headers.lentOf.
+
+usage: genwalk.py [--shared | --lends CRATE′] [--lent F N] CRATE ENTRY CORE STRUCT ANSWER COREANS SPECMOD REL [--asks ASKS] -- P1 P2 ..    > crates/CRATE/proofs/ENTRY/Proof.antt
 SPECMOD is the module of specs/ that has REL (and ASKS).
 """
 import sys
@@ -44,6 +47,9 @@ if '--struct-crate' in head:
 lends=None
 if '--lends' in head:
     j=head.index('--lends'); lends=head[j+1]; head=head[:j]+head[j+2:]
+lent=None
+if '--lent' in head:
+    j=head.index('--lent'); lent=head[j+1].rpartition('.'); lists=int(head[j+2]); head=head[:j]+head[j+3:]
 crate,entry,core,struct,answer,coreans,specmod,rel=head
 NUMANS=answer in('u8','u16','u32','u64','usize')
 dash=lambda s:s.replace('_','-')
@@ -93,7 +99,11 @@ def own(p,ell): # ell: the lifetime's number in the signature
     if p['k']=='shr': return f"ShrSlice (named {ell}) κ{p['life']} {p['t']}"
     if p['k']=='ref': return f"MutRef (named {ell}) κ{p['life']} {p['t']}"
     return p['t']
-fact=lambda r,lasts: f"{rel} h {' '.join(p['now'] for p in IN)} {' '.join(lasts)} {r}".replace('  ',' ') if shared else f"{rel} h {' '.join(p['now'] for p in IN)} ({r} .header) {' '.join(lasts)} ({r} .answer)".replace('  ',' ')
+def with_struct(h,xs):
+    xs=list(xs)
+    return ' '.join([f"({lent[2]} {h} {' '.join(xs[:lists])})"]+xs[lists:] if lent else [h]+xs)
+given=lambda: with_struct('h',(p['now'] for p in IN))
+fact=lambda r,lasts: f"{rel} {given()} {' '.join(lasts)} {r}".replace('  ',' ') if shared else f"{rel} {given()} {with_struct(f'({r} .header)',lasts)} ({r} .answer)".replace('  ',' ')
 lastden=lambda p: f"List {denot(p['t'])}" if p['k']=='mut' else denot(p['t'])
 fin=lambda p: f"‵ (finally {p['t']} ({p['x']} .name) z{p['i']})" if p['k']=='mut' else f"‵ (fres ({p['x']} .name) ({p['t']} .coded .code z{p['i']}))"
 gone=('mut','ref')
@@ -164,6 +174,7 @@ use denote.Exit.{yes}
 use denote.Signature.{plain}""")
 R=f"Rattle·{crate}·"
 w(f"use {f'Rattle.{lends}.specs' if lends else R+'specs.specs'}.{specmod}.{{{rel}{', '+asks if asks else ''}}}")
+if lent: w(f"use {lent[0]}.{{{lent[2]}}}")
 for m,d in ((struct,'T'),)+(() if NUMANS else ((answer,'An'),))+(() if shared else ((coreans,'Co'),)):
     out_=scrate if m==struct and scrate else lends
     out_,_,in_=(out_ or '').partition('/')
@@ -235,7 +246,7 @@ def lent_walk():
     tok="‵ (flft (α ∷ []) fullShare)"
     at_call="α γ "+m
     κs,qs_=tup(ks[1:]),tup(qs[1:])
-    REL=lambda hh,lasts,r: f"{rel} h {' '.join(p['now'] for p in IN)} {hh} {' '.join(lasts)} {r}"
+    REL=lambda hh,lasts,r: f"{rel} {given()} {with_struct(hh,lasts)} {r}"
     nums=''.join(f" ({p['fit']} : {'mag '+p['x'] if signed(p['t']) else p['x']} < 2 ^ {W[p['t']][1]})" for p in N)
     w(f"module _ {{M : Type 1}} (𝓤 : URA M) (H : Heap 𝓤) (A : Atoms 𝓤) (W : Given 𝓤 H A) (at-mem : Memory → SProp 𝓤) (run : Routine → Fun 𝓤) ({' '.join(ks[1:])} : Lft) ({' '.join(qs[1:])} : Share) (h : {struct}) "
       +' '.join(f"({p['x']} : {p['den']})" for p in P)+" (was : Is T.the-row h (LL.val T.the-type T′.the-laws h ∷ []))"+nums+" where")

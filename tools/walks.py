@@ -16,7 +16,7 @@ CRATES = HERE.parent / "crates"
 
 LENT = ["mut:i32", "mut:f64", "u32"]  # table, values, capacity
 READ = ["shr:i32", "shr:f64", "u32"]
-STRUCT = ["--struct-crate", "mesh/header"]
+STRUCT = ["--struct-crate", "header", "--lent", "Rattle.header.specs.Headers.lentOf", "2"]
 FACE = [*STRUCT, "face"]
 
 # crate, entry, and what genwalk.py takes: [options] crate entry core struct answer core's-answer specs-module relation -- parameters

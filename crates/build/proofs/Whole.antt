@@ -86,8 +86,8 @@ module _ (g : Grid) (cap d : ℕ) (ground : d ≡ base g) (in-range : Rectangle 
         unfolding buildTable
         whole = marked ∙ rw (walled, ground-is, next-is, from-is)
 
-        pub made : Made g cap z v (k - 1)
-        made = record {
+        pub made : (mark : ℕ) → Made cap (record { header = record { grid = g; mark = mark }; words = z; values = v }) (k - 1)
+        made mark = record {
           words-are = whole ∙ ap (buildTable g cap) ground ∙ build-table g cap in-range low high fits;
           values-are = blank ∙ sym (built-amounts g cap fits);
           in-use-is =

@@ -3,11 +3,10 @@
 use Prim.Native.Nat.{ℕ, _+_, _≤_}
 use mathlib.Core.Path.{_≡_}
 use mathlib.Core.List.{List, [], _∷_}
-use lib.Ieee.{Float}
 use lib.IntN.{ℤ}
 use Rattle.mesh.specs.Place.{Grid, Wind, NE, SE, SW, NW}
 use Rattle.mesh.specs.State.{inUse}
-use Rattle.mesh.specs.Picture.{table, amounts}
+use Rattle.mesh.specs.Picture.{table, amounts, Lent}
 use Rattle.mesh.specs.Build.{built}
 use Rattle.edit_laws.specs.Built.{Growth, growLevels, groundFrom}
 
@@ -26,8 +25,8 @@ pub record Reached (g : Grid) (cap d : ℕ) (r u : Growth) (ground : ℕ) : Type
   pub before : ground ≤ u .next
   pub high : u .next ≤ cap + 1
 
--- the picture of the built state, and its numbers in use
-pub record Made (g : Grid) (cap : ℕ) (t : List ℤ) (v : List Float) (n : ℕ) : Type 0 where
-  pub words-are : t ≡ table (built g cap)
-  pub values-are : v ≡ amounts (built g cap)
-  pub in-use-is : n ≡ inUse (built g cap .entries)
+-- the lists of the built state, and its numbers in use
+pub record Made (cap : ℕ) (l : Lent) (n : ℕ) : Type 0 where
+  pub words-are : l .words ≡ table (built (l .header .grid) cap)
+  pub values-are : l .values ≡ amounts (built (l .header .grid) cap)
+  pub in-use-is : n ≡ inUse (built (l .header .grid) cap .entries)

@@ -3,12 +3,12 @@ ghost use mathlib.Core.Path.{_≡_};
 ghost use Prim.Native.Nat.{_≤_};
 ghost use lib.ListN.{length};
 ghost use Rattle.mesh.specs.Place.{base};
-ghost use Rattle.mesh.specs.Headers.{headerOf};
+ghost use Rattle.header.specs.Headers.{headerOf};
 ghost use Rattle.mesh.specs.Build.{numbered};
 ghost use Rattle.mesh.specs.Call.{Rectangle};
 ghost use Rattle.number_laws.specs.Sizes.{levelSize};
-use mesh::header::Header;
-use mesh::header::last_j;
+use header::Header;
+use header::last_j;
 
 // The patches so many levels below level 0.
 fn level_size(header: Header, up: u32) -> usize

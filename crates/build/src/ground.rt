@@ -2,12 +2,12 @@
 ghost use mathlib.Core.Path.{_≡_};
 ghost use Prim.Native.Nat.{_+_, _-_, _*_, _≤_};
 ghost use lib.ListN.{length};
-ghost use Rattle.mesh.specs.Headers.{headerOf};
+ghost use Rattle.header.specs.Headers.{headerOf};
 ghost use Rattle.mesh.specs.Picture.{rowWords};
 ghost use Rattle.edit_laws.specs.Anew.{wallRow, pointRow};
 ghost use Rattle.edit_laws.specs.Built.{eachRow, groundRow};
 ghost use Rattle.table.specs.Plain.{Plain};
-use mesh::header::Header;
+use header::Header;
 use patch::anew::point_row;
 use patch::anew::wall_row;
 use table::words::FLAGS;

@@ -2,23 +2,23 @@
 ghost use mathlib.Core.Path.{_≡_};
 ghost use Prim.Native.Nat.{_+_, _-_, _<_, _≤_};
 ghost use Rattle.mesh.specs.Place.{base};
-ghost use Rattle.mesh.specs.Headers.{headerOf};
-ghost use Rattle.mesh.specs.Winds.{kidL, kidM};
+ghost use Rattle.header.specs.Headers.{headerOf};
+ghost use Rattle.winds.specs.WindTable.{kidL, kidM};
 ghost use Rattle.table.specs.Plain.{Plain, Sized};
 ghost use Rattle.edit_laws.specs.Built.{inFull, grow, growKids, growLevel};
 ghost use Rattle.build.specs.BuildSteps.{growth, inTurn, Reached};
 ghost use Rattle.edit_laws.specs.Growing.{Able, KidsToGrow, LevelToGrow, LevelsToGrow};
-use mesh::NE;
-use mesh::NW;
-use mesh::SE;
-use mesh::SW;
-use mesh::header::Header;
-use mesh::header::last_j;
-use mesh::kid_digits;
+use header::Header;
+use header::last_j;
 use patch::links::link_in;
 use table::words::INDEX_I;
 use table::words::INDEX_J;
 use table::words::word;
+use winds::NE;
+use winds::NW;
+use winds::SE;
+use winds::SW;
+use winds::kid_digits;
 
 // Whether a place is a patch of the full rectangle, so many levels below level 0.
 fn in_full(header: Header, up: u32, i: u32, j: u32) -> bool

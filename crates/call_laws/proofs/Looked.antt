@@ -3,7 +3,7 @@
 -- Assumes nothing.
 use Prim.Native.Nat.{ℕ, zero, suc}
 use native.Mathlib.Omega.{arith}
-use mathlib.Core.Path.{_≡_, refl, ap, _∙_, subst}
+use mathlib.Core.Path.{_≡_, refl, ap, _∙_}
 use mathlib.Core.Bool.{Bool, true, false, cond}
 use mathlib.Core.List.{List, [], _∷_}
 use lib.Dec.{eqb}
@@ -12,30 +12,31 @@ use lib.Ieee.{Float}
 use borrow.Author.Tests.{ne-eqb}
 use Rattle.mesh.specs.Tools.{any}
 use Rattle.mesh.specs.Place.{Grid, base}
-use Rattle.mesh.specs.State.{State, Value, blank, measured, carried, status, amount, valueOf, entry, gridOf, capacity}
+use Rattle.mesh.specs.State.{State, Value, blank, measured, carried, valueOf, entry, gridOf, capacity}
 use Rattle.mesh.specs.Valid.{Valid}
-use Rattle.mesh.specs.Picture.{table, amounts}
+use Rattle.mesh.specs.Picture.{table, amounts, Lent}
 use Rattle.mesh.specs.Refusal.{_if_, refusal}
 use Rattle.mesh.specs.Lookup.{tries, beyond, lookup, lookupChecks}
-use Rattle.mesh.specs.Call.{Lent, Found, lentChecks, stateOf, unless, lookupCall}
-use Rattle.lookup.specs.LookupRows.{rowLookup, rowValue, rowLookupOut}
-use Rattle.picture_laws.proofs.Rows.{amounts-at}
-use Rattle.table_laws.proofs.Pictured.{word-status}
-use Rattle.picture_laws.proofs.Soundness.{sound-state}
+use Rattle.mesh.specs.Decode.{decode}
+use Rattle.mesh.specs.Call.{Found, checkCall, unless, lookupCall}
+use Rattle.table.specs.Carried.{carriedOf, carriedFor, valueIn}
+use Rattle.lookup.specs.LookupRows.{rowLookup, rowLookupOut}
+use Rattle.table_laws.proofs.Pictured.{carried-there}
+use Rattle.picture_laws.proofs.Soundness.{sound-valid}
+use Rattle.picture_laws.proofs.Accepted.{lent-sound}
 use Rattle.walk_laws.specs.Reach.{reaches}
 use Rattle.walk_laws.proofs.Lookups.{lookup-refused}
 use Rattle.call_laws.proofs.FindingRows.{row-lookup}
-use Rattle.call_laws.proofs.Called.{lent-sound, checks-after, by-picture}
+use Rattle.call_laws.proofs.Called.{checks-after, by-picture}
 
 -- a value is its status and its amount
-value-is : (x : Value) → cond (eqb (status x) 1) (measured (amount x)) (cond (eqb (status x) 2) (carried (amount x)) blank) ≡ x
+value-is : (x : Value) → valueIn (carriedFor x) ≡ x
 value-is blank = refl
 value-is (measured x) = refl
 value-is (carried x) = refl
 
-value-there : (s : State) (n : ℕ) → rowValue (table s) (amounts s) n ≡ valueOf (entry (s .entries) n)
-unfolding rowValue
-value-there s n = rw (word-status s n, amounts-at s n) (value-is (valueOf (entry (s .entries) n)))
+value-there : (s : State) (n : ℕ) → valueIn (carriedOf (table s) (amounts s) n) ≡ valueOf (entry (s .entries) n)
+value-there s n = rw (carried-there s n) (value-is (valueOf (entry (s .entries) n)))
 
 -- what is answered if it is refused, and if the leaf n with the value x is found
 abbrev answered : ℕ → ℕ → Value → Found
@@ -61,27 +62,26 @@ module _ (u v : ℕ) where
   lookup-picture s x = rw (← value-there s (lookup s u v), row-lookup s x u v) (go (beyond (gridOf s) v))
     where
       go : (b : Bool) → let n = cond b 0 (rowLookup (table s) (capacity s) (base (gridOf s)) u v) in
-          answered (refusal ((19 if eqb n 0) ∷ [])) n (rowValue (table s) (amounts s) n)
+          answered (refusal ((19 if eqb n 0) ∷ [])) n (valueIn (carriedOf (table s) (amounts s) n))
           ≡ cond b (record { refusal = 19; leaf = 0; value = blank }) (rowLookupOut (table s) (amounts s) (capacity s) (base (gridOf s)) u v)
       go true = refl
       go false = refl
 
   -- the lookup call
-  pub lookup-call : (cap : ℕ) (l : Lent) → refusal (lentChecks cap l) ≡ 0
+  pub lookup-call : (cap : ℕ) (l : Lent) → checkCall cap l ≡ 0
       → lookupCall cap l u v ≡ cond (beyond (l .header .grid) v) (record { refusal = 19; leaf = 0; value = blank }) (rowLookupOut (l .words) (l .values) cap (base (l .header .grid)) u v)
   unfolding lookupCall
   lookup-call cap l h =
-      ap (answer (stateOf l)) (checks-after cap l h (lookupChecks (stateOf l) u v))
-      ∙ by-picture cap l h (λ s. answer s (refusal (lookupChecks s u v))) (λ g t w c. byRows (g .grid) t w c) lookup-picture
+      ap (answer (decode l)) (checks-after cap l h (lookupChecks (decode l) u v))
+      ∙ by-picture cap l h (λ s. answer s (refusal (lookupChecks s u v))) (λ x c. byRows (x .header .grid) (x .words) (x .values) c) lookup-picture
 
   -- the leaf that the tries find first, and 19 exactly where none of them reaches the area
-  pub lookup-finds : (cap : ℕ) (l : Lent) → refusal (lentChecks cap l) ≡ 0
-      → let s = stateOf l in Valid s × (lookupCall cap l u v .leaf ≡ lookup s u v) × (lookupCall cap l u v .refusal ≡ cond (any (reaches s u v) tries) 0 19)
+  pub lookup-finds : (cap : ℕ) (l : Lent) → checkCall cap l ≡ 0
+      → let s = decode l in Valid s × (lookupCall cap l u v .leaf ≡ lookup s u v) × (lookupCall cap l u v .refusal ≡ cond (any (reaches s u v) tries) 0 19)
   unfolding lookupCall lookupChecks
   lookup-finds cap l h =
-      let s = stateOf l in
-      let o = lent-sound cap l h in
-      let w : Valid s = subst Valid (sound-state (l .header) (l .words) (l .values) o) (o .valid) in
+      let s = decode l in
+      let w = sound-valid (lent-sound cap l h) in
       let (leaf, refusal) = found-or-none (lookup s u v) (valueOf (entry (s .entries) (lookup s u v))) in
       let after = checks-after cap l h (lookupChecks s u v) in
       (w, rw after leaf, rw after (refusal ∙ lookup-refused w u v))

@@ -11,12 +11,12 @@ use mathlib.Core.Option.{some}
 use mathlib.Core.List.{List, [], _∷_, map}
 use lib.Dec.{T, eqb}
 use lib.IntN.{natAbs, subℕ}
-use lib.ListN.{length, getD}
+use lib.ListN.{length}
 use lib.Ieee.{toBits, binary64}
 use Rattle.mesh.specs.Tools.{any, flat, orElse}
 use Rattle.mesh.specs.Place.{Place, Grid, SW, NW, SE, NE, base, level, root}
 use Rattle.mesh.specs.Mesh.{leaf}
-use Rattle.mesh.specs.State.{State, Entry, plusZero, placeOf, valueOf, amount, entry, cells, number, placeAt, gridOf, capacity}
+use Rattle.mesh.specs.State.{State, Entry, placeOf, valueOf, amount, entry, cells, number, placeAt, gridOf, capacity}
 use Rattle.mesh.specs.Valid.{Valid, finite}
 use Rattle.mesh.specs.Picture.{table, amounts}
 use Rattle.mesh.specs.Page.{leaves, leafLine, body, page, footLine}
@@ -27,8 +27,7 @@ use Rattle.page.specs.PageRows.{leavesFrom, bodyOf, pageOf, rowPage}
 use Rattle.place_laws.proofs.Bools.{yes-is, or-left, or-right}
 use Rattle.place_laws.proofs.Kids.{leaf-cell}
 use Rattle.number_laws.proofs.NumberedPlaces.{valid-numbered, place-number}
-use Rattle.picture_laws.proofs.Rows.{amounts-at}
-use Rattle.table_laws.proofs.Pictured.{word-status, word-i, word-j, level-word}
+use Rattle.table_laws.proofs.Pictured.{carried-there, word-i, word-j, level-word}
 use Rattle.picture_laws.proofs.Soundness.{finite-amount}
 use Rattle.walk_laws.proofs.Walks.{walk-met, root-stands}
 use Rattle.walk_laws.proofs.Few.{walk-few}
@@ -82,9 +81,9 @@ module _ (s : State) (v : Valid s) where
 
   -- ---- lines
 
-  row-bits : (n : ℕ) → bitsOf (getD (amounts s) n plusZero) ≡ toBits binary64 (amount (valueOf (entry es n)))
+  row-bits : (n : ℕ) → bitsOf (amount (valueOf (entry es n))) ≡ toBits binary64 (amount (valueOf (entry es n)))
   unfolding bitsOf
-  row-bits n = rw (amounts-at s n, yes-is (finite (amount (valueOf (entry es n)))) (finite-amount s v n))
+  row-bits n = rw (yes-is (finite (amount (valueOf (entry es n)))) (finite-amount s v n))
 
   row-level : (n : ℕ) (p : Place) → placeOf (entry es n) ≡ some p → base g ≤ p .depth → wordOf (table s) n 9 ≡ natAbs (level g p)
   unfolding wordOf level
@@ -95,7 +94,7 @@ module _ (s : State) (v : Valid s) where
   leaf-line n p h t =
       let i : placeAt es n ≡ p = ap (orElse root (λ (q : Place). q)) h in
       let deep : base g ≤ p .depth = v .mesh .low p (leaf-cell g c p t) in
-      rw (i, row-level n p h deep, word-i s n p h, word-j s n p h, word-status s n, row-bits n)
+      rw (i, row-level n p h deep, word-i s n p h, word-j s n p h, carried-there s n, row-bits n)
 
   row-line : (n : ℕ) → T (any (eqb n) (leaves s)) → rowLine (table s) (amounts s) n ≡ leafLine s n
   unfolding leaves

@@ -5,13 +5,12 @@ use mathlib.Core.Bool.{Bool, _&&_}
 use mathlib.Core.List.{List}
 use Prim.Native.Nat.{ℕ}
 use lib.Dec.{eqb}
-use lib.ListN.{getD}
 use lib.IntN.{ℤ}
 use lib.Ieee.{Float}
-use Rattle.mesh.specs.State.{plusZero}
-use Rattle.mesh.specs.Test.{sameFloat}
-use Rattle.mesh.specs.Picture.{parentWord, neWord, seWord, swWord, nwWord, northWord, eastWord, southWord, westWord, levelWord, iWord, jWord, flagsWord, statusWord}
+use Rattle.mesh.specs.Picture.{parentWord, neWord, seWord, swWord, nwWord, northWord, eastWord, southWord, westWord, levelWord, iWord, jWord, flagsWord}
 use Rattle.table.specs.Words.{wordOf}
+use Rattle.table.specs.Carried.{carriedOf, isNothing}
+use Rattle.table.specs.declared.carried.Carried.{Carried}
 use Rattle.checker_laws.specs.Rowwise.{below, emptyOk, zeroOk}
 
 pub zeros-are : (t : List ℤ) (n : ℕ) {b0 b1 b2 b3 b4 b5 b6 b7 b8 b9 b10 b11 : Bool} →
@@ -31,14 +30,9 @@ pub zeros-are : (t : List ℤ) (n : ℕ) {b0 b1 b2 b3 b4 b5 b6 b7 b8 b9 b10 b11 
 zeros-are t n e0 e1 e2 e3 e4 e5 e6 e7 e8 e9 e10 e11 = rw (e0, e1, e2, e3, e4, e5, e6, e7, e8, e9, e10, e11)
 
 module _ (t : List ℤ) (v : List Float) where
-  pub empty-is : (n : ℕ) {x : Float} {s z u : Bool} →
-      s ≡ eqb (wordOf t n statusWord) 0 →
-      x ≡ getD v n plusZero →
-      z ≡ sameFloat x plusZero →
-      u ≡ below flagsWord (λ w. eqb (wordOf t n w) 0) →
-      (u && (s && z)) ≡ emptyOk t v n
+  pub empty-is : (n : ℕ) {c : Carried} {u z : Bool} → u ≡ below flagsWord (λ w. eqb (wordOf t n w) 0) → c ≡ carriedOf t v n → z ≡ isNothing c → (u && z) ≡ emptyOk t v n
   unfolding emptyOk
-  empty-is n a b c e = rw (a, c, b, e)
+  empty-is n a b c = rw (a, c, b)
 
   pub zero-is : {e f : Bool} → e ≡ emptyOk t v 0 → f ≡ eqb (wordOf t 0 flagsWord) 0 → (e && f) ≡ zeroOk t v
   unfolding zeroOk

@@ -4,27 +4,28 @@ ghost use Prim.Native.Nat.{_≤_, _<_};
 ghost use lib.ListN.{length};
 ghost use Rattle.checker_laws.specs.Rowwise.{blankOk, carriedOk, heldOk, valueOk};
 ghost use Rattle.readable.specs.Readable.{Readable};
+use table::carried::carried_at;
+use table::carried::is_blank;
+use table::carried::is_carried_down;
+use table::carried::is_measured;
+use table::carried::is_zero;
+use table::carried::same_value;
 use table::flag_bits::COMPLETE;
 use table::plain::flag;
 use table::plain::link;
 use table::values::is_finite;
-use table::values::is_plus_zero;
-use table::values::same_bits;
-use table::values::value;
 use table::words::PARENT;
-use table::words::STATUS;
-use table::words::says;
 
 // A blank row has the value +0, and its parent is blank if it is a cell.
 pub fn blank_ok(t: &[i32], v: &[f64], cap: usize, n: usize) -> bool
     requires { ⌜ Readable (now t) cap × (cap < length (now v)) × (n ≤ cap) ⌝ }
     ensures { λ r. ⌜ r ≡ blankOk (now (t .entry)) cap (now (v .entry)) n ⌝ }
 {
-    if !is_plus_zero(value(v, n)) {
+    if !is_zero(carried_at(t, v, n)) {
         return false;
     }
     let p = link(t, cap, n, PARENT);
-    !flag(t, cap, COMPLETE, n) | says(t, p, STATUS, 0)
+    !flag(t, cap, COMPLETE, n) | is_blank(carried_at(t, v, p))
 }
 
 // A carried value is the one of the parent, which is not blank.
@@ -32,8 +33,9 @@ fn carried_ok(t: &[i32], v: &[f64], cap: usize, n: usize) -> bool
     requires { ⌜ Readable (now t) cap × (cap < length (now v)) × (n ≤ cap) ⌝ }
     ensures { λ r. ⌜ r ≡ carriedOk (now (t .entry)) cap (now (v .entry)) n ⌝ }
 {
-    let p = link(t, cap, n, PARENT);
-    says(t, n, STATUS, 2) & !says(t, p, STATUS, 0) & same_bits(value(v, p), value(v, n))
+    let own = carried_at(t, v, n);
+    let above = carried_at(t, v, link(t, cap, n, PARENT));
+    is_carried_down(own) & !is_blank(above) & same_value(above, own)
 }
 
 // A row that is not blank is a cell with a finite value, measured or carried.
@@ -41,10 +43,11 @@ pub fn held_ok(t: &[i32], v: &[f64], cap: usize, n: usize) -> bool
     requires { ⌜ Readable (now t) cap × (cap < length (now v)) × (n ≤ cap) ⌝ }
     ensures { λ r. ⌜ r ≡ heldOk (now (t .entry)) cap (now (v .entry)) n ⌝ }
 {
-    if !(flag(t, cap, COMPLETE, n) & is_finite(value(v, n))) {
+    let own = carried_at(t, v, n);
+    if !(flag(t, cap, COMPLETE, n) & is_finite(own.value)) {
         return false;
     }
-    if says(t, n, STATUS, 1) {
+    if is_measured(own) {
         return true;
     }
     carried_ok(t, v, cap, n)
@@ -54,7 +57,7 @@ pub fn value_ok(t: &[i32], v: &[f64], cap: usize, n: usize) -> bool
     requires { ⌜ Readable (now t) cap × (cap < length (now v)) × (n ≤ cap) ⌝ }
     ensures { λ r. ⌜ r ≡ valueOk (now (t .entry)) cap (now (v .entry)) n ⌝ }
 {
-    if says(t, n, STATUS, 0) {
+    if is_blank(carried_at(t, v, n)) {
         return blank_ok(t, v, cap, n);
     }
     held_ok(t, v, cap, n)

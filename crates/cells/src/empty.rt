@@ -6,8 +6,8 @@ ghost use lib.ListN.{length};
 ghost use Rattle.mesh.specs.Picture.{flagsWord, rowWords};
 ghost use Rattle.table.specs.Words.{wordOf};
 ghost use Rattle.checker_laws.specs.Rowwise.{below, emptyOk, zeroOk};
-use table::values::is_plus_zero;
-use table::values::value;
+use table::carried::carried_at;
+use table::carried::is_nothing;
 use table::words::EAST;
 use table::words::FLAGS;
 use table::words::INDEX_I;
@@ -19,7 +19,6 @@ use table::words::NW_KID;
 use table::words::PARENT;
 use table::words::SE_KID;
 use table::words::SOUTH;
-use table::words::STATUS;
 use table::words::SW_KID;
 use table::words::WEST;
 use table::words::says;
@@ -48,8 +47,7 @@ pub fn empty_ok(t: &[i32], v: &[f64], n: usize) -> bool
     requires { ⌜ (n * rowWords + rowWords ≤ length (now t)) × (n < length (now v)) ⌝ }
     ensures { λ r. ⌜ r ≡ emptyOk (now (t .entry)) (now (v .entry)) n ⌝ }
 {
-    let blank = says(t, n, STATUS, 0) & is_plus_zero(value(v, n));
-    unlinked(t, n) & blank
+    unlinked(t, n) & is_nothing(carried_at(t, v, n))
 }
 
 // Whether row 0 is the nil patch.

@@ -6,10 +6,10 @@ pub mod points;
 
 ghost use mathlib.Core.Path.{_≡_};
 ghost use Prim.Native.Nat.{_≤_};
-ghost use Rattle.mesh.specs.Headers.{headerOf};
+ghost use Rattle.header.specs.Headers.{headerOf};
 ghost use Rattle.checker_laws.specs.Rowwise.{kindOk};
 ghost use Rattle.readable.specs.Readable.{Readable, Levelled};
-use mesh::header::Header;
+use header::Header;
 use readable::is_positive;
 use table::words::LEVEL;
 

@@ -2,13 +2,13 @@
 ghost use mathlib.Core.Path.{_≡_};
 ghost use mathlib.Core.Bool.{true, false, not, _||_};
 ghost use Prim.Native.Nat.{_≤_};
-ghost use Rattle.mesh.specs.Headers.{headerOf};
+ghost use Rattle.header.specs.Headers.{headerOf};
 ghost use Rattle.table.specs.Worked.{touchedIn};
 ghost use Rattle.checker_laws.specs.Rowwise.{ghostOk, kidCellsAre, insideOk, cellOk, sentenceOk, pointOk};
 ghost use Rattle.readable.specs.Readable.{Readable, Levelled};
 use crate::flags::bare_flags;
 use crate::flags::cell_flags;
-use mesh::header::Header;
+use header::Header;
 use readable::depth;
 use readable::index;
 use readable::kidless;

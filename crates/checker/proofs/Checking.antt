@@ -1,39 +1,25 @@
 -- The checker's answer: each early return is the first check that refuses, and past them all the test by rows is the test of soundness.
 -- Assumes nothing.
-use Prim.Native.Nat.{ℕ, _+_, _-_, _*_, _≤_, _<_, max}
+use Prim.Native.Nat.{ℕ, _-_, _≤_, _<_, max}
 use native.Mathlib.Omega.{arith}
 use mathlib.Core.Path.{_≡_, refl, sym, _∙_}
-use mathlib.Core.Logic.{_≢_}
-use mathlib.Core.Bool.{Bool, true, false, not, _||_, cond}
+use mathlib.Core.Bool.{Bool, true, false, not, cond}
 use mathlib.Core.List.{List, [], _∷_}
-use lib.Dec.{eqb}
 use lib.Count.{leadingZeros}
 use lib.ListN.{length, getD, List·getD-eq-default}
 use lib.IntN.{ℤ, pos}
-use lib.Ieee.{Float}
 use lib.Signed.{mag}
 use native.Mathlib.Decide.{decLt}
-use borrow.Author.Tests.{eq-eqb, ne-eqb}
 use Rattle.table.specs.Words.{Fits, FitsAt}
-use Rattle.mesh.specs.Picture.{rowWords}
+use Rattle.mesh.specs.Picture.{Lent}
 use Rattle.mesh.specs.Refusal.{Check, refusal}
-use Rattle.mesh.specs.Headers.{headerOf, lentOf}
-use Rattle.mesh.specs.declared.header.Header.{Header}
-use Rattle.mesh.specs.Call.{Lent, outside, misfit, no1, no2, no3, lentChecks, checkCall, Rectangle}
+use Rattle.mesh.specs.Call.{missized, Sizes, misfit, no1, no2, no3, lentChecks, checkCall, Rectangle}
 use Rattle.mesh.specs.Place.{Grid, base}
-use Rattle.place_laws.proofs.Ranges.{below-outside, above-outside, within-outside}
-use Rattle.place_laws.proofs.Base.{range-fits}
+use Rattle.place_laws.proofs.Ranges.{fits-sizes, sizes-fit}
+use Rattle.place_laws.proofs.Base.{fits-range, range-fits}
 use Rattle.checker_laws.specs.Rowwise.{rowwise}
+use Rattle.checker.specs.FirstChecks.{FirstRefusal}
 use Rattle.checker_laws.proofs.Agreeing.{rowwise-is-sound}
-
-last : (a b c : Bool) → c ≡ true → (a || (b || c)) ≡ true
-last true b c e = refl
-last false true c e = refl
-last false false c e = e
-
-either : (a b : Bool) → b ≡ true → (a || b) ≡ true
-either true b e = refl
-either false b e = e
 
 -- a depth is at most a word's width
 pub shallow : (g : Grid) → base g ≤ 32
@@ -52,63 +38,49 @@ all-fit t k l h i = go (decLt i k)
     go (yes x) = h i x
     go (no x) = word-fits (getD t i (pos 0)) (rw (List·getD-eq-default t (pos 0) {n = i} (omega arith)) (omega arith))
 
--- ---- the first two checks, whatever checks stand behind them
+-- ---- the first two checks
 
-module _ (cap : ℕ) (l : Lent) (cs : List Check) where
-  abbrev t : List ℤ
-  t = l .words
-
-  abbrev v : List Float
-  v = l .values
-
-  pub too-small : cap < 5 → 1 ≡ refusal (no1 cap l ∷ cs)
+module _ (cap : ℕ) (l : Lent) where
+  pub missizes : (Sizes cap l → ⊥) → FirstRefusal cap l 1
   unfolding refusal
-  too-small h = rw (last (not (eqb (length t) (rowWords * (cap + 1)))) (not (eqb (length v) (cap + 1))) (outside 5 4095 cap) (below-outside 5 4095 cap h))
-
-  pub too-large : 4095 < cap → 1 ≡ refusal (no1 cap l ∷ cs)
-  unfolding refusal
-  too-large h = rw (last (not (eqb (length t) (rowWords * (cap + 1)))) (not (eqb (length v) (cap + 1))) (outside 5 4095 cap) (above-outside 5 4095 cap h))
-
-  pub wrong-table : length t ≢ rowWords * (cap + 1) → 1 ≡ refusal (no1 cap l ∷ cs)
-  unfolding refusal
-  wrong-table h = rw (ne-eqb (length t) (rowWords * (cap + 1)) h)
-
-  pub wrong-values : length v ≢ cap + 1 → 1 ≡ refusal (no1 cap l ∷ cs)
-  unfolding refusal
-  wrong-values h = rw (ne-eqb (length v) (cap + 1) h) (rw (either (not (eqb (length t) (rowWords * (cap + 1)))) true refl))
-
-  module _ (size : length t ≡ rowWords * (cap + 1)) (places : length v ≡ cap + 1) (low : 5 ≤ cap) (high : cap ≤ 4095) where
-    -- past the first check
-    pub sized : refusal (no1 cap l ∷ cs) ≡ refusal cs
-    unfolding refusal
-    sized = rw (eq-eqb (length t) (rowWords * (cap + 1)) size, eq-eqb (length v) (cap + 1) places, within-outside 5 4095 cap low high)
-
-module _ (cap : ℕ) (l : Lent) (g : Grid) (cs : List Check) (size : length (l .words) ≡ rowWords * (cap + 1)) (places : length (l .values) ≡ cap + 1) (low : 5 ≤ cap) (high : cap ≤ 4095) where
-  pub misfits : misfit g ≡ true → 2 ≡ refusal (no1 cap l ∷ no2 g ∷ cs)
-  unfolding refusal
-  misfits h = sym (sized cap l (no2 g ∷ cs) size places low high ∙ rw h)
+  missizes h = record { refused = λ z cs. go cs (missized cap l) refl; sizes = λ z. absurd (omega arith); rectangle = λ z. absurd (omega arith) }
+    where
+      go : (cs : List Check) (b : Bool) → missized cap l ≡ b → 1 ≡ refusal (no1 cap l ∷ no2 (l .header .grid) ∷ cs)
+      go cs true e = rw e
+      go cs false e = absurd (h (fits-sizes cap l e))
 
   -- what stands behind them decides
-  pub both-pass : Rectangle g → refusal (no1 cap l ∷ no2 g ∷ cs) ≡ refusal cs
+  pub sized : (cs : List Check) → Sizes cap l → refusal (no1 cap l ∷ cs) ≡ refusal cs
   unfolding refusal
-  both-pass r = sized cap l (no2 g ∷ cs) size places low high ∙ rw (range-fits g r)
+  sized cs z = rw (sizes-fit cap l z)
+
+  pub both-pass : (g : Grid) (cs : List Check) → Sizes cap l → Rectangle g → refusal (no1 cap l ∷ no2 g ∷ cs) ≡ refusal cs
+  unfolding refusal
+  both-pass g cs z r = rw (sizes-fit cap l z, range-fits g r)
+
+  module _ (z : Sizes cap l) where
+    pub misfits : misfit (l .header .grid) ≡ true → FirstRefusal cap l 2
+    unfolding refusal
+    misfits h = record { refused = λ _ cs. rw (sizes-fit cap l z, h); sizes = λ z. absurd (omega arith); rectangle = λ z. absurd (omega arith) }
+
+    pub none-first : misfit (l .header .grid) ≡ false → FirstRefusal cap l 0
+    none-first h = record { refused = λ some cs. absurd (some refl); sizes = λ _. z; rectangle = λ _. fits-range (l .header .grid) h }
 
 -- ---- the checker
 
-module _ (h : Header) (cap : ℕ) (t : List ℤ) (v : List Float) (size : length t ≡ rowWords * (cap + 1)) (places : length v ≡ cap + 1) (low : 5 ≤ cap) (high : cap ≤ 4095)
-    (r : Rectangle (headerOf h .grid)) (f : Fits t) where
-  by-rows : (x : Bool) → x ≡ rowwise (headerOf h .grid) t cap v → refusal (no3 (lentOf h t v) ∷ []) ≡ cond x 0 3
+module _ (cap : ℕ) (l : Lent) (z : Sizes cap l) (r : Rectangle (l .header .grid)) (f : Fits (l .words)) where
+  by-rows : (x : Bool) → x ≡ rowwise (l .header .grid) (l .words) cap (l .values) → refusal (no3 l ∷ []) ≡ cond x 0 3
   unfolding refusal
-  by-rows x e = rw (sym (rowwise-is-sound (lentOf h t v .header) cap t v size places low high r f) ∙ sym e) (go x)
+  by-rows x e = rw (sym (rowwise-is-sound cap l z r f) ∙ sym e) (go x)
     where
       go : (x : Bool) → cond (not x) 3 0 ≡ cond {A = ℕ} x 0 3
       go true = refl
       go false = refl
 
-  pub rows-pass : true ≡ rowwise (headerOf h .grid) t cap v → 0 ≡ checkCall cap (lentOf h t v)
+  pub rows-pass : {x : Bool} → x ≡ rowwise (l .header .grid) (l .words) cap (l .values) → x ≡ true → 0 ≡ checkCall cap l
   unfolding checkCall lentChecks
-  rows-pass e = sym (both-pass cap (lentOf h t v) (headerOf h .grid) _ size places low high r ∙ by-rows true e)
+  rows-pass e y = sym (both-pass cap l (l .header .grid) _ z r ∙ by-rows true (sym y ∙ e))
 
-  pub rows-fail : false ≡ rowwise (headerOf h .grid) t cap v → 3 ≡ checkCall cap (lentOf h t v)
+  pub rows-fail : {x : Bool} → x ≡ rowwise (l .header .grid) (l .words) cap (l .values) → x ≡ false → 3 ≡ checkCall cap l
   unfolding checkCall lentChecks
-  rows-fail e = sym (both-pass cap (lentOf h t v) (headerOf h .grid) _ size places low high r ∙ by-rows false e)
+  rows-fail e y = sym (both-pass cap l (l .header .grid) _ z r ∙ by-rows false (sym y ∙ e))

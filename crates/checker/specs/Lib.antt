@@ -1,3 +1,2 @@
--- What the first two checks, the test of a row and the test of all rows answer.
+-- What the first two checks answer.
 pub mod FirstChecks
-pub mod Firsts

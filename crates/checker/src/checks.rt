@@ -3,12 +3,11 @@ ghost use mathlib.Core.Path.{_≡_};
 ghost use Prim.Native.Nat.{_<_};
 ghost use lib.ListN.{length};
 ghost use Rattle.mesh.specs.Call.{checkCall};
-ghost use Rattle.mesh.specs.Headers.{lentOf};
-ghost use Rattle.free.specs.Free.{NoneBelow};
+ghost use Rattle.header.specs.Headers.{lentOf};
 ghost use Rattle.table.specs.Words.{Fits, FitsAt};
 use crate::lent::first_refusal;
 use crate::rowwise;
-use mesh::header::Header;
+use header::Header;
 use readable::plain;
 
 // Reads every word, for what that shows: each is a signed number of 32 bits. Nothing comes of it, so no code is left of it either.
@@ -29,43 +28,19 @@ fn sound_word(t: &[i32], i: usize) -> i32
     t[i]
 }
 
-// 0 for yes, or the refusal; and for yes a number below which none is free, which a tape begins with.
-pub struct Checked {
-    pub refusal: u32,
-    pub first: usize,
-}
-
-fn refused(refusal: u32) -> Checked
-    ensures { λ r. ⌜ (r .refusal ≡ refusal) × (r .first ≡ 1) ⌝ }
-{
-    Checked { refusal, first: 1 }
-}
-
-// Any lists of any length, any capacity and any header. The mark plays no part.
-pub fn check_first(header: Header, t: &[i32], v: &[f64], capacity: u32) -> Checked
-    ensures { λ r. ⌜ (r .refusal ≡ checkCall capacity (lentOf header (now (t .entry)) (now (v .entry)))) × (r .refusal ≡ 0 → NoneBelow capacity (now (t .entry)) (r .first)) ⌝ }
-{
-    let early = first_refusal(header, t, v, capacity);
-    if early != 0 {
-        return refused(early);
-    }
-    let cap = capacity as usize;
-    words_fit(t);
-    let d = mesh::ground_depth(header);
-    if !plain(t, cap, d) {
-        return refused(3);
-    }
-    let first = rowwise(t, v, cap, header, d);
-    if first == 0 {
-        return refused(3);
-    }
-    Checked { refusal: 0, first }
-}
-
-// 0 for yes, or the refusal.
+// 0 for yes, or the refusal: of any lists of any length, any capacity and any header. The mark plays no part.
 pub fn check(header: Header, t: &[i32], v: &[f64], capacity: u32) -> u32
     ensures { λ r. ⌜ r ≡ checkCall capacity (lentOf header (now (t .entry)) (now (v .entry))) ⌝ }
 {
-    let c = check_first(header, t, v, capacity);
-    c.refusal
+    let early = first_refusal(header, t, v, capacity);
+    if early != 0 {
+        return early;
+    }
+    let cap = capacity as usize;
+    words_fit(t);
+    let d = header::ground_depth(header);
+    if !plain(t, cap, d) {
+        return 3;
+    }
+    if rowwise(t, v, cap, header, d) { 0 } else { 3 }
 }

@@ -1,23 +1,23 @@
 -- A table that passes the row-by-row test is sound: the state that it decodes to is valid, and the table and the values are that state's.
 -- Assumes nothing.
-use Prim.Native.Nat.{ℕ, _+_, _*_, _≤_}
+use Prim.Native.Nat.{ℕ, _≤_}
 use native.Mathlib.Omega.{arith}
 use native.Mathlib.Decide.{ℕ-discrete}
 use mathlib.Core.Path.{_≡_, refl}
 use mathlib.Core.Bool.{not}
 use mathlib.Core.List.{List}
 use lib.Dec.{T}
-use lib.ListN.{length}
 use lib.IntN.{ℤ}
 use lib.Ieee.{Float}
-use Rattle.mesh.specs.Call.{Rectangle}
-use Rattle.mesh.specs.State.{State, Header, isNil, entry, gridOf}
+use Rattle.mesh.specs.Call.{Sizes, Rectangle}
+use Rattle.mesh.specs.State.{State, isNil, entry, gridOf}
 use Rattle.mesh.specs.Valid.{Valid}
-use Rattle.mesh.specs.Picture.{rowWords, Sound, flagsWord, freeFlags}
+use Rattle.mesh.specs.Picture.{flagsWord, freeFlags, Lent, Sound}
 use Rattle.mesh.specs.Decode.{decode}
 use Rattle.table.specs.Words.{wordOf, Fits}
 use Rattle.checker_laws.specs.Rowwise.{rowwise}
 use Rattle.number_laws.proofs.Entries.{stands-in}
+use Rattle.picture_laws.proofs.Parts.{parts-picture}
 use Rattle.checker_laws.proofs.Facts.{rowwise-tested}
 use Rattle.checker_laws.proofs.Climbing.{root-said}
 use Rattle.checker_laws.proofs.Reading.{Reads, decode-reads}
@@ -25,7 +25,7 @@ use Rattle.checker_laws.proofs.Linking.{used-place}
 use Rattle.checker_laws.proofs.Meshing.{cells-mesh}
 use Rattle.checker_laws.proofs.Existing.{row-patch, patch-row}
 use Rattle.checker_laws.proofs.Valuing.{sentence-rule, value-rule}
-use Rattle.checker_laws.proofs.Picturing.{is-picture, are-amounts}
+use Rattle.checker_laws.proofs.Picturing.{are-words, are-amounts}
 
 -- ---- the state
 
@@ -54,15 +54,9 @@ module _ (s : State) {cap : ℕ} {t : List ℤ} {v : List Float} (o : Reads (gri
 
 -- ---- the table
 
-pub rowwise-sound : (h : Header) (cap : ℕ) (t : List ℤ) (v : List Float) → length t ≡ rowWords * (cap + 1) → length v ≡ cap + 1 → 5 ≤ cap → cap ≤ 4095
-    → Rectangle (h .grid) → Fits t → T (rowwise (h .grid) t cap v) → Sound h t v
+pub rowwise-sound : (cap : ℕ) (l : Lent) → Sizes cap l → Rectangle (l .header .grid) → Fits (l .words) → T (rowwise (l .header .grid) (l .words) cap (l .values)) → Sound l
 unfolding decode
-rowwise-sound h cap t v lt lv low high r f x =
-    let o = decode-reads h (rowwise-tested (h .grid) cap t v (omega arith) x) r f lv in
-    record {
-      state = decode h t v;
-      valid = reads-valid (decode h t v) o low high;
-      is-header = refl;
-      is-table = is-picture (decode h t v) o f high lt;
-      is-values = are-amounts (decode h t v) o f high lv;
-    }
+rowwise-sound cap l z r f x =
+    let s = decode l in
+    let o = decode-reads l (rowwise-tested (l .header .grid) cap (l .words) (l .values) (omega (arith, z .low)) x) r f (z .values) in
+    record { state = s; valid = reads-valid s o (z .low) (z .high); is-picture = parts-picture s refl (are-words s o f (z .high) (z .words)) (are-amounts s o f (z .high) (z .values)) }

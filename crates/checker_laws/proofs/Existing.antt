@@ -4,7 +4,7 @@
 use Prim.Native.Nat.{ℕ, zero, suc, _+_, _≤_, _<_}
 use native.Mathlib.Omega.{arith}
 use native.Mathlib.Decide.{decLt}
-use mathlib.Core.Path.{_≡_, refl, sym, ap, _∙_}
+use mathlib.Core.Path.{_≡_, sym, ap, _∙_}
 use mathlib.Core.Logic.{_≢_}
 use mathlib.Core.Option.{some, Option·some-injective}
 use mathlib.Core.List.{List}
@@ -16,6 +16,7 @@ use Rattle.mesh.specs.Mesh.{patch}
 use Rattle.mesh.specs.State.{Entry, cells}
 use Rattle.mesh.specs.Picture.{parentWord, northWord, eastWord}
 use Rattle.table.specs.Words.{linkOf}
+use Rattle.place_laws.proofs.Steps.{step-north, step-east}
 use Rattle.place_laws.proofs.Kids.{parent-depth}
 use Rattle.place_laws.proofs.Near.{Corner, c-here, c-east, c-north, c-both, touched-corner}
 use Rattle.place_laws.proofs.Tree.{patch-touched, touched-patch, ghost-kid, kid-ghost}
@@ -25,15 +26,6 @@ use Rattle.checker_laws.proofs.Patches.{CellRow}
 use Rattle.checker_laws.proofs.Reading.{Reads}
 use Rattle.checker_laws.proofs.Linking.{side-link}
 use Rattle.checker_laws.proofs.Meshing.{Stands, linked, cell-row, cell-facts, row-touched, ghost-kid-row}
-
--- a step north and a step east there is always a place
-north-step : (g : Grid) (p : Place) → step g N p ≡ some (toNorth g p)
-unfolding step
-north-step g p = refl
-
-east-step : (g : Grid) (p : Place) → step g E p ≡ some (toEast g p)
-unfolding step
-east-step g p = refl
 
 module _ {g : Grid} {cap : ℕ} {t : List ℤ} {v : List Float} {es : List Entry} (o : Reads g cap t v es) where
   -- ---- a row stands at a patch
@@ -57,13 +49,13 @@ module _ {g : Grid} {cap : ℕ} {t : List ℤ} {v : List Float} {es : List Entry
   north-row n u z =
       let e = side-link o N tt n u in
       let (k, s) = rw e at (linked o (step g N (saidPlace g t n)) (λ y. z (sym e ∙ y))) in
-      (k, sym (Option·some-injective _ _ (sym (north-step g (saidPlace g t n)) ∙ s)))
+      (k, sym (Option·some-injective _ _ (sym (step-north g (saidPlace g t n)) ∙ s)))
 
   east-row : (n : ℕ) → Used cap t n → linkOf t cap n eastWord ≢ 0 → Used cap t (linkOf t cap n eastWord) × (saidPlace g t (linkOf t cap n eastWord) ≡ toEast g (saidPlace g t n))
   east-row n u z =
       let e = side-link o E tt n u in
       let (k, s) = rw e at (linked o (step g E (saidPlace g t n)) (λ y. z (sym e ∙ y))) in
-      (k, sym (Option·some-injective _ _ (sym (east-step g (saidPlace g t n)) ∙ s)))
+      (k, sym (Option·some-injective _ _ (sym (step-east g (saidPlace g t n)) ∙ s)))
 
   corner-row : {r q : Place} → Corner g r q → (n : ℕ) → Used cap t n → saidPlace g t n ≡ r → CellRow g cap t n → Stands o q
   corner-row {r} c-here n u s f = (n, u, s)

@@ -17,10 +17,11 @@ use Rattle.mesh.specs.Tools.{every}
 use Rattle.mesh.specs.Place.{Place, Grid, at, root, base, parent, Wind, NE, SE, SW, NW, N, E, S, W}
 use Rattle.mesh.specs.Winds.{wordOfWind}
 use Rattle.mesh.specs.State.{plusZero}
-use Rattle.mesh.specs.Picture.{parentWord, iWord, jWord, flagsWord, statusWord, freeFlags}
+use Rattle.mesh.specs.Picture.{parentWord, iWord, jWord, flagsWord, freeFlags}
 use Rattle.table.specs.Words.{wordOf, linkOf, freeAt, depthOf}
+use Rattle.table.specs.Carried.{carriedOf, statusOf, isBlank, isZero}
 use Rattle.table.specs.Worked.{kidWord, sideIn}
-use Rattle.checker_laws.specs.Rowwise.{below, isPlusZero, emptyOk, zeroOk, rootTests, rootOk, childTests, childOk, placeOk, kidTests, kidOk, kidsTests, kidsOk, sideTests, sidesOk, ghostOk, pointOk, valueOk, usedTests, usedOk, rowOk, rowwise}
+use Rattle.checker_laws.specs.Rowwise.{below, emptyOk, zeroOk, rootTests, rootOk, childTests, childOk, placeOk, kidTests, kidOk, kidsTests, kidsOk, sideTests, sidesOk, ghostOk, pointOk, valueOk, usedTests, usedOk, rowOk, rowwise}
 use Rattle.place_laws.proofs.Bools.{and-left, and-right, or-cases}
 use Rattle.place_laws.proofs.Lists.{every-at}
 use Rattle.place_laws.proofs.Places.{place-path}
@@ -96,8 +97,8 @@ pub record Row (g : Grid) (cap : ℕ) (t : List ℤ) (v : List Float) (n : ℕ) 
 -- the words of a row without a patch but its flags, and its value
 pub record Empty (t : List ℤ) (v : List Float) (n : ℕ) : Type 0 where
   pub words : (w : ℕ) → w < flagsWord → wordOf t n w ≡ 0
-  pub status : wordOf t n statusWord ≡ 0
-  pub value : getD v n plusZero ≡ plusZero
+  pub status : statusOf (carriedOf t v n) ≡ 0
+  pub value : carriedOf t v n .value ≡ plusZero
 
 pub record Tested (g : Grid) (cap : ℕ) (t : List ℤ) (v : List Float) : Type 0 where
   pub zeroth : Empty t v 0
@@ -113,8 +114,8 @@ module _ (g : Grid) (cap : ℕ) (t : List ℤ) (v : List Float) where
   unfolding emptyOk
   empty-facts n h =
       let a = below flagsWord (λ w. eqb (wordOf t n w) 0) in
-      let b = eqb (wordOf t n statusWord) 0 in
-      let c = isPlusZero v n in
+      let b = isBlank (carriedOf t v n) in
+      let c = isZero (carriedOf t v n) in
       record {
         words = λ w l. eqb→eq _ _ (below-at flagsWord (λ w. eqb (wordOf t n w) 0) (and-left a (b && c) h) w l);
         status = eqb→eq _ _ (and-left b c (and-right a (b && c) h));

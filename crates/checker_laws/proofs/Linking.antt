@@ -20,7 +20,7 @@ use Rattle.mesh.specs.Mesh.{on, completeBit}
 use Rattle.mesh.specs.State.{Entry, Cell, placeOf, cellOf, entry, cells, number, numberOf}
 use Rattle.mesh.specs.Picture.{parentWord, iWord, jWord, flagsWord}
 use Rattle.table.specs.Words.{wordOf, linkOf, flagOf, depthOf}
-use Rattle.table.specs.Worked.{kidWord, sideOf, downTo, sideIn}
+use Rattle.table.specs.Worked.{kidWord, sideBy, sideOf, downTo, sideIn}
 use Rattle.table.proofs.LinkRanges.{link-word}
 use Rattle.place_laws.proofs.Laps.{Smooth, smooth-is}
 use Rattle.place_laws.proofs.Base.{lap-many}
@@ -176,7 +176,7 @@ module _ {g : Grid} {cap : ℕ} {t : List ℤ} {v : List Float} {es : List Entry
 
   module _ (w : Wind) (side : T (aside w)) where
     side-high : (n : ℕ) → sideIn g t cap n w ≤ cap
-    unfolding sideIn sideOf
+    unfolding sideIn sideOf sideBy
     side-high n = go (crosses g w (at (depthOf t (base g) n) (wordOf t n iWord) (wordOf t n jWord)))
       where
         go : (b : Bool) → cond b (orElse 0 (λ q. downTo t cap (q .depth) (q .i) (q .j)) (step g w (at (depthOf t (base g) n) (wordOf t n iWord) (wordOf t n jWord)))) (sideOf t cap n w) ≤ cap
@@ -190,7 +190,7 @@ module _ {g : Grid} {cap : ℕ} {t : List ℤ} {v : List Float} {es : List Entry
 
     -- under the root there is none, and beside the root there is none
     side-none : (n : ℕ) → linkOf t cap n parentWord ≡ 0 → sideOf t cap n w ≡ 0
-    unfolding sideOf
+    unfolding sideOf sideBy
     side-none n e =
         let (l, m) : ℕ × ℕ = ((wordOf t n iWord % 2 + compass w .east + 1) % 2, (wordOf t n jWord % 2 + compass w .north + 1) % 2) in
         rw (e, zero-link (wordOfWind w) (wind-small w), cond-same) (zero-link (kidWord l m) (kid-word-small l m (omega arith) (omega arith)))
@@ -209,7 +209,7 @@ module _ {g : Grid} {cap : ℕ} {t : List ℤ} {v : List Float} {es : List Entry
     -- the row by the parent's, where the step does not cross the seam of level 0
     side-up : (e n : ℕ) → ((p : ℕ) → saidPlace g t p .depth ≡ e → Used cap t p → numberOf es (step g w (saidPlace g t p)) ≡ sideIn g t cap p w)
         → saidPlace g t n .depth ≡ suc e → Used cap t n → Smooth g w (saidPlace g t n) → numberOf es (step g w (saidPlace g t n)) ≡ sideOf t cap n w
-    unfolding sideOf saidPlace
+    unfolding sideOf sideBy saidPlace
     side-up e n above d u smooth =
         let z : n ≢ 1 = not-root (o .tested) n (omega arith) in
         let c = o .tested .row n u .child z in

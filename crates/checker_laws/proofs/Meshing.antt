@@ -22,7 +22,8 @@ use Rattle.mesh.specs.Tools.{all}
 use Rattle.mesh.specs.Picture.{southWord, westWord}
 use Rattle.place_laws.proofs.Kids.{parent-depth, kids-all, has-kid}
 use Rattle.place_laws.proofs.Near.{corner-depth, touched-corner}
-use Rattle.place_laws.proofs.SideDigits.{kid-by-parent, parent-by, southwest}
+use Rattle.place_laws.proofs.Steps.{southwest}
+use Rattle.place_laws.proofs.SideDigits.{kid-by-parent, parent-by}
 use Rattle.checker_laws.proofs.Facts.{Used, saidPlace}
 use Rattle.checker_laws.proofs.Climbing.{said-depth, said-i, said-j, root-said}
 use Rattle.checker_laws.proofs.WordsBack.{flag-zero}

@@ -10,7 +10,6 @@ use mathlib.Core.Bool.{Bool, true, false, not, _&&_, _||_, cond, Bool·beq, and-
 use mathlib.Core.Option.{Option, none, some, Option·some-injective}
 use mathlib.Core.List.{List, [], _∷_}
 use lib.Dec.{T, T-not, not-T, eqb, ltb, eqb→eq, lit<, lit≤}
-use lib.ListN.{getD}
 use borrow.Author.Tests.{le-leb, lt-ltb, le-ltb, eq-eqb, ne-eqb}
 use Rattle.mesh.specs.Tools.{all, every, digits, orElse, isSome}
 use Rattle.mesh.specs.Place.{Place, Grid, root, base, Wind, SW, N, E, S, W, sideWinds, step, kids, parent, toNorth, toEast}
@@ -18,13 +17,15 @@ use Rattle.mesh.specs.Winds.{wordOfWind, _of_}
 use Rattle.mesh.specs.Mesh.{on, patch, touched, hasKids, completeBit, sentencedBit}
 use Rattle.mesh.specs.State.{State, Entry, nil, free, used, Cell, Value, blank, measured, carried, plusZero, amount, status, isBlank, isNil, placeOf, cellOf, isSentenced, valueOf, entry, cells, number, numberOf, gridOf, capacity}
 use Rattle.mesh.specs.Valid.{Valid, ValueRule, finite, aboveOf}
-use Rattle.mesh.specs.Picture.{table, amounts, parentWord, nwWord, northWord, eastWord, southWord, westWord, iWord, jWord, flagsWord, statusWord}
+use Rattle.mesh.specs.Picture.{table, amounts, parentWord, nwWord, northWord, eastWord, southWord, westWord, iWord, jWord, flagsWord}
 use Rattle.mesh.specs.Test.{sameFloat}
 use Rattle.table.specs.Words.{wordOf, linkOf, flagOf, freeAt, depthOf}
+use Rattle.table.specs.Carried.{carriedOf, carriedFor, isNothing}
 use Rattle.table.specs.Worked.{kidWord, sideIn, flagsFrom, touchedIn}
-use Rattle.checker_laws.specs.Rowwise.{below, isPlusZero, emptyOk, zeroOk, rootOk, childOk, placeOk, kidTests, kidOk, kidsTests, kidsOk, sideTests, sidesOk, ghostOk, kidCellsAre, insideOk, cellOk, sentenceTests, sentenceOk, pointTests, pointOk, blankOk, heldOk, valueOk, usedTests, usedOk, rowOk, rowwise}
+use Rattle.checker_laws.specs.Rowwise.{below, emptyOk, zeroOk, rootOk, childOk, placeOk, kidTests, kidOk, kidsTests, kidsOk, sideTests, sidesOk, ghostOk, kidCellsAre, insideOk, cellOk, sentenceTests, sentenceOk, pointTests, pointOk, carriedAbove, blankOk, heldOk, valueOk, usedTests, usedOk, rowOk, rowwise}
 use Rattle.place_laws.proofs.Bools.{is-yes, yes-is, no-is, and-both, or-left, or-right, implies, either, beq-refl}
 use Rattle.place_laws.proofs.Lists.{at-every}
+use Rattle.place_laws.proofs.Steps.{step-north, step-east, southwest}
 use Rattle.place_laws.proofs.Kids.{up, parent-up, no-parent, parent-depth, all-kids, kids-all, kid-has, leaf-cell, leaf-kidless}
 use Rattle.place_laws.proofs.SideDigits.{kidBy, parent-by, kid-by-parent, kid-by-digits}
 use Rattle.place_laws.proofs.Near.{c-east, c-north, c-both}
@@ -32,10 +33,9 @@ use Rattle.place_laws.proofs.Tree.{patch-parent, patch-touched, ghost-kid, patc
 use Rattle.place_laws.proofs.Base.{halved, depth-zero-root}
 use Rattle.number_laws.proofs.Entries.{place-used, cell-there}
 use Rattle.number_laws.proofs.NumberedPlaces.{valid-numbered, number-place, place-number, not-zero, numbered-not-zero, cells-contents, entry-contents}
-use Rattle.picture_laws.proofs.Rows.{amounts-at}
 use Rattle.picture_laws.proofs.Equal.{float-refl}
 use Rattle.picture_laws.proofs.Links.{wind-lt}
-use Rattle.table_laws.proofs.Pictured.{link-word, word-status, free-flags, free-words, nil-words, word-i, word-j, word-flags, sentenced-flag, patch-not-free}
+use Rattle.table_laws.proofs.Pictured.{link-word, carried-there, free-flags, free-words, nil-words, word-i, word-j, word-flags, sentenced-flag, patch-not-free}
 use Rattle.table_laws.proofs.LinkedRows.{kid-word-lt, patch-numbered, corner-numbered, depth-of, link-parent, link-side, link-kid-of, kids-every, side-in}
 use Rattle.table_laws.proofs.FlaggedRows.{sentenced-cell, cell-flag, ghost-flags, cell-of, cell-side, flags-from, cell-south}
 
@@ -93,9 +93,9 @@ module _ (s : State) (v : Valid s) where
   empty-ok : (n : ℕ) → ((w : ℕ) → w < flagsWord → word n w ≡ 0) → valueOf (entry es n) ≡ blank → T (emptyOk (table s) (amounts s) n)
   unfolding emptyOk
   empty-ok n z b =
-      and-both (below flagsWord (λ w. eqb (word n w) 0)) (eqb (word n statusWord) 0 && isPlusZero (amounts s) n)
+      and-both (below flagsWord (λ w. eqb (word n w) 0)) (isNothing (carriedOf (table s) (amounts s) n))
       (at-below flagsWord (λ w. eqb (word n w) 0) (λ w l. is-eqb (word n w) 0 (z w l)))
-      (rw (word-status s n, amounts-at s n, b) tt)
+      (rw (carried-there s n, b) tt)
 
   nil-ok : T (zeroOk (table s) (amounts s))
   unfolding zeroOk
@@ -237,11 +237,11 @@ module _ (s : State) (v : Valid s) where
         numbered-not-zero es (valid-numbered v) q (v .every q u) (eqb→eq (number es q) 0 (all-kids (λ q. eqb (number es q) 0) p t q e))))
 
     touched-ok : base g ≤ p .depth → T (touchedIn (table s) (capacity s) n)
-    unfolding touchedIn touched step
+    unfolding touchedIn touched
     touched-ok l =
-        let southwest : flagOf (table s) completeBit (link (link n westWord) southWord) ≡ on g c (step g SW p) =
-        ap (λ (k : ℕ). flagOf (table s) completeBit (link k southWord)) (link-side s v n p h W tt) ∙ cell-south s v (step g W p) in
-        rw (cell-of s v n p h, cell-side s v n p h W tt, cell-side s v n p h S tt, southwest)
+        let corner : flagOf (table s) completeBit (link (link n westWord) southWord) ≡ on g c (step g SW p) =
+        ap (λ (k : ℕ). flagOf (table s) completeBit (link k southWord)) (link-side s v n p h W tt) ∙ cell-south s v (step g W p) ∙ ap (on g c) (sym (southwest g p)) in
+        rw (cell-of s v n p h, cell-side s v n p h W tt, cell-side s v n p h S tt, corner)
         (patch-touched g c p l stands-here)
 
     -- all kids' places have a cell, or none has
@@ -273,12 +273,12 @@ module _ (s : State) (v : Valid s) where
           go (inr k) = or-right four no-kid (kid-cells false (λ q e. no-is (c q) (λ u. T-not (hasKids g c p) k (kid-has g c p q e u))))
 
       cell-ok : T (cellOk g (table s) (capacity s) (base g) n)
-      unfolding cellOk step
+      unfolding cellOk
       cell-ok =
-          let east : link n eastWord ≡ number es (toEast g p) = link-side s v n p h E tt in
-          let north : link n northWord ≡ number es (toNorth g p) = link-side s v n p h N tt in
+          let east : link n eastWord ≡ number es (toEast g p) = link-side s v n p h E tt ∙ ap (numberOf es) (step-east g p) in
+          let north : link n northWord ≡ number es (toNorth g p) = link-side s v n p h N tt ∙ ap (numberOf es) (step-north g p) in
           let both : link (number es (toEast g p)) northWord ≡ number es (toNorth g (toEast g p)) =
-          link-side s v (number es (toEast g p)) (toEast g p) (number-place es (toEast g p) (corner-numbered s v t c-east)) N tt in
+          link-side s v (number es (toEast g p)) (toEast g p) (number-place es (toEast g p) (corner-numbered s v t c-east)) N tt ∙ ap (numberOf es) (step-north g (toEast g p)) in
           rw (
             east,
             north,
@@ -320,16 +320,13 @@ module _ (s : State) (v : Valid s) where
     -- ---- values
 
     -- the value above is the one that the parent's row says
-    above-status : word (link n parentWord) statusWord ≡ status (aboveOf s p)
-    above-status = rw (link-parent s v n p h) (word-status s (numberOf es (parent p)))
-
-    above-amount : getD (amounts s) (link n parentWord) plusZero ≡ amount (aboveOf s p)
-    above-amount = rw (link-parent s v n p h) (amounts-at s (numberOf es (parent p)))
+    carried-above : carriedAbove (table s) (capacity s) (amounts s) n ≡ carriedFor (aboveOf s p)
+    carried-above = rw (link-parent s v n p h) (carried-there s (numberOf es (parent p)))
 
     value-ok : T (valueOk (table s) (capacity s) (amounts s) n)
     unfolding valueOk blankOk heldOk
     value-ok =
-        rw (word-status s n, amounts-at s n, above-status, above-amount, cell-of s v n p h)
+        rw (carried-there s n, carried-above, cell-of s v n p h)
         (go (cellOf (entry es n)) (place-used (entry es n) p h))
       where
         go : (o : Option Cell) → entry es n ≡ used p o → T (valueTest (c p) (orElse blank (λ x. x .value) o) (aboveOf s p))

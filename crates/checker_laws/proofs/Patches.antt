@@ -16,11 +16,13 @@ use Rattle.mesh.specs.Tools.{every, digits}
 use Rattle.mesh.specs.Place.{Grid, base}
 use Rattle.mesh.specs.State.{plusZero}
 use Rattle.mesh.specs.Valid.{finite}
-use Rattle.mesh.specs.Picture.{parentWord, neWord, seWord, swWord, nwWord, northWord, eastWord, iWord, jWord, flagsWord, statusWord}
+use Rattle.mesh.specs.Picture.{parentWord, neWord, seWord, swWord, nwWord, northWord, eastWord, iWord, jWord, flagsWord}
 use Rattle.mesh.specs.Mesh.{completeBit, sentencedBit}
 use Rattle.table.specs.Words.{wordOf, linkOf, flagOf, depthOf}
+use Rattle.table.specs.Carried.{carriedOf, statusOf, isBlank, isMeasured, isZero}
+use Rattle.table.specs.declared.carried.Carried.{Carried}
 use Rattle.table.specs.Worked.{kidWord, kidless, flagsFrom, touchedIn}
-use Rattle.checker_laws.specs.Rowwise.{isPlusZero, ghostOk, kidCellTests, kidCellsAre, cellTests, cellOk, sentenceTests, sentenceOk, pointTests, pointOk, blankOk, carriedTests, heldTests, heldOk, valueOk}
+use Rattle.checker_laws.specs.Rowwise.{ghostOk, kidCellTests, kidCellsAre, cellTests, cellOk, sentenceTests, sentenceOk, pointTests, pointOk, carriedAbove, blankOk, carriedTests, heldTests, heldOk, valueOk}
 use Rattle.place_laws.proofs.Bools.{and-left, and-right, or-cases, implied, beq-is}
 use Rattle.place_laws.proofs.Lists.{every-at}
 use Rattle.picture_laws.proofs.Equal.{float-is}
@@ -68,22 +70,26 @@ pub record Point (g : Grid) (cap : ℕ) (t : List ℤ) (n : ℕ) : Type 0 where
   pub sentence : T (flagOf t sentencedBit n) → Sentence g cap t n
   pub flags : wordOf t n flagsWord ≡ digits (flagsFrom t cap (base g) n (flagOf t sentencedBit n))
 
--- a value that is not blank: measured, or carried down from the parent's value
+-- measured, or carried down from a parent that is not blank and has the same value
+abbrev pub HeldAs : Carried → Carried → Type 0
+HeldAs own above = (statusOf own ≡ 1) ⊎ ((statusOf own ≡ 2) × (statusOf above ≢ 0) × (above .value ≡ own .value))
+
+-- a value that is not blank
 pub record Held (cap : ℕ) (t : List ℤ) (v : List Float) (n : ℕ) : Type 0 where
   pub cell : T (flagOf t completeBit n)
-  pub is-finite : T (finite (getD v n plusZero))
-  pub status : (wordOf t n statusWord ≡ 1) ⊎ ((wordOf t n statusWord ≡ 2) × (wordOf t (linkOf t cap n parentWord) statusWord ≢ 0) × (getD v (linkOf t cap n parentWord) plusZero ≡ getD v n plusZero))
+  pub is-finite : T (finite (carriedOf t v n .value))
+  pub status : HeldAs (carriedOf t v n) (carriedAbove t cap v n)
 
-pub held-small : {cap : ℕ} {t : List ℤ} {v : List Float} {n : ℕ} → Held cap t v n → wordOf t n statusWord ≤ 2
+pub held-small : {cap : ℕ} {t : List ℤ} {v : List Float} {n : ℕ} → Held cap t v n → statusOf (carriedOf t v n) ≤ 2
 held-small {cap} {t} {v} {n} f = go (f .status)
   where
-    go : (wordOf t n statusWord ≡ 1) ⊎ ((wordOf t n statusWord ≡ 2) × (wordOf t (linkOf t cap n parentWord) statusWord ≢ 0) × (getD v (linkOf t cap n parentWord) plusZero ≡ getD v n plusZero)) → wordOf t n statusWord ≤ 2
+    go : HeldAs (carriedOf t v n) (carriedAbove t cap v n) → statusOf (carriedOf t v n) ≤ 2
     go (inl e) = omega arith
     go (inr (e, r, s)) = omega arith
 
 pub record Blank (cap : ℕ) (t : List ℤ) (v : List Float) (n : ℕ) : Type 0 where
-  pub zero-value : getD v n plusZero ≡ plusZero
-  pub above : T (flagOf t completeBit n) → wordOf t (linkOf t cap n parentWord) statusWord ≡ 0
+  pub zero-value : carriedOf t v n .value ≡ plusZero
+  pub above : T (flagOf t completeBit n) → statusOf (carriedAbove t cap v n) ≡ 0
 
 -- ---- from the tests
 
@@ -155,13 +161,13 @@ module _ (cap : ℕ) (t : List ℤ) (v : List Float) where
   blank-facts : (n : ℕ) → T (blankOk t cap v n) → Blank cap t v n
   unfolding blankOk
   blank-facts n h =
-      let a = isPlusZero v n in
-      let b = eqb (wordOf t (linkOf t cap n parentWord) statusWord) 0 in
+      let a = isZero (carriedOf t v n) in
+      let b = isBlank (carriedAbove t cap v n) in
       record { zero-value = float-is _ _ (and-left a (not (flagOf t completeBit n) || b) h); above = λ c. eqb→eq _ _ (implied (flagOf t completeBit n) b (and-right a (not (flagOf t completeBit n) || b) h) c) }
 
   held-facts : (n : ℕ) → T (heldOk t cap v n) → Held cap t v n
   unfolding heldOk
-  held-facts n h = record { cell = nth 0; is-finite = nth 1; status = go (or-cases (eqb (wordOf t n statusWord) 1) (every bs) (nth 2)) }
+  held-facts n h = record { cell = nth 0; is-finite = nth 1; status = go (or-cases (isMeasured (carriedOf t v n)) (every bs) (nth 2)) }
     where
       bs : List Bool
       bs = carriedTests t cap v n
@@ -169,10 +175,10 @@ module _ (cap : ℕ) (t : List ℤ) (v : List Float) where
       nth : (k : ℕ) → T (getD (heldTests t cap v n) k true)
       nth = every-at (heldTests t cap v n) h
 
-      go : T (eqb (wordOf t n statusWord) 1) ⊎ T (every bs) → (wordOf t n statusWord ≡ 1) ⊎ ((wordOf t n statusWord ≡ 2) × (wordOf t (linkOf t cap n parentWord) statusWord ≢ 0) × (getD v (linkOf t cap n parentWord) plusZero ≡ getD v n plusZero))
+      go : T (isMeasured (carriedOf t v n)) ⊎ T (every bs) → HeldAs (carriedOf t v n) (carriedAbove t cap v n)
       go (inl e) = inl (eqb→eq _ _ e)
       go (inr e) = let at = every-at bs e in inr (eqb→eq _ _ (at 0), unequal _ _ (at 1), float-is _ _ (at 2))
 
-  pub value-facts : (n : ℕ) → T (valueOk t cap v n) → (wordOf t n statusWord ≡ 0 → Blank cap t v n) × (wordOf t n statusWord ≢ 0 → Held cap t v n)
+  pub value-facts : (n : ℕ) → T (valueOk t cap v n) → (statusOf (carriedOf t v n) ≡ 0 → Blank cap t v n) × (statusOf (carriedOf t v n) ≢ 0 → Held cap t v n)
   unfolding valueOk
-  value-facts n h = (λ e. blank-facts n (rw (eq-eqb (wordOf t n statusWord) 0 e) at h), λ e. held-facts n (rw (ne-eqb (wordOf t n statusWord) 0 e) at h))
+  value-facts n h = (λ e. blank-facts n (rw (eq-eqb (statusOf (carriedOf t v n)) 0 e) at h), λ e. held-facts n (rw (ne-eqb (statusOf (carriedOf t v n)) 0 e) at h))

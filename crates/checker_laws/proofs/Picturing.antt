@@ -20,6 +20,8 @@ use Rattle.mesh.specs.Mesh.{flags}
 use Rattle.mesh.specs.State.{State, Entry, free, used, Cell, plusZero, status, amount, isSentenced, valueOf, entry, cells, number, numberOf}
 use Rattle.mesh.specs.Picture.{rowWords, fields, rowOf, table, amounts, parentWord, neWord, seWord, swWord, nwWord, northWord, eastWord, southWord, westWord, levelWord, iWord, jWord, flagsWord, statusWord, freeFlags}
 use Rattle.table.specs.Words.{wordOf, linkOf, Fits}
+use Rattle.table.specs.Carried.{carriedOf}
+use Rattle.table.proofs.CarriedWords.{status-word}
 use Rattle.table.specs.Worked.{kidWord}
 use Rattle.place_laws.proofs.SideDigits.{aside, kidBy, kid-by}
 use Rattle.picture_laws.proofs.Rows.{nil-word, table-length, table-word, amounts-length, amounts-at}
@@ -61,7 +63,7 @@ module _ {g : Grid} {cap : ℕ} {t : List ℤ} {v : List Float} {es : List Entry
       go : Dec (w < flagsWord) → Dec (w ≡ flagsWord) → wordOf t 0 w ≡ 0
       go (yes a) b = o .tested .zeroth .words w a
       go (no a) (yes b) = rw b (o .tested .zero-flags)
-      go (no a) (no b) = let e : w ≡ statusWord = omega (arith, a, b) in rw e (o .tested .zeroth .status)
+      go (no a) (no b) = let e : w ≡ statusWord = omega (arith, a, b) in rw e (status-word t v 0 ∙ o .tested .zeroth .status)
 
   free-row : (n : ℕ) → 1 ≤ n → n ≤ cap → wordOf t n flagsWord ≡ freeFlags → (w : ℕ) → w < rowWords → raw n w ≡ getD (rowOf g es free) w (pos 0)
   unfolding rowOf around fields
@@ -90,7 +92,7 @@ module _ {g : Grid} {cap : ℕ} {t : List ℤ} {v : List Float} {es : List Entry
                             z iWord (lit< tt),
                             (
                               z jWord (lit< tt),
-                              (is-pos n flagsWord freeFlags e (lit< tt), (is-pos n statusWord 0 (o .tested .empty n l h e .status) (lit< tt), tt)),
+                              (is-pos n flagsWord freeFlags e (lit< tt), (is-pos n statusWord 0 (status-word t v n ∙ o .tested .empty n l h e .status) (lit< tt), tt)),
                             ),
                           ),
                         ),
@@ -136,7 +138,7 @@ module _ {g : Grid} {cap : ℕ} {t : List ℤ} {v : List Float} {es : List Entry
         (omega (arith, flags-small (o .tested) n u, flags-word o n u, ap (λ (b : Bool). digits (flags g (cells es) p b)) (sentence-row o n u)))
 
     by-status : raw n statusWord ≡ pos (status (valueOf (entry es n)))
-    by-status = is-pos n statusWord (status (valueOf (entry es n))) (sym (status-row o n u)) (omega (arith, status-row o n u, status-small (o .tested) n u))
+    by-status = is-pos n statusWord (status (valueOf (entry es n))) (status-word t v n ∙ sym (status-row o n u)) (omega (arith, status-row o n u, status-small (o .tested) n u))
 
     used-words : (x : Option Cell) → entry es n ≡ used p x → (w : ℕ) → w < rowWords → raw n w ≡ getD (rowOf g es (used p x)) w (pos 0)
     unfolding rowOf around fields
@@ -200,6 +202,7 @@ module _ {g : Grid} {cap : ℕ} {t : List ℤ} {v : List Float} {es : List Entry
           rw (o .entry-used n u) (used-words n u _ (o .entry-used n u) w l)
 
   row-amount : (n : ℕ) → n ≤ cap → getD v n plusZero ≡ amount (valueOf (entry es n))
+  unfolding carriedOf
   row-amount n h = go (ℕ-discrete n 0) (ℕ-discrete (wordOf t n flagsWord) freeFlags)
     where
       go : Dec (n ≡ 0) → Dec (wordOf t n flagsWord ≡ freeFlags) → getD v n plusZero ≡ amount (valueOf (entry es n))
@@ -210,8 +213,8 @@ module _ {g : Grid} {cap : ℕ} {t : List ℤ} {v : List Float} {es : List Entry
 -- ---- the table and the values
 
 module _ (s : State) {cap : ℕ} {t : List ℤ} {v : List Float} (o : Reads (s .header .grid) cap t v (s .entries)) (f : Fits t) (room : cap ≤ 4095) where
-  pub is-picture : length t ≡ rowWords * (cap + 1) → t ≡ table s
-  is-picture len =
+  pub are-words : length t ≡ rowWords * (cap + 1) → t ≡ table s
+  are-words len =
       ext-getD (pos 0) t (table s) (omega (arith, table-length s, o .size)) (λ i l.
       let split : i ≡ i / 14 * rowWords + i % 14 = omega arith in
       ap (λ (k : ℕ). getD t k (pos 0)) split

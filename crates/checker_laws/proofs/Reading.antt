@@ -7,7 +7,7 @@ use native.Mathlib.Decide.{ℕ-discrete, decLt}
 use mathlib.Core.Path.{_≡_, refl, sym, ap, _∙_}
 use mathlib.Core.Bool.{Bool, true, false, cond}
 use mathlib.Core.Option.{none, some, Option·none-ne-some, Option·some-injective}
-use mathlib.Core.List.{List, [], _∷_}
+use mathlib.Core.List.{List, [], _∷_, tail}
 use lib.Dec.{lit<}
 use lib.IntN.{ℤ, pos, natAbs, subℕ, _+ℤ_}
 use lib.Ieee.{Float}
@@ -17,12 +17,14 @@ use Rattle.number_laws.specs.Numbered.{Numbered}
 use Rattle.mesh.specs.Call.{Rectangle}
 use Rattle.mesh.specs.Tools.{digits}
 use Rattle.mesh.specs.Place.{Place, Grid, base}
-use Rattle.mesh.specs.State.{Header, Entry, nil, free, used, Cell, plusZero, placeOf, entry}
-use Rattle.mesh.specs.Picture.{rowWords, levelWord, iWord, jWord, flagsWord, statusWord, freeFlags}
-use Rattle.mesh.specs.Decode.{digitsOf, valueFrom, flag, placeFrom, entryBy, entryFrom, entriesFrom, decode}
+use Rattle.mesh.specs.State.{Entry, nil, free, used, Cell, plusZero, placeOf, entry}
+use Rattle.mesh.specs.Picture.{rowWords, levelWord, iWord, jWord, flagsWord, statusWord, freeFlags, Lent}
+use Rattle.mesh.specs.Decode.{digitsOf, flag, placeFrom, entryBy, entryFrom, entriesFrom, decode}
 use Rattle.mesh.specs.Mesh.{completeBit, sentencedBit, deadBit}
 use Rattle.table.specs.Words.{wordOf, flagOf, depthOf, Fits}
+use Rattle.table.specs.Carried.{carriedOf, statusOf, valueIn}
 use Rattle.table.specs.Worked.{flagsFrom}
+use Rattle.table.proofs.CarriedWords.{status-word, value-listed}
 use Rattle.place_laws.proofs.Places.{place-path}
 use Rattle.number_laws.proofs.Entries.{in-list}
 use Rattle.picture_laws.proofs.Decoding.{level-back}
@@ -33,7 +35,7 @@ use Rattle.checker_laws.proofs.Patches.{held-small, ghost-facts, point-
 
 -- what a cell's row says of the cell
 abbrev pub cellFrom : List ℤ → List Float → ℕ → Cell
-cellFrom t v n = record { sentenced = flagOf t sentencedBit n; value = valueFrom (wordOf t n statusWord) (getD v n plusZero) }
+cellFrom t v n = record { sentenced = flagOf t sentencedBit n; value = valueIn (carriedOf t v n) }
 
 -- the entries are what the rows say
 pub record Reads (g : Grid) (cap : ℕ) (t : List ℤ) (v : List Float) (es : List Entry) : Type 0 where
@@ -65,24 +67,31 @@ entries-length : (g : Grid) (t : List ℤ) (xs : List Float) → length (entries
 entries-length g t [] = refl
 entries-length g t (x ∷ xs) = ap suc (entries-length g (drop rowWords t) xs)
 
-module _ (h : Header) (t : List ℤ) where
-  pub entry-at : (v : List Float) (n : ℕ) → 1 ≤ n → n < length v → entry (decode h t v .entries) n ≡ entryFrom (h .grid) (rowAt t n) (getD v n plusZero)
-  unfolding decode
-  entry-at v zero l k = absurd (omega arith)
-  entry-at [] (suc n) l k = absurd (omega arith)
-  entry-at (x ∷ xs) (suc n) l k =
-      let e : rowWords + n * rowWords ≡ suc n * rowWords = omega arith in
-      entries-at (h .grid) (drop rowWords t) xs n (omega arith)
-      ∙ ap (λ (u : List ℤ). entryFrom (h .grid) (take rowWords u) (getD xs n plusZero)) (drop-drop (n * rowWords) rowWords t ∙ ap (λ (k : ℕ). drop k t) e)
+-- with the nil patch before them
+listed-at : (g : Grid) (t : List ℤ) (v : List Float) (n : ℕ) → 1 ≤ n → n < length v → entry (nil ∷ entriesFrom g (drop rowWords t) (tail v)) n ≡ entryFrom g (rowAt t n) (getD v n plusZero)
+listed-at g t v zero l k = absurd (omega arith)
+listed-at g t [] (suc n) l k = absurd (omega arith)
+listed-at g t (x ∷ xs) (suc n) l k =
+    let e : rowWords + n * rowWords ≡ suc n * rowWords = omega arith in
+    entries-at g (drop rowWords t) xs n (omega arith)
+    ∙ ap (λ (u : List ℤ). entryFrom g (take rowWords u) (getD xs n plusZero)) (drop-drop (n * rowWords) rowWords t ∙ ap (λ (k : ℕ). drop k t) e)
 
-  pub decode-length : (v : List Float) → 1 ≤ length v → length (decode h t v .entries) ≡ length v
-  unfolding decode
-  decode-length [] l = absurd (omega arith)
-  decode-length (x ∷ xs) l = ap suc (entries-length (h .grid) (drop rowWords t) xs)
+listed-length : (g : Grid) (t : List ℤ) (v : List Float) → 1 ≤ length v → suc (length (entriesFrom g (drop rowWords t) (tail v))) ≡ length v
+listed-length g t [] l = absurd (omega arith)
+listed-length g t (x ∷ xs) l = ap suc (entries-length g (drop rowWords t) xs)
 
-  decode-zeroth : (v : List Float) → entry (decode h t v .entries) 0 ≡ nil
+module _ (l : Lent) where
+  entry-at : (n : ℕ) → 1 ≤ n → n < length (l .values) → entry (decode l .entries) n ≡ entryFrom (l .header .grid) (rowAt (l .words) n) (getD (l .values) n plusZero)
   unfolding decode
-  decode-zeroth v = refl
+  entry-at = listed-at (l .header .grid) (l .words) (l .values)
+
+  decode-length : 1 ≤ length (l .values) → length (decode l .entries) ≡ length (l .values)
+  unfolding decode
+  decode-length = listed-length (l .header .grid) (l .words) (l .values)
+
+  decode-zeroth : entry (decode l .entries) 0 ≡ nil
+  unfolding decode
+  decode-zeroth = refl
 
 -- ---- a row by its words
 
@@ -140,68 +149,76 @@ module _ {g : Grid} {cap : ℕ} {t : List ℤ} {v : List Float} (ok : Tested g c
           let b : digits bs < 2 ^ 14 = digits-below bs in
           omega (arith, point-facts g cap t n (ok .row n u .point (omega (arith, l))) .flags)
 
-  pub status-small : (n : ℕ) → Used cap t n → wordOf t n statusWord ≤ 2
-  status-small n u = go (ℕ-discrete (wordOf t n statusWord) 0)
+  pub status-small : (n : ℕ) → Used cap t n → statusOf (carriedOf t v n) ≤ 2
+  status-small n u = go (ℕ-discrete (statusOf (carriedOf t v n)) 0)
     where
-      go : Dec (wordOf t n statusWord ≡ 0) → wordOf t n statusWord ≤ 2
+      go : Dec (statusOf (carriedOf t v n) ≡ 0) → statusOf (carriedOf t v n) ≤ 2
       go (yes e) = omega arith
       go (no e) = held-small (value-facts cap t v n (ok .row n u .value) .1 e)
 
-module _ (h : Header) {cap : ℕ} {t : List ℤ} {v : List Float} (ok : Tested (h .grid) cap t v) (r : Rectangle (h .grid)) (f : Fits t) (len : length v ≡ cap + 1) where
-  abbrev es : List Entry
-  es = decode h t v .entries
+module _ (l : Lent) {cap : ℕ} (ok : Tested (l .header .grid) cap (l .words) (l .values)) (r : Rectangle (l .header .grid)) (f : Fits (l .words)) (len : length (l .values) ≡ cap + 1) where
+  abbrev g : Grid
+  g = l .header .grid
 
-  entries-size : length (decode h t v .entries) ≡ cap + 1
-  entries-size = decode-length h t v (omega arith) ∙ len
+  abbrev t : List ℤ
+  t = l .words
+
+  abbrev es : List Entry
+  es = decode l .entries
+
+  entries-size : length (decode l .entries) ≡ cap + 1
+  entries-size = decode-length l (omega arith) ∙ len
 
   -- a row in use
-  entry-used : (n : ℕ) → Used cap t n → entry (decode h t v .entries) n ≡ used (saidPlace (h .grid) t n) (cond (flagOf t completeBit n) (some (cellFrom t v n)) none)
+  entry-used : (n : ℕ) → Used cap t n → entry (decode l .entries) n ≡ used (saidPlace g t n) (cond (flagOf t completeBit n) (some (cellFrom t (l .values) n)) none)
   entry-used n u =
       let (x, y) = said-small ok r n u in
       let s : wordOf t n flagsWord < 2147483648 = omega (arith, flags-small ok n u) in
-      let k : wordOf t n statusWord < 2147483648 = omega (arith, status-small ok n u) in
-      entry-at h t v n (u .low) (omega (arith, u .high))
+      let k : wordOf t n statusWord < 2147483648 = omega (arith, status-small ok n u, status-word t (l .values) n) in
+      entry-at l n (u .low) (omega (arith, u .high))
       ∙ rw (
         row-flag t n s deadBit (lit< tt),
         row-flag t n s sentencedBit (lit< tt),
         row-flag t n s completeBit (lit< tt),
         dead-flag ok n u,
-        row-place (h .grid) t f n (ok .row n u .deep) (omega arith) (omega arith),
+        row-place g t f n (ok .row n u .deep) (omega arith) (omega arith),
         small-word t n statusWord (lit< tt) k,
+        status-word t (l .values) n,
+        value-listed t (l .values) n,
       ) (go (flagOf t completeBit n))
     where
-      go : (b : Bool) → entryBy false b (saidPlace (h .grid) t n) (cellFrom t v n) ≡ used (saidPlace (h .grid) t n) (cond b (some (cellFrom t v n)) none)
+      go : (b : Bool) → entryBy false b (saidPlace g t n) (cellFrom t (l .values) n) ≡ used (saidPlace g t n) (cond b (some (cellFrom t (l .values) n)) none)
       go true = refl
       go false = refl
 
-  entry-free : (n : ℕ) → 1 ≤ n → n ≤ cap → wordOf t n flagsWord ≡ freeFlags → entry (decode h t v .entries) n ≡ free
+  entry-free : (n : ℕ) → 1 ≤ n → n ≤ cap → wordOf t n flagsWord ≡ freeFlags → entry (decode l .entries) n ≡ free
   unfolding flagOf
-  entry-free n l k e =
+  entry-free n a k e =
       let s : wordOf t n flagsWord < 2147483648 = omega arith in
-      entry-at h t v n l (omega arith) ∙ rw (row-flag t n s deadBit (lit< tt), e)
+      entry-at l n a (omega arith) ∙ rw (row-flag t n s deadBit (lit< tt), e)
 
   -- a place is a row's in use
-  used-at : (n : ℕ) (p : Place) → placeOf (entry (decode h t v .entries) n) ≡ some p → Used cap t n × (saidPlace (h .grid) t n ≡ p)
+  used-at : (n : ℕ) (p : Place) → placeOf (entry (decode l .entries) n) ≡ some p → Used cap t n × (saidPlace g t n ≡ p)
   used-at n p e = go (ℕ-discrete n 0) (ℕ-discrete (wordOf t n flagsWord) freeFlags)
     where
       high : n ≤ cap
       high = omega (arith, in-list es n p e, entries-size)
 
-      go : Dec (n ≡ 0) → Dec (wordOf t n flagsWord ≡ freeFlags) → Used cap t n × (saidPlace (h .grid) t n ≡ p)
-      go (yes z) d = absurd (Option·none-ne-some _ (ap placeOf (sym (decode-zeroth h t v) ∙ ap (entry es) (sym z)) ∙ e))
+      go : Dec (n ≡ 0) → Dec (wordOf t n flagsWord ≡ freeFlags) → Used cap t n × (saidPlace g t n ≡ p)
+      go (yes z) d = absurd (Option·none-ne-some _ (ap placeOf (sym (decode-zeroth l) ∙ ap (entry es) (sym z)) ∙ e))
       go (no z) (yes d) = absurd (Option·none-ne-some _ (ap placeOf (sym (entry-free n (omega (arith, z)) high d)) ∙ e))
       go (no z) (no d) =
           let u : Used cap t n = record { low = omega (arith, z); high = high; taken = d } in
           (u, Option·some-injective _ _ (ap placeOf (sym (entry-used n u)) ∙ e))
 
-  numbering : Numbered (decode h t v .entries)
+  numbering : Numbered (decode l .entries)
   numbering = record {
-    zeroth = decode-zeroth h t v;
+    zeroth = decode-zeroth l;
     once = λ n m p a b.
         let (un, sn) = used-at n p a in
         let (um, sm) = used-at m p b in
         said-once ok n m un um (sn ∙ sym sm);
   }
 
-  pub decode-reads : Reads (h .grid) cap t v (decode h t v .entries)
+  pub decode-reads : Reads (l .header .grid) cap (l .words) (l .values) (decode l .entries)
   decode-reads = record { tested = ok; in-range = r; size = entries-size; numbered = numbering; entry-used = entry-used; entry-free = entry-free; used-at = used-at }

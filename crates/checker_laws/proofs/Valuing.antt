@@ -5,12 +5,11 @@ use Prim.Native.Nat.{ℕ, zero, suc, _≤_, _<_}
 use native.Mathlib.Omega.{arith}
 use native.Mathlib.Decide.{ℕ-discrete, decLt}
 use mathlib.Core.Path.{_≡_, refl, sym, ap, _∙_}
-use mathlib.Core.Logic.{_≢_, _⊎_, inl, inr}
+use mathlib.Core.Logic.{_≢_, inl, inr}
 use mathlib.Core.Bool.{Bool, true, false, not, cond}
 use mathlib.Core.Option.{none, some, Option·none-ne-some, Option·some-injective}
 use mathlib.Core.List.{List}
 use lib.Dec.{T}
-use lib.ListN.{getD}
 use lib.IntN.{ℤ}
 use lib.Ieee.{Float}
 use Rattle.mesh.specs.Place.{Place, Grid, base}
@@ -18,14 +17,16 @@ use Rattle.mesh.specs.Mesh.{leaf, completeBit, sentencedBit}
 use Rattle.mesh.specs.State.{State, Entry, used, Cell, plusZero, status, amount, isBlank, placeOf, cellOf, isSentenced, valueOf, entry, cells}
 use Rattle.mesh.specs.Valid.{ValueRule, aboveOf}
 use Rattle.mesh.specs.Decode.{valueFrom}
-use Rattle.mesh.specs.Picture.{parentWord, statusWord}
-use Rattle.table.specs.Words.{wordOf, linkOf, flagOf, depthOf}
+use Rattle.mesh.specs.Picture.{parentWord}
+use Rattle.table.specs.Words.{linkOf, flagOf, depthOf}
+use Rattle.table.specs.Carried.{carriedOf, statusOf, valueIn}
+use Rattle.checker_laws.specs.Rowwise.{carriedAbove}
 use Rattle.place_laws.proofs.Bools.{no-is}
 use Rattle.place_laws.proofs.Kids.{is-leaf}
 use Rattle.place_laws.proofs.Base.{base-range}
 use Rattle.checker_laws.proofs.Facts.{Used, saidPlace}
 use Rattle.checker_laws.proofs.Climbing.{said-depth, not-root, child-depth}
-use Rattle.checker_laws.proofs.Patches.{Sentence, Held, Blank, point-facts, value-facts}
+use Rattle.checker_laws.proofs.Patches.{Sentence, HeldAs, Held, Blank, point-facts, value-facts}
 use Rattle.checker_laws.proofs.Reading.{cellFrom, Reads, ghost-flag, status-small}
 use Rattle.checker_laws.proofs.Linking.{parent-link, said-cell}
 use Rattle.checker_laws.proofs.Meshing.{cell-low, kidless}
@@ -51,25 +52,25 @@ not-blank (suc (suc k)) x h = (tt, refl)
 module _ {g : Grid} {cap : ℕ} {t : List ℤ} {v : List Float} {es : List Entry} (o : Reads g cap t v es) where
   -- ---- what a row says of its cell
 
-  blank-row : (n : ℕ) → Used cap t n → wordOf t n statusWord ≡ 0 → Blank cap t v n
+  blank-row : (n : ℕ) → Used cap t n → statusOf (carriedOf t v n) ≡ 0 → Blank cap t v n
   blank-row n u = value-facts cap t v n (o .tested .row n u .value) .0
 
-  held-row : (n : ℕ) → Used cap t n → wordOf t n statusWord ≢ 0 → Held cap t v n
+  held-row : (n : ℕ) → Used cap t n → statusOf (carriedOf t v n) ≢ 0 → Held cap t v n
   held-row n u = value-facts cap t v n (o .tested .row n u .value) .1
 
-  pub value-row : (n : ℕ) → Used cap t n → valueOf (entry es n) ≡ valueFrom (wordOf t n statusWord) (getD v n plusZero)
-  value-row n u = ap valueOf (o .entry-used n u) ∙ go (flagOf t completeBit n) refl (ℕ-discrete (wordOf t n statusWord) 0)
+  pub value-row : (n : ℕ) → Used cap t n → valueOf (entry es n) ≡ valueIn (carriedOf t v n)
+  value-row n u = ap valueOf (o .entry-used n u) ∙ go (flagOf t completeBit n) refl (ℕ-discrete (statusOf (carriedOf t v n)) 0)
     where
-      go : (b : Bool) → flagOf t completeBit n ≡ b → Dec (wordOf t n statusWord ≡ 0) → valueOf (used (saidPlace g t n) (cond b (some (cellFrom t v n)) none)) ≡ valueFrom (wordOf t n statusWord) (getD v n plusZero)
+      go : (b : Bool) → flagOf t completeBit n ≡ b → Dec (statusOf (carriedOf t v n) ≡ 0) → valueOf (used (saidPlace g t n) (cond b (some (cellFrom t v n)) none)) ≡ valueIn (carriedOf t v n)
       go true e d = refl
       go false e (yes z) = rw z
       go false e (no z) = absurd (let y : T false = rw e at (held-row n u z .cell) in y)
 
-  pub status-row : (n : ℕ) → Used cap t n → status (valueOf (entry es n)) ≡ wordOf t n statusWord
-  status-row n u = ap status (value-row n u) ∙ status-from (wordOf t n statusWord) (getD v n plusZero) (status-small (o .tested) n u)
+  pub status-row : (n : ℕ) → Used cap t n → status (valueOf (entry es n)) ≡ statusOf (carriedOf t v n)
+  status-row n u = ap status (value-row n u) ∙ status-from (statusOf (carriedOf t v n)) (carriedOf t v n .value) (status-small (o .tested) n u)
 
-  pub amount-row : (n : ℕ) → Used cap t n → amount (valueOf (entry es n)) ≡ getD v n plusZero
-  amount-row n u = ap amount (value-row n u) ∙ amount-from (wordOf t n statusWord) (getD v n plusZero) (λ z. blank-row n u z .zero-value)
+  pub amount-row : (n : ℕ) → Used cap t n → amount (valueOf (entry es n)) ≡ carriedOf t v n .value
+  amount-row n u = ap amount (value-row n u) ∙ amount-from (statusOf (carriedOf t v n)) (carriedOf t v n .value) (λ z. blank-row n u z .zero-value)
 
   -- a sentenced row stands above level 0 and is a cell
   sentenced-point : (n : ℕ) → Used cap t n → T (flagOf t sentencedBit n) → Sentence g cap t n × (base g < depthOf t (base g) n)
@@ -120,29 +121,29 @@ module _ (s : State) {cap : ℕ} {t : List ℤ} {v : List Float} (o : Reads (s .
   abbrev g : Grid
   g = s .header .grid
 
-  above-value : (n : ℕ) → Used cap t n → T (flagOf t completeBit n) → aboveOf s (saidPlace g t n) ≡ valueFrom (wordOf t (linkOf t cap n parentWord) statusWord) (getD v (linkOf t cap n parentWord) plusZero)
+  above-value : (n : ℕ) → Used cap t n → T (flagOf t completeBit n) → aboveOf s (saidPlace g t n) ≡ valueIn (carriedAbove t cap v n)
   above-value n u c = ap (λ (k : ℕ). valueOf (entry (s .entries) k)) (parent-link o n u) ∙ value-row o (linkOf t cap n parentWord) (above-row o n u c .0)
 
-  held-rule : (n : ℕ) → Used cap t n → T (flagOf t completeBit n) → Held cap t v n → ValueRule s (saidPlace g t n) (valueFrom (wordOf t n statusWord) (getD v n plusZero))
+  held-rule : (n : ℕ) → Used cap t n → T (flagOf t completeBit n) → Held cap t v n → ValueRule s (saidPlace g t n) (valueIn (carriedOf t v n))
   held-rule n u c f = go (f .status)
     where
-      go : (wordOf t n statusWord ≡ 1) ⊎ ((wordOf t n statusWord ≡ 2) × (wordOf t (linkOf t cap n parentWord) statusWord ≢ 0) × (getD v (linkOf t cap n parentWord) plusZero ≡ getD v n plusZero)) → ValueRule s (saidPlace g t n) (valueFrom (wordOf t n statusWord) (getD v n plusZero))
+      go : HeldAs (carriedOf t v n) (carriedAbove t cap v n) → ValueRule s (saidPlace g t n) (valueIn (carriedOf t v n))
       go (inl e) = rw e (f .is-finite)
       go (inr (e, z, a)) =
           let (k, d) = above-row o n u c in
-          let (x, y) = not-blank (wordOf t (linkOf t cap n parentWord) statusWord) (getD v (linkOf t cap n parentWord) plusZero) z in
+          let (x, y) = not-blank (statusOf (carriedAbove t cap v n)) (carriedAbove t cap v n .value) z in
           let l = cell-low o (linkOf t cap n parentWord) k (held-row o (linkOf t cap n parentWord) k z .cell) in
           rw e (omega (arith, said-depth g t (linkOf t cap n parentWord)), f .is-finite, rw (above-value n u c) x, ap amount (above-value n u c) ∙ y ∙ a)
 
-  row-rule : (n : ℕ) → Used cap t n → T (flagOf t completeBit n) → ValueRule s (saidPlace g t n) (valueFrom (wordOf t n statusWord) (getD v n plusZero))
-  row-rule n u c = go (ℕ-discrete (wordOf t n statusWord) 0)
+  row-rule : (n : ℕ) → Used cap t n → T (flagOf t completeBit n) → ValueRule s (saidPlace g t n) (valueIn (carriedOf t v n))
+  row-rule n u c = go (ℕ-discrete (statusOf (carriedOf t v n)) 0)
     where
-      go : Dec (wordOf t n statusWord ≡ 0) → ValueRule s (saidPlace g t n) (valueFrom (wordOf t n statusWord) (getD v n plusZero))
+      go : Dec (statusOf (carriedOf t v n) ≡ 0) → ValueRule s (saidPlace g t n) (valueIn (carriedOf t v n))
       go (yes e) = rw e (rw (above-value n u c, blank-row o n u e .above c) tt)
       go (no e) = held-rule n u c (held-row o n u e)
 
   pub value-rule : (n : ℕ) (p : Place) (x : Cell) → entry (s .entries) n ≡ used p (some x) → ValueRule s p (x .value)
   value-rule n p x e =
       let (u, q, c, i) = cell-entry o n p x e in
-      let j : x .value ≡ valueFrom (wordOf t n statusWord) (getD v n plusZero) = ap (λ (y : Cell). y .value) i in
+      let j : x .value ≡ valueIn (carriedOf t v n) = ap (λ (y : Cell). y .value) i in
       rw j (rw (← q) (row-rule n u c))

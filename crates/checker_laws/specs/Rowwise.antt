@@ -5,17 +5,16 @@ use Prim.Native.Nat.{ℕ, zero, suc, _+_, _/_, _%_}
 use mathlib.Core.Bool.{Bool, true, false, not, _&&_, _||_, cond, Bool·beq}
 use mathlib.Core.List.{List, [], _∷_}
 use lib.Dec.{eqb, leb, ltb}
-use lib.ListN.{getD}
 use lib.IntN.{ℤ}
 use lib.Ieee.{Float}
 use Rattle.mesh.specs.Tools.{every, digits}
 use Rattle.mesh.specs.Place.{Grid, base, N, E, S, W}
-use Rattle.mesh.specs.State.{plusZero}
 use Rattle.mesh.specs.Valid.{finite}
-use Rattle.mesh.specs.Test.{sameFloat}
 use Rattle.mesh.specs.Mesh.{completeBit, sentencedBit}
-use Rattle.mesh.specs.Picture.{eastWord, flagsWord, iWord, jWord, neWord, northWord, nwWord, parentWord, seWord, southWord, statusWord, swWord, westWord}
+use Rattle.mesh.specs.Picture.{eastWord, flagsWord, iWord, jWord, neWord, northWord, nwWord, parentWord, seWord, southWord, swWord, westWord}
 use Rattle.table.specs.Words.{wordOf, linkOf, flagOf, freeAt, depthOf}
+use Rattle.table.specs.Carried.{carriedOf, isBlank, isMeasured, isCarriedDown, isZero, isNothing, sameValue}
+use Rattle.table.specs.declared.carried.Carried.{Carried}
 use Rattle.table.specs.Worked.{kidWord, sideIn, kidless, touchedIn, flagsFrom}
 
 -- a test of the numbers below n, as a loop that counts up meets them
@@ -23,18 +22,12 @@ abbrev pub below : ℕ → (ℕ → Bool) → Bool
 below zero f = true
 below (suc n) f = below n f && f n
 
-abbrev pub valueAt : List Float → ℕ → Float
-valueAt v n = getD v n plusZero
-
-abbrev pub isPlusZero : List Float → ℕ → Bool
-isPlusZero v n = sameFloat (valueAt v n) plusZero
-
 -- ---- rows without a patch
 
 module _ (t : List ℤ) (v : List Float) where
   -- the words of the row but the flags are 0, and its value is +0
   unfoldable pub emptyOk : ℕ → Bool
-  emptyOk n = below flagsWord (λ w. eqb (wordOf t n w) 0) && (eqb (wordOf t n statusWord) 0 && isPlusZero v n)
+  emptyOk n = below flagsWord (λ w. eqb (wordOf t n w) 0) && isNothing (carriedOf t v n)
 
   -- "row 0 is the nil patch: all words zero"
   unfoldable pub zeroOk : Bool
@@ -159,31 +152,30 @@ module _ (g : Grid) (t : List ℤ) (cap d : ℕ) where
 -- ---- values
 
 module _ (t : List ℤ) (cap : ℕ) (v : List Float) where
+  -- what the row's parent carries
+  abbrev pub carriedAbove : ℕ → Carried
+  carriedAbove n = carriedOf t v (linkOf t cap n parentWord)
+
   -- "status 0 has the bits of +0 .. a cell whose parent is not blank is not blank"
   unfoldable pub blankOk : ℕ → Bool
-  blankOk n = isPlusZero v n && (not (flagOf t completeBit n) || eqb (wordOf t (linkOf t cap n parentWord) statusWord) 0)
+  blankOk n = isZero (carriedOf t v n) && (not (flagOf t completeBit n) || isBlank (carriedAbove n))
 
   -- a carried cell's "parent is not blank, and the value bits are the parent's"
   abbrev pub carriedTests : ℕ → List Bool
-  carriedTests n =
-      let p = linkOf t cap n parentWord in
-      eqb (wordOf t n statusWord) 2 ∷
-      not (eqb (wordOf t p statusWord) 0) ∷
-      sameFloat (valueAt v p) (valueAt v n) ∷
-      []
+  carriedTests n = isCarriedDown (carriedOf t v n) ∷ not (isBlank (carriedAbove n)) ∷ sameValue (carriedAbove n) (carriedOf t v n) ∷ []
 
   abbrev pub carriedOk : ℕ → Bool
   carriedOk n = every (carriedTests n)
 
   -- "only cells may have status 1 or 2, with a finite value"
   abbrev pub heldTests : ℕ → List Bool
-  heldTests n = flagOf t completeBit n ∷ finite (valueAt v n) ∷ (eqb (wordOf t n statusWord) 1 || carriedOk n) ∷ []
+  heldTests n = flagOf t completeBit n ∷ finite (carriedOf t v n .value) ∷ (isMeasured (carriedOf t v n) || carriedOk n) ∷ []
 
   unfoldable pub heldOk : ℕ → Bool
   heldOk n = every (heldTests n)
 
   unfoldable pub valueOk : ℕ → Bool
-  valueOk n = cond (eqb (wordOf t n statusWord) 0) (blankOk n) (heldOk n)
+  valueOk n = cond (isBlank (carriedOf t v n)) (blankOk n) (heldOk n)
 
 -- ---- rows and the table
 

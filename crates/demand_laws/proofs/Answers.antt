@@ -8,7 +8,7 @@ use mathlib.Core.Bool.{Bool, true, false}
 use mathlib.Core.Option.{Option, none, some}
 use mathlib.Core.List.{List, [], _∷_, _++_}
 use lib.Dec.{T, eqb, ltb}
-use lib.ListN.{length, take}
+use lib.ListN.{length}
 use lib.IntN.{ℤ}
 use borrow.Author.Tests.{eqb-true, eq-eqb}
 use Rattle.mesh.specs.Tools.{any, all}
@@ -16,11 +16,13 @@ use Rattle.mesh.specs.Place.{Grid}
 use Rattle.mesh.specs.State.{State}
 use Rattle.mesh.specs.Refusal.{Check, _if_, refusal}
 use Rattle.mesh.specs.Request.{Request, refine, sentence, remove, kill, setValue, looseChecks, checks, Result, refused, accepted, request}
-use Rattle.mesh.specs.Tape.{Kind, kind, Step, stop, next, answered, stepBy, runFrom, run}
+use Rattle.mesh.specs.Tape.{Kind, kind, asks, Step, stop, next, answered, stepBy, runFrom, run}
 use Rattle.mesh.specs.Scan.{scanChecks}
 use Rattle.mesh.specs.Lookup.{lookupChecks}
 use Rattle.mesh.specs.Page.{pageChecks}
-use Rattle.mesh.specs.Call.{Lent, stateOf, lentChecks, picture, unless, checkCall, Built, buildChecks, buildCall, Taped, tapeCall, Wrote, scanCall, Found, lookupCall, pageCall}
+use Rattle.mesh.specs.Picture.{Lent, picture}
+use Rattle.mesh.specs.Decode.{decode}
+use Rattle.mesh.specs.Call.{lentChecks, unless, checkCall, Built, buildChecks, buildCall, Taped, tapeCall, Wrote, scanCall, Found, lookupCall, pageCall}
 use Rattle.mesh.proofs.Runs.{run-stop, run-next}
 use Rattle.demand_laws.proofs.Exactly.{refused-is}
 use Rattle.demand_laws.proofs.Refusals.{unless-names}
@@ -78,7 +80,7 @@ step-among s none bs r e = let i : 5 ≡ r = cc in subst (λ (n : ℕ). T (among
 step-among s (some k) bs r e = body (ltb (length bs) (k .len)) refl
   where
     q : Request
-    q = k .ask (take (k .len) bs)
+    q = asks k bs
 
     done : (x : Result) → request s q ≡ x → answered x (k .len) ≡ stop r → T (among ofTapes r)
     done (refused n) f h = let i : n ≡ r = cc in subst (λ (m : ℕ). T (among ofTapes m)) i (refused-among s q n f)
@@ -112,19 +114,19 @@ module _ (cap : ℕ) (l : Lent) where
   pub scan-answers : (n : ℕ) (o : List ℕ) (k : ℕ) (from to : ℤ) (out : List ℕ) → T (among (0 ∷ 1 ∷ 2 ∷ 3 ∷ 6 ∷ 17 ∷ 18 ∷ []) (scanCall cap l n o k from to out .refusal))
   unfolding scanCall lentChecks scanChecks
   scan-answers n o k from to out =
-      let cs = lentChecks cap l ++ scanChecks (stateOf l) (length out) n o k from to in
+      let cs = lentChecks cap l ++ scanChecks (decode l) (length out) n o k from to in
       subst (λ (n : ℕ). T (among (0 ∷ 1 ∷ 2 ∷ 3 ∷ 6 ∷ 17 ∷ 18 ∷ []) n)) (sym (unless-names _ _ (λ (r : Wrote). r .refusal) (λ n. refl) refl (refusal cs))) (refusal-among cs)
 
   pub lookup-answers : (u v : ℕ) → T (among (0 ∷ 1 ∷ 2 ∷ 3 ∷ 19 ∷ []) (lookupCall cap l u v .refusal))
   unfolding lookupCall lentChecks lookupChecks
   lookup-answers u v =
-      let cs = lentChecks cap l ++ lookupChecks (stateOf l) u v in
+      let cs = lentChecks cap l ++ lookupChecks (decode l) u v in
       subst (λ (n : ℕ). T (among (0 ∷ 1 ∷ 2 ∷ 3 ∷ 19 ∷ []) n)) (sym (unless-names _ _ (λ (r : Found). r .refusal) (λ n. refl) refl (refusal cs))) (refusal-among cs)
 
   pub page-answers : (out : List ℕ) → T (among (0 ∷ 1 ∷ 2 ∷ 3 ∷ 18 ∷ []) (pageCall cap l out .refusal))
   unfolding pageCall lentChecks pageChecks
   page-answers out =
-      let cs = lentChecks cap l ++ pageChecks (stateOf l) (length out) in
+      let cs = lentChecks cap l ++ pageChecks (decode l) (length out) in
       subst (λ (n : ℕ). T (among (0 ∷ 1 ∷ 2 ∷ 3 ∷ 18 ∷ []) n)) (sym (unless-names _ _ (λ (r : Wrote). r .refusal) (λ n. refl) refl (refusal cs))) (refusal-among cs)
 
   pub tape-answers : (bytes : List ℕ) → T (among ofTapes (tapeCall cap l bytes .refusal))
@@ -132,11 +134,11 @@ module _ (cap : ℕ) (l : Lent) where
   tape-answers bytes = go (refusal (lentChecks cap l)) (among-more (0 ∷ 1 ∷ 2 ∷ 3 ∷ []) ofTapes tt (refusal (lentChecks cap l)) check-answers)
     where
       ran : Taped
-      ran = let r = run (stateOf l) bytes in record { done = r .done; refusal = r .refusal; offset = r .offset; lent = picture (r .state) }
+      ran = let r = run (decode l) bytes in record { done = r .done; refusal = r .refusal; offset = r .offset; lent = picture (r .state) }
 
       refused-as : ℕ → Taped
       refused-as n = record { done = 0; refusal = n; offset = 0; lent = l }
 
       go : (n : ℕ) → T (among ofTapes n) → T (among ofTapes (unless n refused-as ran .refusal))
-      go zero t = from-among bytes 0 (stateOf l) 0 0
+      go zero t = from-among bytes 0 (decode l) 0 0
       go (suc n) t = t

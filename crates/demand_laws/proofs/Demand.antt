@@ -11,7 +11,8 @@ use Rattle.mesh.specs.Valid.{Valid}
 use Rattle.mesh.specs.Refusal.{refusal}
 use Rattle.mesh.specs.Request.{Request, accepted, request}
 use Rattle.mesh.specs.Build.{full, built}
-use Rattle.mesh.specs.Call.{Lent, picture, Built, buildChecks, buildCall}
+use Rattle.mesh.specs.Picture.{Lent, picture}
+use Rattle.mesh.specs.Call.{Built, buildChecks, buildCall}
 use Rattle.place_laws.proofs.Laps.{Below}
 use Rattle.place_laws.proofs.Base.{patch-below}
 use Rattle.place_laws.proofs.Tiling.{tiling-one}
@@ -21,7 +22,8 @@ use Rattle.level_laws.proofs.States.{Even, built-even, accepted-even, even-no-j
 use Rattle.walk_laws.specs.Points.{total}
 use Rattle.walk_laws.proofs.Scans.{scan-all}
 use Rattle.walk_laws.proofs.Counts.{in-use-counts}
-use Rattle.demand_laws.specs.Deeds.{Deed, setRules, after, deeds}
+use Rattle.mesh.specs.Deed.{Deed}
+use Rattle.demand_laws.specs.Deeds.{setRules, after, deeds}
 use Rattle.demand_laws.specs.Demand.{Demand3}
 use Rattle.demand_laws.specs.History.{History}
 use Rattle.demand_laws.proofs.Numbers.{built-numbers}

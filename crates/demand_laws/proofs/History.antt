@@ -22,7 +22,7 @@ use Rattle.place_laws.proofs.Places.{in-cases, in-one}
 use Rattle.place_laws.proofs.Distinct.{in-append}
 use Rattle.number_laws.proofs.Entries.{place-used}
 use Rattle.number_laws.proofs.NumberedPlaces.{valid-numbered, number-place, place-number, not-zero, entry-contents, cells-contents}
-use Rattle.demand_laws.specs.Deeds.{Deed}
+use Rattle.mesh.specs.Deed.{Deed}
 use Rattle.demand_laws.specs.Numbers.{turns, FreeBehind, Smallest, Numbers}
 use Rattle.demand_laws.specs.History.{Follows, History, no-more, one-more}
 

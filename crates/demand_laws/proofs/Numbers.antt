@@ -15,7 +15,8 @@ use Rattle.mesh.specs.State.{State, nil, free, used, Cell, placeOf, isFree, ent
 use Rattle.mesh.specs.Valid.{Valid}
 use Rattle.mesh.specs.Build.{full, numbered, blankCell, built}
 use Rattle.mesh.specs.Refusal.{refusal}
-use Rattle.mesh.specs.Request.{refine, wanted, looseChecks, give, newCell, kidCell, effect, marked}
+use Rattle.mesh.specs.Carrying.{kidCell}
+use Rattle.mesh.specs.Request.{refine, wanted, looseChecks, give, newCell, effect, marked}
 use Rattle.place_laws.proofs.Bools.{yes-is, is-yes}
 use Rattle.place_laws.proofs.Distinct.{append-distinct}
 use Rattle.place_laws.proofs.Base.{lap-many}
@@ -27,7 +28,7 @@ use Rattle.number_laws.proofs.Giving.{Next, Change, stays, taken, lacking, lack
 use Rattle.number_laws.proofs.Turns.{give-append}
 use Rattle.number_laws.proofs.Keeping.{Kept}
 use Rattle.number_laws.proofs.Refining.{refinable, have, refine-frame, refine-stays, refine-number, refine-turn}
-use Rattle.demand_laws.specs.Deeds.{Deed, refined}
+use Rattle.mesh.specs.Deed.{Deed, refined}
 use Rattle.demand_laws.specs.Numbers.{NumberedAs, turns, FreeBehind, Smallest, Numbers}
 
 -- ---- a build

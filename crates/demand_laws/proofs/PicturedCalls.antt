@@ -1,68 +1,43 @@
 -- The calls on the picture of a valid state: no first check refuses, and the state that is decoded is that state. So a build and any list of
 -- tapes lend on the picture of the state that the rules give.
 -- Assumes nothing.
-use Prim.Native.Nat.{ℕ, _+_, _*_, _≤_}
-use native.Mathlib.Nat.{mul-comm}
+use Prim.Native.Nat.{ℕ, _≤_}
 use native.Mathlib.Omega.{arith}
 use mathlib.Core.Path.{_≡_, refl, sym, ap, _∙_}
-use mathlib.Core.Bool.{not}
 use mathlib.Core.List.{List, [], _∷_}
-use lib.Dec.{eqb}
 use lib.ListN.{length}
-use borrow.Author.Tests.{eq-eqb, ltb-false}
+use borrow.Author.Tests.{ltb-false}
 use Rattle.mesh.specs.Place.{Grid}
-use Rattle.mesh.specs.State.{State, capacity, gridOf}
+use Rattle.mesh.specs.State.{State, capacity}
 use Rattle.mesh.specs.Valid.{Valid}
-use Rattle.mesh.specs.Picture.{rowWords, table, amounts}
-use Rattle.mesh.specs.Test.{sound}
+use Rattle.mesh.specs.Picture.{Lent, picture}
 use Rattle.mesh.specs.Refusal.{refusal}
 use Rattle.mesh.specs.Build.{numbered, built}
 use Rattle.mesh.specs.Tape.{run}
-use Rattle.mesh.specs.Call.{Lent, picture, stateOf, outside, lentChecks, checkCall, buildChecks, Taped, tapeCall, Rectangle}
-use Rattle.place_laws.proofs.Bools.{yes-is, neither}
-use Rattle.place_laws.proofs.Ranges.{within-outside, outside-within}
-use Rattle.place_laws.proofs.Base.{fits-range, range-fits}
+use Rattle.mesh.specs.Call.{lentChecks, checkCall, buildChecks, Taped, tapeCall, Rectangle}
+use Rattle.place_laws.proofs.Ranges.{fits-sizes}
+use Rattle.place_laws.proofs.Base.{fits-range}
 use Rattle.number_laws.proofs.Checks.{passes}
 use Rattle.number_laws.proofs.Building.{built-valid, built-capacity}
-use Rattle.picture_laws.proofs.Rows.{table-length, amounts-length}
 use Rattle.picture_laws.proofs.Decoding.{decode-back}
-use Rattle.picture_laws.proofs.Soundness.{picture-sound, sound-test}
+use Rattle.picture_laws.proofs.Accepted.{picture-accepted}
 use Rattle.demand_laws.specs.Deeds.{after}
 use Rattle.demand_laws.proofs.Refusals.{unless-accepted}
 use Rattle.demand_laws.proofs.Tapes.{run-led}
 
--- ---- the first checks
+-- ---- a tape
 
 module _ (s : State) (v : Valid s) where
-  pub picture-state : stateOf (picture s) ≡ s
-  picture-state = decode-back s v
-
-  sizes-fit : (length (table s) ≡ rowWords * (capacity s + 1)) × (length (amounts s) ≡ capacity s + 1)
-  sizes-fit =
-      let long : length (s .entries) ≡ capacity s + 1 = omega (arith, v .sizes .0) in
-      (table-length s ∙ ap (λ (n : ℕ). n * rowWords) long ∙ mul-comm (capacity s + 1) rowWords, amounts-length s ∙ long)
-
-  pub picture-accepted : refusal (lentChecks (capacity s) (picture s)) ≡ 0
-  unfolding refusal lentChecks
-  picture-accepted =
-      rw (
-        eq-eqb (length (table s)) (rowWords * (capacity s + 1)) (sizes-fit .0),
-        eq-eqb (length (amounts s)) (capacity s + 1) (sizes-fit .1),
-        within-outside 5 4095 (capacity s) (v .sizes .0) (v .sizes .1),
-        range-fits (gridOf s) (v .rectangle),
-        yes-is (sound (s .header) (table s) (amounts s)) (sound-test (s .header) (table s) (amounts s) (picture-sound v)),
-      )
-
   -- a tape on the picture of a state runs on that state
   pub tape-runs : (cap : ℕ) → capacity s ≡ cap → (bytes : List ℕ) → tapeCall cap (picture s) bytes ≡ (let r = run s bytes in record { done = r .done; refusal = r .refusal; offset = r .offset; lent = picture (r .state) })
-  unfolding tapeCall
+  unfolding tapeCall checkCall
   tape-runs cap c bytes =
-      unless-accepted _ _ (refusal (lentChecks cap (picture s))) (ap (λ (n : ℕ). refusal (lentChecks n (picture s))) (sym c) ∙ picture-accepted)
-      ∙ ap (λ (t : State). let r = run t bytes in record { done = r .done; refusal = r .refusal; offset = r .offset; lent = picture (r .state) }) picture-state
+      unless-accepted _ _ (refusal (lentChecks cap (picture s))) (ap (λ (n : ℕ). checkCall n (picture s)) (sym c) ∙ picture-accepted s v)
+      ∙ ap (λ (t : State). let r = run t bytes in record { done = r .done; refusal = r .refusal; offset = r .offset; lent = picture (r .state) }) (decode-back s v)
 
 -- and leaves the picture of a state that no first check refuses
 pub tape-checked : (s : State) → Valid s → (cap : ℕ) → capacity s ≡ cap → (bytes : List ℕ) → checkCall cap (tapeCall cap (picture s) bytes .lent) ≡ 0
-unfolding checkCall run
+unfolding run
 tape-checked s v cap c bytes =
     let u = run s bytes .state in
     let (led, n) = run-led bytes 0 s 0 0 v in
@@ -82,8 +57,8 @@ build-checked cap l g ok =
     let (a₁, h₁) = passes 1 _ _ (λ z. omega arith) ok in
     let (a₂, h₂) = passes 2 _ _ (λ z. omega arith) h₁ in
     let (a₃, h₃) = passes 11 _ _ (λ z. omega arith) h₂ in
-    let (b, c) = neither (not (eqb (length (l .values)) (cap + 1))) (outside 5 4095 cap) (neither (not (eqb (length (l .words)) (rowWords * (cap + 1)))) _ a₁ .1) in
-    record { sizes = outside-within 5 4095 cap c; rectangle = fits-range g a₂; room = ltb-false cap (length (numbered g)) a₃ }
+    let z = fits-sizes cap l a₁ in
+    record { sizes = (z .low, z .high); rectangle = fits-range g a₂; room = ltb-false cap (length (numbered g)) a₃ }
 
 pub build-valid : (cap : ℕ) (g : Grid) → Buildable cap g → Valid (built g cap) × (capacity (built g cap) ≡ cap)
 build-valid cap g b = (built-valid g cap (b .rectangle) (b .sizes .0) (b .sizes .1) (b .room), built-capacity g cap (b .room))

@@ -15,7 +15,7 @@ use lib.Seq.{length-take-le, take-take}
 use borrow.Author.Tests.{le-ltb, ltb-false}
 use Rattle.mesh.specs.State.{State}
 use Rattle.mesh.specs.Request.{Request, Result, refused, accepted, request}
-use Rattle.mesh.specs.Tape.{Kind, kind, Step, stop, next, answered, stepBy, runFrom, run}
+use Rattle.mesh.specs.Tape.{Kind, kind, asks, Step, stop, next, answered, stepBy, runFrom, run}
 use Rattle.mesh.proofs.Runs.{run-stop, run-next}
 use Rattle.demand_laws.proofs.Exactly.{refused-is}
 
@@ -27,7 +27,7 @@ step-stop s none bs r e = let i : 5 ≡ r = cc in omega arith
 step-stop s (some k) bs r e = body (ltb (length bs) (k .len)) refl
   where
     q : Request
-    q = k .ask (take (k .len) bs)
+    q = asks k bs
 
     done : (x : Result) → request s q ≡ x → answered x (k .len) ≡ stop r → 4 ≤ r
     done (refused n) f h = let i : n ≡ r = cc in omega (arith, refused-is s q n f .0)
@@ -49,10 +49,10 @@ step-body s (some k) bs t l e = body (ltb (length bs) (k .len)) refl
     body : (b : Bool) → ltb (length bs) (k .len) ≡ b → (l ≤ length bs) × ((m : ℕ) → l ≤ m → m ≤ length bs → stepBy s (some k) (take m bs) ≡ next t l)
     body true f = absurd (let h : stop 4 ≡ next t l = rw f at e in let z : _≡_ {A = ℕ} 0 1 = cc in omega arith)
     body false f =
-        let h : answered (request s (k .ask (take (k .len) bs))) (k .len) ≡ next t l = rw f at e in
-        let i : k .len ≡ l = done (request s (k .ask (take (k .len) bs))) h in
+        let h : answered (request s (asks k bs)) (k .len) ≡ next t l = rw f at e in
+        let i : k .len ≡ l = done (request s (asks k bs)) h in
         let a : k .len ≤ length bs = ltb-false (length bs) (k .len) f in
-        (omega arith, λ m c d. rw (length-take-le m bs d, le-ltb m (k .len) (omega arith), take-take (k .len) m bs (omega arith)) h)
+        (omega arith, λ m c d. rw (length-take-le m bs d, le-ltb m (k .len) (omega arith), asks, take-take (k .len) m bs (omega arith)) h)
 
 -- ---- the rest of a tape
 

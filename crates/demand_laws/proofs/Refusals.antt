@@ -10,7 +10,9 @@ use Rattle.mesh.specs.Place.{Grid}
 use Rattle.mesh.specs.State.{blank}
 use Rattle.mesh.specs.Refusal.{refusal}
 use Rattle.mesh.specs.Tape.{run}
-use Rattle.mesh.specs.Call.{Lent, picture, stateOf, lentChecks, unless, Built, buildCall, Taped, tapeCall, Wrote, scanCall, pageCall, Found, lookupCall}
+use Rattle.mesh.specs.Picture.{Lent, picture}
+use Rattle.mesh.specs.Decode.{decode}
+use Rattle.mesh.specs.Call.{lentChecks, unless, Built, buildCall, Taped, tapeCall, Wrote, scanCall, pageCall, Found, lookupCall}
 use Rattle.demand_laws.proofs.Prefixes.{run-refused}
 
 -- ---- what a call answers
@@ -55,13 +57,13 @@ unfolding tapeCall unless
 tape-refused cap l bytes = go (refusal (lentChecks cap l))
   where
     ran : Taped
-    ran = let r = run (stateOf l) bytes in record { done = r .done; refusal = r .refusal; offset = r .offset; lent = picture (r .state) }
+    ran = let r = run (decode l) bytes in record { done = r .done; refusal = r .refusal; offset = r .offset; lent = picture (r .state) }
 
     refused : ℕ → Taped
     refused n = record { done = 0; refusal = n; offset = 0; lent = l }
 
     go : (n : ℕ) → unless n refused ran .refusal ≢ 0 → unless n refused ran .refusal ≤ 3 → unless n refused ran ≡ refused (unless n refused ran .refusal)
-    go zero h a = absurd (omega (arith, run-refused (stateOf l) bytes h))
+    go zero h a = absurd (omega (arith, run-refused (decode l) bytes h))
     go (suc n) h a = refl
 
 pub scan-refused : (cap : ℕ) (l : Lent) (n : ℕ) (o : List ℕ) (k : ℕ) (from to : ℤ) (out : List ℕ) → scanCall cap l n o k from to out .refusal ≢ 0

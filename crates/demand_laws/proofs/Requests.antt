@@ -11,13 +11,13 @@ use Rattle.mesh.specs.Tools.{any}
 use Rattle.mesh.specs.State.{State, Header, Cell, Value, blank, measured, carried, gridOf, contents}
 use Rattle.mesh.specs.Valid.{Valid, ValueRule}
 use Rattle.mesh.specs.Refusal.{refusal}
-use Rattle.mesh.specs.Request.{Request, refine, sentence, remove, kill, setValue, looseChecks, effect, marked, accepted, request}
+use Rattle.mesh.specs.Deed.{setRule}
+use Rattle.mesh.specs.Request.{Request, refine, sentence, remove, kill, setValue, deedOf, looseChecks, effect, marked, accepted, request}
 use Rattle.number_laws.proofs.Checks.{loosely}
 use Rattle.number_laws.proofs.Keeping.{Kept}
 use Rattle.number_laws.proofs.Marking.{sentence-kept, setValue-kept}
 use Rattle.number_laws.proofs.Taking.{remove-kept, kill-kept}
 use Rattle.number_laws.proofs.Refining.{refine-valid, refine-contents, refine-frame}
-use Rattle.demand_laws.specs.Deeds.{deedOf, setRule}
 use Rattle.demand_laws.specs.Numbers.{turns, Numbers}
 use Rattle.demand_laws.specs.History.{Follows}
 use Rattle.demand_laws.proofs.Exactly.{accepted-is}

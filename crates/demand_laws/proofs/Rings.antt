@@ -4,7 +4,7 @@
 use Prim.Native.Nat.{ℕ, zero, suc, _-_, _*_, _/_, _%_, _+_, _^_, _≤_, _<_}
 use native.Mathlib.Nat.{mod-self}
 use native.Mathlib.Omega.{arith}
-use mathlib.Core.Path.{_≡_, refl, sym, _∙_, subst}
+use mathlib.Core.Path.{_≡_, refl, sym, ap, _∙_, subst}
 use mathlib.Core.Logic.{inl, inr}
 use mathlib.Core.Bool.{Bool, true, false}
 use mathlib.Core.Option.{Option, none, some}
@@ -14,21 +14,22 @@ use lib.IntN.{pos}
 use Rattle.mesh.specs.Picture.{linkWord}
 use Rattle.number_laws.specs.Sizes.{levelSize, levelsSize}
 use Rattle.mesh.specs.Call.{Rectangle}
-use Rattle.mesh.specs.Place.{Place, Grid, isRing, at, base, lap, jAfter, toNorth, toSouth, step, N, S}
+use Rattle.mesh.specs.Place.{Place, Grid, isRing, at, base, lap, toNorth, step, N, S}
 use Rattle.mesh.specs.Mesh.{leaf, internal, isBoundary, wallOf, on, inArea, wallH}
 use Rattle.mesh.specs.State.{State, placeOf, entry, cells, inUse, gridOf}
 use Rattle.mesh.specs.Valid.{Valid}
 use Rattle.mesh.specs.Holding.{westEdge, eastEdge, southEdge, northEdge, leafAt, groundOf}
 use Rattle.mesh.specs.Build.{full, built}
 use Rattle.place_laws.proofs.Bools.{yes-is, bool-ext}
-use Rattle.place_laws.proofs.Laps.{lap-ring, lap-base, after-within, before-on, before-anew}
-use Rattle.place_laws.proofs.Places.{step-back, south-north}
+use Rattle.place_laws.proofs.Places.{place-path}
+use Rattle.place_laws.proofs.Steps.{lap-ring, north-depth, north-i, north-j, south-on, south-anew, south-north, step-back}
+use Rattle.place_laws.proofs.Laps.{lap-base, after-within}
 use Rattle.place_laws.proofs.Base.{patch-ring}
 use Rattle.place_laws.proofs.Full.{full-cell, cell-full}
 use Rattle.number_laws.proofs.Sizes.{numbered-size}
 use Rattle.number_laws.proofs.Building.{built-in-use}
 use Rattle.level_laws.specs.Beside.{Overlap}
-use Rattle.demand_laws.specs.Deeds.{Deed}
+use Rattle.mesh.specs.Deed.{Deed}
 use Rattle.demand_laws.specs.Demand.{Demand3}
 
 module _ (g : Grid) (in-range : Rectangle g) (ring : T (isRing g)) where
@@ -39,8 +40,7 @@ module _ (g : Grid) (in-range : Rectangle g) (ring : T (isRing g)) where
 
   -- "row index on level k counts modulo rows × 2^k": south of row 0 lies the last row
   pub seam-south : (i : ℕ) → step g S (at (base g) i 0) ≡ some (at (base g) i (g .rows - 1))
-  unfolding step toSouth
-  seam-south i = rw (rows-of, before-anew (g .rows) (g .rows - 1) (omega (arith, in-range .2)))
+  seam-south i = south-anew g (base g) i (g .rows - 1) (omega (arith, rows-of, in-range .2))
 
   pub seam-north : (i : ℕ) → step g N (at (base g) i (g .rows - 1)) ≡ some (at (base g) i 0)
   seam-north i = step-back g S (at (base g) i 0) (at (base g) i (g .rows - 1)) (seam-south i)
@@ -49,20 +49,22 @@ module _ (g : Grid) (in-range : Rectangle g) (ring : T (isRing g)) where
 
   -- there is a cell on both sides of a wall or on none
   both-sides : (p : Place) → on g (full g) (step g S p) ≡ full g p
-  unfolding step toNorth toSouth
   both-sides p = bool-ext (on g (full g) (step g S p)) (full g p) (back (step g S p) refl) (λ t. there (full-cell g p t) (p .j) refl)
     where
-      back : (o : Option Place) → toSouth g p ≡ o → T (on g (full g) o) → T (full g p)
+      back : (o : Option Place) → step g S p ≡ o → T (on g (full g) o) → T (full g p)
       back none e t = absurd t
       back (some q) e t =
           let (d, x, y) = full-cell g q t in
-          let n : at (q .depth) (q .i) (jAfter (lap g (q .depth)) (q .j)) ≡ p = south-north g p q e in
-          let l : jAfter (lap g (q .depth)) (q .j) < g .rows = rw (d, rows-of) (after-within (g .rows) (q .j) y) in
-          subst (λ (r : Place). T (full g r)) n (cell-full g (at (q .depth) (q .i) (jAfter (lap g (q .depth)) (q .j))) d x l)
+          let l : toNorth g q .j < g .rows = rw (north-j g q, d, rows-of) (after-within (g .rows) (q .j) y) in
+          subst (λ (r : Place). T (full g r)) (south-north g p q e) (cell-full g (toNorth g q) (north-depth g q ∙ d) (rw (north-i g q) x) l)
+
+      -- p by its row
+      by-row : p .depth ≡ base g → (j : ℕ) → p .j ≡ j → p ≡ at (base g) (p .i) j
+      by-row d j e = place-path p (at (base g) (p .i) j) d refl e
 
       there : (p .depth ≡ base g) × (p .i < g .columns) × (p .j < g .rows) → (j : ℕ) → p .j ≡ j → T (on g (full g) (step g S p))
-      there (d, x, y) zero e = rw (d, rows-of, e, before-anew (g .rows) (g .rows - 1) (omega arith)) (cell-full g (at (base g) (p .i) (g .rows - 1)) refl x (omega arith))
-      there (d, x, y) (suc j) e = rw (d, rows-of, e, before-on (g .rows) j (λ k. omega arith)) (cell-full g (at (base g) (p .i) j) refl x (omega arith))
+      there (d, x, y) zero e = rw (ap (step g S) (by-row d 0 e) ∙ south-anew g (base g) (p .i) (g .rows - 1) (omega (arith, rows-of))) (cell-full g (at (base g) (p .i) (g .rows - 1)) refl x (omega arith))
+      there (d, x, y) (suc j) e = rw (ap (step g S) (by-row d (suc j) e) ∙ south-on g (base g) (p .i) j (λ k. omega (arith, rows-of))) (cell-full g (at (base g) (p .i) j) refl x (omega arith))
 
   pub seam-internal : (i : ℕ) → i < g .columns → wallH g (full g) (some (at (base g) i 0)) ≡ internal
   unfolding wallH

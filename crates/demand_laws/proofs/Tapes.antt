@@ -8,13 +8,14 @@ use mathlib.Core.Bool.{Bool, true, false}
 use mathlib.Core.Option.{Option, none, some}
 use mathlib.Core.List.{List, [], _∷_, _++_}
 use lib.Dec.{ltb}
-use lib.ListN.{length, take, length-append}
+use lib.ListN.{length, length-append}
 use Rattle.mesh.specs.State.{State, gridOf, contents}
 use Rattle.mesh.specs.Valid.{Valid}
-use Rattle.mesh.specs.Request.{Request, Result, refused, accepted, request}
-use Rattle.mesh.specs.Tape.{Kind, kind, Step, stop, next, answered, stepBy, runFrom, run}
+use Rattle.mesh.specs.Deed.{Deed, Contents, setRule}
+use Rattle.mesh.specs.Request.{Request, deedOf, Result, refused, accepted, request}
+use Rattle.mesh.specs.Tape.{Kind, kind, asks, Step, stop, next, answered, stepBy, runFrom, run}
 use Rattle.mesh.proofs.Runs.{run-stop, run-next}
-use Rattle.demand_laws.specs.Deeds.{Deed, deedOf, setRule, setRules, askedBy, deedsFrom, after, deeds}
+use Rattle.demand_laws.specs.Deeds.{setRules, askedBy, deedsFrom, after, deeds}
 use Rattle.demand_laws.specs.History.{History, no-more, one-more}
 use Rattle.demand_laws.specs.Demand.{raised}
 use Rattle.demand_laws.proofs.History.{history-then}
@@ -52,7 +53,7 @@ raised-more n k m = go n m
     go zero m = let e : 0 + k ≡ k = omega arith in ap (λ (i : ℕ). raised i m) e
     go (suc n) m = let e : suc n + k ≡ suc (n + k) = omega arith in ap (λ (i : ℕ). raised i m) e ∙ go n ((m + 1) % 65536)
 
-rules-more : (ds es : List Deed) (c : Rattle.demand_laws.specs.Deeds.Contents) → setRules (ds ++ es) c ≡ setRules es (setRules ds c)
+rules-more : (ds es : List Deed) (c : Contents) → setRules (ds ++ es) c ≡ setRules es (setRules ds c)
 unfolding setRules
 rules-more [] es c = refl
 rules-more (d ∷ ds) es c = rules-more ds es (setRule d c)
@@ -75,7 +76,7 @@ step-next s none bs t l e = absurd (let z : _≡_ {A = ℕ} 0 1 = cc in omega ar
 step-next s (some k) bs t l e = body (ltb (length bs) (k .len)) refl
   where
     r : Request
-    r = k .ask (take (k .len) bs)
+    r = asks k bs
 
     done : (x : Result) → request s r ≡ x → answered x (k .len) ≡ next t l → (r : Request) × (request s r ≡ accepted t) × (askedBy (s .entries) (some k) bs ≡ deedOf (s .entries) r ∷ [])
     done (refused n) f h = absurd (let z : _≡_ {A = ℕ} 0 1 = cc in omega arith)

@@ -10,7 +10,7 @@ use lib.Dec.{T, eqb}
 use lib.ListN.{length}
 use lib.IntN.{ℤ, pos}
 use lib.Signed.{leZ}
-use Rattle.mesh.specs.Picture.{linkWord}
+use Rattle.mesh.specs.Picture.{parentWord, linkWord}
 use Rattle.mesh.specs.Tools.{count}
 use Rattle.mesh.specs.Place.{Place, Grid, Wind, compass, kidWinds, sideWinds, root, level}
 use Rattle.mesh.specs.Winds.{wordOfWind, _of_}
@@ -23,7 +23,8 @@ use Rattle.mesh.specs.Holding.{holds, leafAt, groundOf}
 use Rattle.level_laws.specs.Beside.{NoJump}
 use Rattle.walk_laws.specs.Points.{total}
 use Rattle.demand_laws.specs.Adjacent.{Adjacent}
-use Rattle.demand_laws.specs.Deeds.{Deed, Contents, setRules}
+use Rattle.mesh.specs.Deed.{Deed, Contents}
+use Rattle.demand_laws.specs.Deeds.{setRules}
 use Rattle.demand_laws.specs.Numbers.{NumberedAs}
 use Rattle.demand_laws.specs.History.{History}
 
@@ -53,8 +54,8 @@ pub record Demand3 (g : Grid) (ds : List Deed) (s : State) : Type 0 where
   -- "and returned": by the opposite wind, and between parent and kid
   pub returned : (w : Wind) → T (w of sideWinds) → (n m : ℕ) → m ≢ 0 → linkWord s n (wordOfWind w) ≡ pos m → linkWord s m (wordOfWind (compass w .opposite)) ≡ pos n
   pub parents : (n m : ℕ)
-      → ((w : Wind) → T (w of kidWinds) → m ≢ 0 → linkWord s n (wordOfWind w) ≡ pos m → linkWord s m 0 ≡ pos n)
-      × (n ≢ 0 → linkWord s m 0 ≡ pos n → (w : Wind) × T (w of kidWinds) × (linkWord s n (wordOfWind w) ≡ pos m))
+      → ((w : Wind) → T (w of kidWinds) → m ≢ 0 → linkWord s n (wordOfWind w) ≡ pos m → linkWord s m parentWord ≡ pos n)
+      × (n ≢ 0 → linkWord s m parentWord ≡ pos n → (w : Wind) × T (w of kidWinds) × (linkWord s n (wordOfWind w) ≡ pos m))
   -- "every point of the remaining area in one leaf"; no leaf holds any other point
   pub tiled : (u v : ℕ) → T (cells (s .entries) (groundOf (gridOf s) u v))
       → (p : Place) × T (leaf (gridOf s) (cells (s .entries)) p) × T (holds (gridOf s) p u v) × (leafAt s u v ≡ number (s .entries) p) × (number (s .entries) p ≢ 0)

@@ -6,7 +6,7 @@ use mathlib.Core.List.{List, [], _∷_}
 use lib.ListN.{length}
 use Rattle.mesh.specs.State.{State, gridOf, contents}
 use Rattle.mesh.specs.Valid.{Valid}
-use Rattle.demand_laws.specs.Deeds.{Deed, setRule}
+use Rattle.mesh.specs.Deed.{Deed, setRule}
 use Rattle.demand_laws.specs.Numbers.{Numbers}
 
 -- the state t follows s by the deed d

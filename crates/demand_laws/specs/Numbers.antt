@@ -12,7 +12,7 @@ use Rattle.mesh.specs.Place.{Place, Grid, In}
 use Rattle.mesh.specs.Mesh.{patch}
 use Rattle.mesh.specs.State.{State, free, placeOf, entry, cells, number, gridOf}
 use Rattle.mesh.specs.Request.{wanted}
-use Rattle.demand_laws.specs.Deeds.{Deed, refined, sentenced, removed, killed, measured}
+use Rattle.mesh.specs.Deed.{Deed, refined, sentenced, removed, killed, measured}
 
 -- "numbers go level by level from the root": the numbers from 1 on are those of the places, and no other is in use
 abbrev pub NumberedAs : List Place → State → Type 0

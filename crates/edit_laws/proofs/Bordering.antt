@@ -13,7 +13,7 @@ use lib.Dec.{T}
 use lib.IntN.{ℤ}
 use Rattle.edit_laws.specs.Growing.{Rooted}
 use Rattle.mesh.specs.Tools.{any, digits}
-use Rattle.mesh.specs.Place.{Place, Grid, SW, N, E, S, W, base, home, step, toNorth, toEast, toSouth, toWest}
+use Rattle.mesh.specs.Place.{Place, Grid, SW, N, E, S, W, base, home, toNorth, toEast, step}
 use Rattle.mesh.specs.Mesh.{Mesh, touched, flags}
 use Rattle.mesh.specs.State.{Entry, stands, cells, number, numberOf}
 use Rattle.place_laws.proofs.Bools.{or-left, or-right, or-cases}
@@ -41,8 +41,8 @@ borderOf g es p = record {
   north = number es (toNorth g p);
   east = number es (toEast g p);
   both = number es (toNorth g (toEast g p));
-  south = numberOf es (toSouth g p);
-  west = numberOf es (toWest g p);
+  south = numberOf es (step g S p);
+  west = numberOf es (step g W p);
 }
 
 -- ---- the kids along each side
@@ -93,10 +93,10 @@ module _ (g : Grid) (p : Place) (e : ℕ) where
   both = under (sw ∷ []) e (toNorth g (toEast g p))
 
   abbrev south : List (Option Place)
-  south = underOf (nw ∷ ne ∷ []) e (toSouth g p)
+  south = underOf (nw ∷ ne ∷ []) e (step g S p)
 
   abbrev west : List (Option Place)
-  west = underOf (se ∷ ne ∷ []) e (toWest g p)
+  west = underOf (se ∷ ne ∷ []) e (step g W p)
 
   -- those with walls that p can be a side of, and with them those beside
   abbrev cornerPlaces : List (Option Place)
@@ -126,7 +126,6 @@ module _ (g : Grid) (p : Place) (e : ℕ) where
     corner-border t = first (cornerPlaces ++ south) west (first cornerPlaces south t)
 
     shadow-in : {c : Place → Bool} → Shadow g c p q → T (among q borderPlaces)
-    unfolding step
     shadow-in (s-corner k a) = corner-border (corner-in k a)
     shadow-in (s-south {t} i a u) = first (cornerPlaces ++ south) west (last cornerPlaces south (rw i (reached northern (step-depth g S tt p t i ∙ ground) a)))
     shadow-in (s-west {t} i a u) = last (cornerPlaces ++ south) west (rw i (reached eastern (step-depth g W tt p t i ∙ ground) a))
@@ -173,11 +172,11 @@ module _ {g : Grid} {cap : ℕ} {es : List Entry} (r : Rooted g cap es) (p : Pla
       (sw ∷ []) tt (some (toNorth g (toEast g p))) (corner-ground c-both)
 
   border-passed : Passed (alongBorder row cap (borderOf g es p) e (tableWith g es f)) (borderPlaces g p e)
-  unfolding alongBorder step
+  unfolding alongBorder
   border-passed =
       also (also corners-passed
-      (nw ∷ ne ∷ []) tt (toSouth g p) (λ q i. step-depth g S tt p q i ∙ ground))
-      (se ∷ ne ∷ []) tt (toWest g p) (λ q i. step-depth g W tt p q i ∙ ground)
+      (nw ∷ ne ∷ []) tt (step g S p) (λ q i. step-depth g S tt p q i ∙ ground))
+      (se ∷ ne ∷ []) tt (step g W p) (λ q i. step-depth g W tt p q i ∙ ground)
 
 -- ---- level by level
 

@@ -1,6 +1,7 @@
 -- Several places get another cell or none, one after the other: the flags' word and the status of each row are written, and its value.
 -- Assumes nothing.
 use Prim.Native.Nat.{ℕ}
+use native.Mathlib.Omega.{arith}
 use mathlib.Core.Path.{_≡_, refl, sym, ap, _∙_, fun-ext}
 use mathlib.Core.Logic.{_≢_}
 use mathlib.Core.Bool.{Bool, true, false, _||_, cond}
@@ -22,12 +23,20 @@ use Rattle.number_laws.proofs.Filling.{fill-number, fill-numbered}
 use Rattle.edit_laws.specs.Linked.{Flags, tableWith, withFlags}
 use Rattle.edit_laws.specs.Steps.{putUnlessNil}
 use Rattle.edit_laws.specs.Tables.{Spot, putCells, putValues}
+use Rattle.edit_laws.proofs.FreeNumbers.{Alive}
 use Rattle.edit_laws.proofs.Setting.{map-same, map-but, filled-other, filled-here, put-flags, put-status, fill-rooted, fill-first}
 use Rattle.edit_laws.proofs.Named.{AllNamed, no-more, one-more, named-same, kid-at}
 
 -- these places' flags are others
 abbrev pub withAll : List Place → ℕ → Flags → Flags
 withAll qs x f p = cond (any (same p) qs) x (f p)
+
+pub all-alive : (qs : List Place) {f : Flags} → Alive f → Alive (withAll qs 0 f)
+all-alive qs {f} alive p = go (any (same p) qs)
+  where
+    go : (b : Bool) → cond b 0 (f p) ≢ 8192
+    go true e = omega arith
+    go false e = alive p e
 
 -- ---- filling
 

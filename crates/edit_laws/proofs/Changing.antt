@@ -23,7 +23,8 @@ use Rattle.mesh.specs.Picture.{rowWords}
 use Rattle.mesh.proofs.Winds.{rule}
 use Rattle.place_laws.proofs.Bools.{no-is, is-yes}
 use Rattle.place_laws.proofs.Lists.{any-set, first-set}
-use Rattle.place_laws.proofs.Places.{same-is, is-same, mapped, then-some, step-back}
+use Rattle.place_laws.proofs.Steps.{step-back}
+use Rattle.place_laws.proofs.Places.{same-is, is-same, mapped, then-some}
 use Rattle.place_laws.proofs.Kids.{parent-depth}
 use Rattle.place_laws.proofs.SideDigits.{kidBy, kid-by-parent, kid-by-digits, parent-by, aside, opposite-aside, step-other}
 use Rattle.number_laws.proofs.Entries.{stands-place}

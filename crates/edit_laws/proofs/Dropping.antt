@@ -24,7 +24,8 @@ use Rattle.number_laws.proofs.Entries.{stands-in, in-stands}
 use Rattle.number_laws.proofs.NumberedPlaces.{number-place, numbered-not-zero}
 use Rattle.edit_laws.specs.Linked.{Flags, tableWith}
 use Rattle.edit_laws.specs.Steps.{takeOut}
-use Rattle.edit_laws.specs.Tables.{Spot, touchedRow, dropUntouched, dropAt}
+use Rattle.table.specs.Worked.{touchedIn}
+use Rattle.edit_laws.specs.Tables.{Spot, dropUntouched, eachAt}
 use Rattle.edit_laws.proofs.Changing.{swap-number, swap-same, swap-other}
 use Rattle.edit_laws.proofs.Removing.{removing, take-out, take-out-number, take-out-rooted}
 use Rattle.edit_laws.proofs.FlagsAnew.{Ready}
@@ -126,29 +127,29 @@ module _ {g : Grid} (cap : ℕ) {es : List Entry} {f : Flags} {c : Place → Boo
           only-touched = λ p i t. absurd (out (subst (λ (x : Place). T (any (stands x) (set ds (number ds q) free))) (in-one p q i) t));
         }
 
-    dropped-one : (o : Option Place) → ((q : Place) → o ≡ some q → q .depth ≡ suc e) → Dropped g cap c f e es ds (dropUntouched (tableWith g ds f) cap (base g) (numberOf ds o)) (o ∷ [])
+    dropped-one : (o : Option Place) → ((q : Place) → o ≡ some q → q .depth ≡ suc e) → Dropped g cap c f e es ds (dropUntouched cap (tableWith g ds f) (numberOf ds o)) (o ∷ [])
     dropped-one none d = unchanged refl (λ q i. absurd i)
     dropped-one (some q) d = go (ℕ-discrete (number ds q) 0)
       where
         t : List ℤ
         t = tableWith g ds f
 
-        by : (a b : Bool) → eqb (number ds q) 0 ≡ a → touchedRow t cap (base g) (number ds q) ≡ b → dropUntouched t cap (base g) (number ds q) ≡ cond (a || b) t (takeOut t cap (number ds q))
-        by a b i j = ap (λ (x : Bool). cond (x || touchedRow t cap (base g) (number ds q)) t (takeOut t cap (number ds q))) i ∙ ap (λ (x : Bool). cond (a || x) t (takeOut t cap (number ds q))) j
+        by : (a b : Bool) → eqb (number ds q) 0 ≡ a → touchedIn t cap (number ds q) ≡ b → dropUntouched cap t (number ds q) ≡ cond (a || b) t (takeOut t cap (number ds q))
+        by a b i j = ap (λ (x : Bool). cond (x || touchedIn t cap (number ds q)) t (takeOut t cap (number ds q))) i ∙ ap (λ (x : Bool). cond (a || x) t (takeOut t cap (number ds q))) j
 
-        touch : number ds q ≢ 0 → (b : Bool) → touched g c q ≡ b → Dropped g cap c f e es ds (dropUntouched t cap (base g) (number ds q)) (some q ∷ [])
+        touch : number ds q ≢ 0 → (b : Bool) → touched g c q ≡ b → Dropped g cap c f e es ds (dropUntouched cap t (number ds q)) (some q ∷ [])
         touch z b i = one b (by false b (ne-eqb (number ds q) 0 z) (touched-row (h .rooted) f c (suc e) low (less-ready h low ready) (number ds q) q (number-place ds q z) (d q refl) ∙ i)) i
           where
-            one : (b : Bool) → dropUntouched t cap (base g) (number ds q) ≡ cond b t (takeOut t cap (number ds q)) → touched g c q ≡ b → Dropped g cap c f e es ds (dropUntouched t cap (base g) (number ds q)) (some q ∷ [])
+            one : (b : Bool) → dropUntouched cap t (number ds q) ≡ cond b t (takeOut t cap (number ds q)) → touched g c q ≡ b → Dropped g cap c f e es ds (dropUntouched cap t (number ds q)) (some q ∷ [])
             one true j i = unchanged j (λ p k u. subst (λ (x : Place). T (touched g c x)) (sym (in-one p q k)) (is-yes (touched g c q) i))
             one false j i = subst (λ (u : List ℤ). Dropped g cap c f e es ds u (some q ∷ [])) (sym j) (dropped-out q (d q refl) z (λ u. let w : T false = rw i at u in w))
 
-        go : Dec (number ds q ≡ 0) → Dropped g cap c f e es ds (dropUntouched t cap (base g) (number ds q)) (some q ∷ [])
-        go (yes z) = unchanged (by true (touchedRow t cap (base g) (number ds q)) (eq-eqb (number ds q) 0 z) refl) (λ p k u. absurd (numbered-not-zero ds (h .rooted .numbered) p u (ap (number ds) (in-one p q k) ∙ z)))
+        go : Dec (number ds q ≡ 0) → Dropped g cap c f e es ds (dropUntouched cap t (number ds q)) (some q ∷ [])
+        go (yes z) = unchanged (by true (touchedIn t cap (number ds q)) (eq-eqb (number ds q) 0 z) refl) (λ p k u. absurd (numbered-not-zero ds (h .rooted .numbered) p u (ap (number ds) (in-one p q k) ∙ z)))
         go (no z) = touch z (touched g c q) refl
 
-  pub dropped-all : (qs : List (Option Place)) {ds : List Entry} {xs : List Spot} → Less g cap c es ds → AllNamed ds e xs qs → Dropped g cap c f e es ds (dropAt xs (tableWith g ds f) cap (base g)) qs
-  unfolding dropAt
+  pub dropped-all : (qs : List (Option Place)) {ds : List Entry} {xs : List Spot} → Less g cap c es ds → AllNamed ds e xs qs → Dropped g cap c f e es ds (eachAt (dropUntouched cap) cap xs (tableWith g ds f)) qs
+  unfolding eachAt
   dropped-all [] h no-more = unchanged h refl (λ q i. absurd i)
   dropped-all (o ∷ qs) {ds} h (one-more {x} {xs = xs} n ns) =
       let a = dropped-one h o (λ q i. named-depth (subst (Names ds e x) i n)) in
@@ -156,7 +157,7 @@ module _ {g : Grid} (cap : ℕ) {es : List Entry} {f : Flags} {c : Place → Boo
       record {
         rest =
             left-then (a .rest .fewer)
-            (ap (λ (k : ℕ). dropAt xs (dropUntouched (tableWith g ds f) cap (base g) k) cap (base g)) (kid-at (h .rooted) f n) ∙ ap (λ (t : List ℤ). dropAt xs t cap (base g)) (a .rest .is-table))
+            (ap (λ (k : ℕ). eachAt (dropUntouched cap) cap xs (dropUntouched cap (tableWith g ds f) k)) (kid-at (h .rooted) f n) ∙ ap (λ (t : List ℤ). eachAt (dropUntouched cap) cap xs t) (a .rest .is-table))
             (b .rest);
         above = λ p d. a .above p d ∙ b .above p d;
         only-touched = λ q i t. either q (orElse false (same q) o) (or-cases (orElse false (same q) o) (among q qs) i) (λ j. a .only-touched q (or-left (orElse false (same q) o) false j) (b .rest .fewer q t)) (λ j. b .only-touched q j t);

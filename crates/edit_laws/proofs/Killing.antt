@@ -5,7 +5,6 @@ use Prim.Native.Nat.{ℕ, zero, suc, _+_, _-_, _≤_}
 use native.Mathlib.Omega.{arith}
 use native.Mathlib.Decide.{decLe, ℕ-discrete}
 use mathlib.Core.Path.{_≡_, refl, sym, ap, _∙_, subst, fun-ext}
-use mathlib.Core.Logic.{_≢_}
 use mathlib.Core.Bool.{Bool, true, false, _||_, cond}
 use mathlib.Core.Option.{Option, none, some}
 use mathlib.Core.List.{List, [], _∷_, map}
@@ -15,16 +14,17 @@ use lib.ListN.{set}
 use borrow.Author.Tests.{eq-eqb, ne-eqb}
 use Rattle.edit_laws.specs.Growing.{Rooted}
 use Rattle.mesh.specs.Tools.{any, digits}
-use Rattle.mesh.specs.Place.{Place, Grid, N, E, S, W, same, base, step, toNorth, toEast, toSouth, toWest, In}
+use Rattle.mesh.specs.Place.{Place, Grid, N, E, S, W, same, base, toNorth, toEast, In, step}
 use Rattle.mesh.specs.Mesh.{patch, leaf, flags}
 use Rattle.mesh.specs.State.{State, Entry, plusZero, placeOf, stands, entry, cells, number, numberOf, placeAt, gridOf, capacity, withEntries}
 use Rattle.mesh.specs.Valid.{Valid}
 use Rattle.mesh.specs.Picture.{table, amounts}
 use Rattle.mesh.specs.Refusal.{refusal}
 use Rattle.mesh.specs.Request.{kill, looseChecks, effect, fill, prune}
-use Rattle.table.specs.Words.{code, wordOf, linkOf}
+use Rattle.table.specs.Words.{code, wordOf, linkOf, freeAt}
 use Rattle.place_laws.proofs.Bools.{no-is}
 use Rattle.place_laws.proofs.Places.{in-one}
+use Rattle.place_laws.proofs.Steps.{step-north, step-east}
 use Rattle.place_laws.proofs.SideDigits.{step-depth}
 use Rattle.place_laws.proofs.Near.{Corner, c-here, c-east, c-north, c-both, corner-depth}
 use Rattle.place_laws.proofs.Tree.{touched-patch, cell-patch, ghost-kid, kid-ghost}
@@ -40,13 +40,14 @@ use Rattle.number_laws.proofs.Taking.{kill-passed, kill-kept}
 use Rattle.table_laws.proofs.LinkedRows.{touched-stands, corner-numbered}
 use Rattle.edit_laws.specs.Linked.{Flags, tableWith, withFlags, flagsOf}
 use Rattle.edit_laws.specs.Steps.{putWord}
-use Rattle.edit_laws.specs.Tables.{stillUsed, refreshLevels, killTable, killValues}
+use Rattle.edit_laws.specs.Tables.{cleared, droppedCorners, stillUsed, refreshLevels, killTable, killValues}
 use Rattle.edit_laws.proofs.Linked.{picture-linked, flags-of, word-free}
 use Rattle.edit_laws.proofs.Rooted.{valid-rooted}
 use Rattle.edit_laws.proofs.Setting.{flags-same, put-flags, put-status, fill-rooted}
 use Rattle.edit_laws.proofs.FlagsAnew.{Ready, link-side}
-use Rattle.edit_laws.proofs.Celling.{withAll, put-value, valuesOf}
-use Rattle.edit_laws.proofs.Starting.{markOf, startFlags, start-alive, picture-start}
+use Rattle.edit_laws.proofs.Celling.{withAll, all-alive, put-value, valuesOf}
+use Rattle.edit_laws.proofs.Starting.{markOf, startFlags, start-alive, picture-start, free-numbers}
+use Rattle.edit_laws.proofs.FreeNumbers.{Alive, free-at, fill-frees}
 use Rattle.edit_laws.proofs.Thinning.{thinned-nothing, thinned-place, thinned-prune}
 use Rattle.edit_laws.proofs.Losing.{patch-left, high-left, untouched-kidless}
 use Rattle.edit_laws.proofs.Between.{Between, in-between}
@@ -115,7 +116,7 @@ module _ (s : State) (v : Valid s) (n : ℕ) (h : refusal (looseChecks s (kill n
   abbrev f₁ : Flags
   f₁ = withAll (p ∷ []) 0 f₀
 
-  without-cell : putWord (putWord (tableWith g es f₀) n 12 0) n 13 0 ≡ tableWith g between f₁
+  without-cell : cleared (tableWith g es f₀) n ≡ tableWith g between f₁
   without-cell =
       ap (λ (t : List ℤ). putWord t n 13 0) (put-flags g es (r .numbered) f₀ n p there 0)
       ∙ put-status g es (r .numbered) (withFlags p 0 f₀) n p there none
@@ -234,23 +235,60 @@ module _ (s : State) (v : Valid s) (n : ℕ) (h : refusal (looseChecks s (kill n
   beside none k = refl
   beside (some q) k = let (d, o) = k q refl in unmoved q d o
 
+  alive : Alive f₁
+  alive = all-alive (p ∷ []) (start-alive g es)
+
   -- a corner's row is free, or still the corner's
   still : (q : Place) → Corner g p q → stillUsed (tableWith g after f₁) (number es q) ≡ number after q
   unfolding wordOf
   still q k = go (patch g (cells after) q) refl
     where
-      alive : (b : Bool) → cond b 0 (f₀ q) ≢ 8192
-      alive true e = omega arith
-      alive false e = start-alive g es q e
-
       go : (b : Bool) → patch g (cells after) q ≡ b → stillUsed (tableWith g after f₁) (number es q) ≡ number after q
       go true e =
           let i : number after q ≡ number es q = kept .number-is q ∙ rw e in
           let j : placeOf (entry after (number es q)) ≡ some q = ap (λ (m : ℕ). placeOf (entry after m)) (sym i) ∙ number-place after q (λ z. corner-numbered s v (its .is-there) k (sym i ∙ z)) in
-          rw (ne-eqb (wordOf (tableWith g after f₁) (number es q) 12) 8192 (λ z. alive (any (same q) (p ∷ [])) (sym (flags-of g after f₁ (number es q) q j) ∙ z))) (sym i)
+          rw (ne-eqb (wordOf (tableWith g after f₁) (number es q) 12) 8192 (λ z. alive q (sym (flags-of g after f₁ (number es q) q j) ∙ z))) (sym i)
       go false e =
           let i = kept .freed (number es q) q (number-place es q (corner-numbered s v (its .is-there) k)) (λ t. let w : T false = rw e at t in w) in
           rw (eq-eqb (wordOf (tableWith g after f₁) (number es q) 12) 8192 (ap code (word-free g after f₁ (number es q) 12 (omega arith) i))) (sym (kept .number-is q ∙ rw e))
+
+  -- ---- the rows around, before
+
+  abbrev t₀ : List ℤ
+  t₀ = tableWith g es f₀
+
+  north-row : linkOf t₀ cap n 5 ≡ number es (toNorth g p)
+  north-row = link-side r f₀ n p there N tt ∙ ap (numberOf es) (step-north g p)
+
+  east-row : linkOf t₀ cap n 6 ≡ number es (toEast g p)
+  east-row = link-side r f₀ n p there E tt ∙ ap (numberOf es) (step-east g p)
+
+  both-row : linkOf t₀ cap (linkOf t₀ cap n 6) 5 ≡ number es (toNorth g (toEast g p))
+  both-row =
+      ap (λ (k : ℕ). linkOf t₀ cap k 5) east-row
+      ∙ link-side r f₀ (number es (toEast g p)) (toEast g p) (number-place es (toEast g p) (corner-numbered s v (its .is-there) c-east)) N tt
+      ∙ ap (numberOf es) (step-north g (toEast g p))
+
+  corners-read : droppedCorners t₀ cap (base g) n ≡ dropCorners (map (number es) (corners g p)) (tableWith g between f₁) cap (base g)
+  corners-read = λ i. dropCorners (both-row i ∷ north-row i ∷ east-row i ∷ own-number i ∷ []) (without-cell i) cap (base g)
+
+  -- ---- the free numbers: a cell that goes is not free, and flags free none
+
+  pub cleared-free : freeAt (cleared (table s) n) ≡ freeAt (table s)
+  cleared-free =
+      ap (λ (t : List ℤ). freeAt (cleared t n)) (picture-start s (r .numbered))
+      ∙ ap freeAt without-cell
+      ∙ free-at g between f₁ alive
+      ∙ fill-frees (p ∷ []) none es
+      ∙ sym (free-numbers s (r .numbered))
+
+  pub dropped-free : freeAt (droppedCorners (table s) (capacity s) (base (gridOf s)) n) ≡ freeAt (table (effect s (kill n)))
+  unfolding effect
+  dropped-free =
+      ap (λ (t : List ℤ). freeAt (droppedCorners t cap (base g) n)) (picture-start s (r .numbered))
+      ∙ ap freeAt (corners-read ∙ without-corners)
+      ∙ free-at g after f₁ alive
+      ∙ sym (free-numbers (withEntries s after) (r₂ .numbered))
 
   -- ---- the steps together
 
@@ -260,27 +298,21 @@ module _ (s : State) (v : Valid s) (n : ℕ) (h : refusal (looseChecks s (kill n
       let u = dropCorners (both ∷ north ∷ east ∷ own ∷ []) t cap (base g) in
       refreshLevels 13 (record { own = stillUsed u own; north = stillUsed u north; east = stillUsed u east; both = stillUsed u both; south = south; west = west }) 0 u cap (base g)
 
-  rows-read : killTable (tableWith g es f₀) cap (base g) n
-      ≡ finish (number es p) (number es (toNorth g p)) (number es (toEast g p)) (number es (toNorth g (toEast g p))) (numberOf es (toSouth g p)) (numberOf es (toWest g p)) (tableWith g between f₁)
-  unfolding killTable step
+  rows-read : killTable t₀ cap (base g) n
+      ≡ finish (number es p) (number es (toNorth g p)) (number es (toEast g p)) (number es (toNorth g (toEast g p))) (numberOf es (step g S p)) (numberOf es (step g W p)) (tableWith g between f₁)
+  unfolding killTable
   rows-read =
-      let t = tableWith g es f₀ in
-      let north : linkOf t cap n 5 ≡ number es (toNorth g p) = link-side r f₀ n p there N tt in
-      let east : linkOf t cap n 6 ≡ number es (toEast g p) = link-side r f₀ n p there E tt in
-      let both : linkOf t cap (linkOf t cap n 6) 5 ≡ number es (toNorth g (toEast g p)) =
-      ap (λ (k : ℕ). linkOf t cap k 5) east ∙ link-side r f₀ (number es (toEast g p)) (toEast g p) (number-place es (toEast g p) (corner-numbered s v (its .is-there) c-east)) N tt in
-      let south : linkOf t cap n 7 ≡ numberOf es (toSouth g p) = link-side r f₀ n p there S tt in
-      let west : linkOf t cap n 8 ≡ numberOf es (toWest g p) = link-side r f₀ n p there W tt in
-      λ i. finish (own-number i) (north i) (east i) (both i) (south i) (west i) (without-cell i)
+      let south : linkOf t₀ cap n 7 ≡ numberOf es (step g S p) = link-side r f₀ n p there S tt in
+      let west : linkOf t₀ cap n 8 ≡ numberOf es (step g W p) = link-side r f₀ n p there W tt in
+      λ i. finish (own-number i) (north-row i) (east-row i) (both-row i) (south i) (west i) (without-cell i)
 
-  border-is : finish (number es p) (number es (toNorth g p)) (number es (toEast g p)) (number es (toNorth g (toEast g p))) (numberOf es (toSouth g p)) (numberOf es (toWest g p)) (tableWith g between f₁)
+  border-is : finish (number es p) (number es (toNorth g p)) (number es (toEast g p)) (number es (toNorth g (toEast g p))) (numberOf es (step g S p)) (numberOf es (step g W p)) (tableWith g between f₁)
       ≡ refreshLevels 13 (borderOf g after p) 0 (tableWith g after f₁) cap (base g)
-  unfolding step
   border-is =
       let row : (q : Place) → Corner g p q → stillUsed (dropCorners (map (number es) (corners g p)) (tableWith g between f₁) cap (base g)) (number es q) ≡ number after q =
       λ q k. ap (λ (u : List ℤ). stillUsed u (number es q)) without-corners ∙ still q k in
-      let south : numberOf es (toSouth g p) ≡ numberOf after (toSouth g p) = beside (toSouth g p) (λ q e. (step-depth g S tt p q e ∙ ground, south-off g p (lap-size g (v .rectangle) (p .depth)) q e)) in
-      let west : numberOf es (toWest g p) ≡ numberOf after (toWest g p) = beside (toWest g p) (λ q e. (step-depth g W tt p q e ∙ ground, west-off g p q e)) in
+      let south : numberOf es (step g S p) ≡ numberOf after (step g S p) = beside (step g S p) (λ q e. (step-depth g S tt p q e ∙ ground, south-off g p (lap-size g (v .rectangle) (p .depth)) q e)) in
+      let west : numberOf es (step g W p) ≡ numberOf after (step g W p) = beside (step g W p) (λ q e. (step-depth g W tt p q e ∙ ground, west-off g p q e)) in
       λ i. refreshLevels 13 (record { own = row p c-here i; north = row (toNorth g p) c-north i; east = row (toEast g p) c-east i; both = row (toNorth g (toEast g p)) c-both i; south = south i; west = west i }) 0 (without-corners i) cap (base g)
 
   pub kill-table : killTable (table s) (capacity s) (base (gridOf s)) n ≡ table (effect s (kill n))

@@ -1,22 +1,17 @@
--- As many words as there were: after words are written in their place, and after a row is freed.
+-- As many words as there were: after words are written in their place, and after links to a row are.
 -- Assumes nothing.
-use Prim.Native.Nat.{ℕ, _+_, _*_, _%_, _≤_}
-use native.Mathlib.Omega.{arith}
-use mathlib.Core.Path.{_≡_, refl, _∙_}
+use Prim.Native.Nat.{ℕ, _%_}
+use mathlib.Core.Path.{_≡_, refl}
 use mathlib.Core.Bool.{Bool, true, false, cond}
-use mathlib.Core.List.{List, [], _∷_}
+use mathlib.Core.List.{List}
 use lib.Dec.{eqb}
 use lib.IntN.{ℤ}
 use lib.ListN.{length, length-set}
 use Rattle.mesh.specs.Place.{Wind, N, E, S, W, compass}
 use Rattle.mesh.specs.Winds.{wordOfWind}
-use Rattle.mesh.specs.Picture.{rowWords}
 use Rattle.table.specs.Words.{wordOf, linkOf}
 use Rattle.table.specs.Worked.{kidWord}
-use Rattle.table.specs.Writes.{freeRow}
-use Rattle.edit_laws.specs.Steps.{putWord, putUnlessNil, dropSide, takeOut}
-use Rattle.edit_laws.specs.Tables.{Spot, kidAt, putCells}
-use Rattle.edit_laws.proofs.Slots.{put-length}
+use Rattle.edit_laws.specs.Steps.{putWord, putUnlessNil, dropSide}
 
 -- ---- words
 
@@ -29,13 +24,6 @@ length-putWord t n w x = simp length-set
 
 pub length-putUnlessNil : (t : List ℤ) (n w x : ℕ) → length (putUnlessNil t n w x) ≡ length t
 length-putUnlessNil t n w x = length-cond (eqb n 0) _ _ refl (length-putWord t n w x)
-
-pub length-putCells : (xs : List Spot) (t : List ℤ) (cap f st : ℕ) → length (putCells xs t cap f st) ≡ length t
-unfolding putCells
-length-putCells [] t cap f st = refl
-length-putCells (x ∷ xs) t cap f st =
-    length-putCells xs (putUnlessNil (putUnlessNil t (kidAt t cap x) 12 f) (kidAt t cap x) 13 st) cap f st
-    ∙ length-putUnlessNil (putUnlessNil t (kidAt t cap x) 12 f) (kidAt t cap x) 13 st ∙ length-putUnlessNil t (kidAt t cap x) 12 f
 
 -- ---- a patch that goes
 
@@ -51,8 +39,3 @@ unnamed t cap k =
 
 pub length-unnamed : (t : List ℤ) (cap k : ℕ) → length (unnamed t cap k) ≡ length t
 length-unnamed t cap k = simp (length-dropSide, length-set)
-
-module _ (t : List ℤ) (cap : ℕ) (fits : cap * rowWords + rowWords ≤ length t) where
-  pub length-takeOut : (k : ℕ) → k ≤ cap → length (takeOut t cap k) ≡ length t
-  unfolding takeOut
-  length-takeOut k h = put-length (unnamed t cap k) freeRow k refl (omega (arith, length-unnamed t cap k)) ∙ length-unnamed t cap k

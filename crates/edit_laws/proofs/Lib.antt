@@ -16,6 +16,8 @@ pub mod GrowingTable
 pub mod PassingRows
 pub mod Walling
 pub mod TwoPasses
+pub mod Lengths
+pub mod FreeNumbers
 pub mod Celling
 pub mod Supplying
 pub mod Starting
@@ -43,6 +45,3 @@ pub mod Alike
 pub mod BuildTable
 pub mod Sprouts
 pub mod Blank
-pub mod Lengths
-pub mod Lowering
-pub mod Freeing

@@ -11,13 +11,14 @@ use lib.Dec.{lit<}
 use lib.ListN.{getD}
 use Rattle.edit_laws.specs.Growing.{Rooted}
 use Rattle.mesh.specs.Tools.{any}
-use Rattle.mesh.specs.Place.{Place, Grid, base, same, root, compass, step, toEast, toSouth, toWest, kid, kids, Wind, NE, SE, SW, NW, N, E, S, W, In}
+use Rattle.mesh.specs.Place.{Place, Grid, base, same, root, compass, toNorth, toEast, kid, kids, Wind, NE, SE, SW, NW, N, E, S, W, In, step}
 use Rattle.mesh.specs.State.{Entry, placeOf, entry, number, numberOf}
 use Rattle.mesh.specs.Request.{wanted}
 use Rattle.mesh.proofs.Winds.{rule}
 use Rattle.place_laws.proofs.Bools.{bool-ext}
 use Rattle.place_laws.proofs.Lists.{any-at}
 use Rattle.place_laws.proofs.Places.{mapped, same-refl}
+use Rattle.place_laws.proofs.Steps.{north-depth, east-depth, step-north, step-east}
 use Rattle.place_laws.proofs.Kids.{parent-in, parent-depth, some-kid}
 use Rattle.place_laws.proofs.SideDigits.{kidBy, kid-by-parent, step-depth}
 use Rattle.place_laws.proofs.Wanted.{each-in}
@@ -126,36 +127,38 @@ module _ {g : Grid} {cap : ℕ} {es : List Entry} (r : Rooted g cap es) (f : Fla
     own-row : n ≡ numberOf es (some p)
     own-row = sym (place-number es (r .numbered) n p h)
 
-    own-depth : (o : Place) → some p ≡ some o → o .depth ≡ p .depth
-    own-depth o e = ap (λ (z : Place). z .depth) (sym (Option·some-injective _ _ e))
+    as-deep : (q : Place) → q .depth ≡ p .depth → (o : Place) → some q ≡ some o → o .depth ≡ p .depth
+    as-deep q d o e = ap (λ (z : Place). z .depth) (sym (Option·some-injective _ _ e)) ∙ d
 
     pub kids-named : AllNamed es (p .depth) (kidSpots (tableWith g es f) cap n) (map some (kidsInTurn p))
     kids-named =
-        let by : (w : Wind) → Names es (p .depth) (spot n (compass w .east / 2) (compass w .north / 2)) (some (kid w p)) = λ w. by-wind (p .depth) n w (some p) own-row own-depth in
+        let by : (w : Wind) → Names es (p .depth) (spot n (compass w .east / 2) (compass w .north / 2)) (some (kid w p)) = λ w. by-wind (p .depth) n w (some p) own-row (as-deep p refl) in
         one-more (by SW) (one-more (by SE) (one-more (by NW) (one-more (by NE) no-more)))
 
     -- the patch east has to stand, for the one north of it to be found
     pub wanted-named : number es (toEast g p) ≢ 0 → AllNamed es (p .depth) (wantedSpots (tableWith g es f) cap n) (map some (wanted g p))
-    unfolding wantedSpots wanted step
+    unfolding wantedSpots wanted
     wanted-named z =
         let t = tableWith g es f in
+        let m = toNorth g p in
         let q = toEast g p in
-        let dn : (o : Place) → step g N p ≡ some o → o .depth ≡ p .depth = step-depth g N tt p in
-        let de : (o : Place) → step g E p ≡ some o → o .depth ≡ p .depth = step-depth g E tt p in
-        let north : linkOf t cap n 5 ≡ numberOf es (step g N p) = link-side r f n p h N tt in
-        let east : linkOf t cap n 6 ≡ numberOf es (step g E p) = link-side r f n p h E tt in
-        let both : linkOf t cap (linkOf t cap n 6) 5 ≡ numberOf es (step g N q) = ap (λ (k : ℕ). linkOf t cap k 5) east ∙ link-side r f (number es q) q (number-place es q z) N tt in
-        let db : (o : Place) → step g N q ≡ some o → o .depth ≡ p .depth = λ o e. step-depth g N tt q o e ∙ de q refl in
+        let b = toNorth g q in
+        let dn = as-deep m (north-depth g p) in
+        let de = as-deep q (east-depth g p) in
+        let db = as-deep b (north-depth g q ∙ east-depth g p) in
+        let north : linkOf t cap n 5 ≡ numberOf es (some m) = link-side r f n p h N tt ∙ ap (numberOf es) (step-north g p) in
+        let east : linkOf t cap n 6 ≡ numberOf es (some q) = link-side r f n p h E tt ∙ ap (numberOf es) (step-east g p) in
+        let both : linkOf t cap (linkOf t cap n 6) 5 ≡ numberOf es (some b) = ap (λ (k : ℕ). linkOf t cap k 5) east ∙ link-side r f (number es q) q (number-place es q z) N tt ∙ ap (numberOf es) (step-north g q) in
         named-append kids-named
-        (one-more (by-wind (p .depth) (linkOf t cap n 5) SW (step g N p) north dn)
-        (one-more (by-wind (p .depth) (linkOf t cap n 5) SE (step g N p) north dn)
-        (one-more (by-wind (p .depth) (linkOf t cap n 6) NW (step g E p) east de)
-        (one-more (by-wind (p .depth) (linkOf t cap n 6) SW (step g E p) east de)
-        (one-more (by-wind (p .depth) (linkOf t cap (linkOf t cap n 6) 5) SW (step g N q) both db) no-more)))))
+        (one-more (by-wind (p .depth) (linkOf t cap n 5) SW (some m) north dn)
+        (one-more (by-wind (p .depth) (linkOf t cap n 5) SE (some m) north dn)
+        (one-more (by-wind (p .depth) (linkOf t cap n 6) NW (some q) east de)
+        (one-more (by-wind (p .depth) (linkOf t cap n 6) SW (some q) east de)
+        (one-more (by-wind (p .depth) (linkOf t cap (linkOf t cap n 6) 5) SW (some b) both db) no-more)))))
 
     -- one step south or west of a kid, outside p
-    pub outside-named : base g ≤ p .depth → AllNamed es (p .depth) (outsideSpots (tableWith g es f) cap n) (toSouth g (kid SW p) ∷ toSouth g (kid SE p) ∷ toWest g (kid SW p) ∷ toWest g (kid NW p) ∷ [])
-    unfolding outsideSpots step
+    pub outside-named : base g ≤ p .depth → AllNamed es (p .depth) (outsideSpots (tableWith g es f) cap n) (step g S (kid SW p) ∷ step g S (kid SE p) ∷ step g W (kid SW p) ∷ step g W (kid NW p) ∷ [])
+    unfolding outsideSpots
     outside-named low =
         let t = tableWith g es f in
         let south : linkOf t cap n 7 ≡ numberOf es (step g S p) = link-side r f n p h S tt in

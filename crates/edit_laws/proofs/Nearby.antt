@@ -12,7 +12,7 @@ use mathlib.Core.List.{List, [], _∷_, _++_, map}
 use lib.Dec.{T}
 use Rattle.edit_laws.specs.Growing.{Rooted}
 use Rattle.mesh.specs.Tools.{any, digits, orElse}
-use Rattle.mesh.specs.Place.{Place, Grid, SE, SW, NW, base, same, kid, parent, toNorth, toEast, toSouth, toWest, In}
+use Rattle.mesh.specs.Place.{Place, Grid, SE, SW, NW, base, same, kid, parent, toNorth, toEast, In, step, S, W}
 use Rattle.mesh.specs.Mesh.{Mesh, touched, flags}
 use Rattle.mesh.specs.State.{Entry, placeOf, stands, entry, cells, number}
 use Rattle.mesh.specs.Request.{wanted}
@@ -36,7 +36,7 @@ use Rattle.edit_laws.proofs.Starting.{markOf}
 
 -- the four places beside the kids, as far as they are there
 abbrev pub besides : Grid → Place → List (Option Place)
-besides g p = toSouth g (kid SW p) ∷ toSouth g (kid SE p) ∷ toWest g (kid SW p) ∷ toWest g (kid NW p) ∷ []
+besides g p = step g S (kid SW p) ∷ step g S (kid SE p) ∷ step g W (kid SW p) ∷ step g W (kid NW p) ∷ []
 
 fringe-among : (g : Grid) (p q : Place) → Fringe g p q → T (among q (besides g p))
 fringe-among g p q k = go k
@@ -48,22 +48,22 @@ fringe-among g p q k = go k
     at o = orElse false (same q) o
 
     a : Bool
-    a = at (toSouth g (kid SW p))
+    a = at (step g S (kid SW p))
 
     b : Bool
-    b = at (toSouth g (kid SE p))
+    b = at (step g S (kid SE p))
 
     c : Bool
-    c = at (toWest g (kid SW p))
+    c = at (step g W (kid SW p))
 
     d : Bool
-    d = at (toWest g (kid NW p))
+    d = at (step g W (kid NW p))
 
     go : Fringe g p q → T (a || (b || (c || (d || false))))
-    go (south-of-sw e) = or-left a (b || (c || (d || false))) (is (toSouth g (kid SW p)) e)
-    go (south-of-se e) = or-right a (b || (c || (d || false))) (or-left b (c || (d || false)) (is (toSouth g (kid SE p)) e))
-    go (west-of-sw e) = or-right a (b || (c || (d || false))) (or-right b (c || (d || false)) (or-left c (d || false) (is (toWest g (kid SW p)) e)))
-    go (west-of-nw e) = or-right a (b || (c || (d || false))) (or-right b (c || (d || false)) (or-right c (d || false) (or-left d false (is (toWest g (kid NW p)) e))))
+    go (south-of-sw e) = or-left a (b || (c || (d || false))) (is (step g S (kid SW p)) e)
+    go (south-of-se e) = or-right a (b || (c || (d || false))) (or-left b (c || (d || false)) (is (step g S (kid SE p)) e))
+    go (west-of-sw e) = or-right a (b || (c || (d || false))) (or-right b (c || (d || false)) (or-left c (d || false) (is (step g W (kid SW p)) e)))
+    go (west-of-nw e) = or-right a (b || (c || (d || false))) (or-right b (c || (d || false)) (or-right c (d || false) (or-left d false (is (step g W (kid NW p)) e))))
 
 fringe-depth : (g : Grid) (p q : Place) → Fringe g p q → q .depth ≡ suc (p .depth)
 fringe-depth g p q k = go (fringe-beside g p q k)

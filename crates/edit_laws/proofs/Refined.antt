@@ -1,7 +1,7 @@
 -- An accepted refinement on the table: the nine patches are supplied where they are missing, the kids become cells with what they inherit, and
 -- the rows around them are refreshed. What is left is the picture of the refined state.
 -- Assumes nothing.
-use Prim.Native.Nat.{ℕ, _+_, _≤_, _<_}
+use Prim.Native.Nat.{ℕ, _≤_}
 use native.Mathlib.Omega.{arith}
 use mathlib.Core.Path.{_≡_, refl, sym, ap, _∙_, subst}
 use mathlib.Core.Logic.{_≢_}
@@ -13,11 +13,12 @@ use lib.IntN.{ℤ}
 use Rattle.number_laws.specs.Numbered.{Numbered}
 use Rattle.mesh.specs.Tools.{any, orElse}
 use Rattle.mesh.specs.Place.{Place, Grid, base, same, kids, parent, toEast, In}
-use Rattle.mesh.specs.State.{State, Entry, Cell, Value, blank, measured, carried, status, isFree, valueOf, placeOf, stands, entry, cells, number, freeCount, gridOf, capacity, withEntries, contents}
+use Rattle.mesh.specs.State.{State, Entry, Cell, Value, blank, measured, carried, status, valueOf, placeOf, stands, entry, cells, number, gridOf, capacity, withEntries, contents}
 use Rattle.mesh.specs.Valid.{Valid}
 use Rattle.mesh.specs.Picture.{table}
 use Rattle.mesh.specs.Refusal.{refusal}
-use Rattle.mesh.specs.Request.{refine, wanted, missing, looseChecks, give, fill, inherited, kidCell, effect}
+use Rattle.mesh.specs.Carrying.{inherited, kidCell}
+use Rattle.mesh.specs.Request.{refine, wanted, looseChecks, give, fill, effect}
 use Rattle.place_laws.proofs.Bools.{no-is}
 use Rattle.place_laws.proofs.Kids.{parent-depth, up, up-is, in-parent}
 use Rattle.place_laws.proofs.Near.{Corner, c-east, corner-up}
@@ -26,21 +27,22 @@ use Rattle.place_laws.proofs.Base.{lap-many}
 use Rattle.place_laws.proofs.Wanted.{wanted-corner, wanted-distinct, kid-wanted}
 use Rattle.place_laws.proofs.Frames.{grown-else}
 use Rattle.number_laws.proofs.NumberedPlaces.{valid-numbered, numbered-not-zero}
-use Rattle.number_laws.proofs.Filling.{filled-free, fill-entry, fill-place, fill-number}
-use Rattle.number_laws.proofs.Giving.{next-free, Gave, kept-place, kept-number}
-use Rattle.number_laws.proofs.Refining.{Refinable, refinable, have, here, kids-there, after-numbered, after-contents, after-cells, after-valid, effect-is, refine-takes}
-use Rattle.table.specs.Words.{wordOf}
+use Rattle.number_laws.proofs.Filling.{fill-place, fill-number}
+use Rattle.number_laws.proofs.Giving.{Gave, kept-place, kept-number}
+use Rattle.number_laws.proofs.Refining.{Refinable, refinable, have, here, kids-there, after-numbered, after-contents, after-cells, after-valid, effect-is}
+use Rattle.table.specs.Words.{wordOf, freeAt}
 use Rattle.table_laws.proofs.LinkedRows.{corner-numbered}
 use Rattle.edit_laws.specs.Linked.{Flags, tableWith, flagsOf}
-use Rattle.edit_laws.specs.Tables.{Lending, kidSpots, wantedSpots, refreshNear, putCells, suppliedAll, kidStatus, refineTable}
+use Rattle.edit_laws.specs.Tables.{kidSpots, wantedSpots, putCells, suppliedNear, kidStatus, refineTable}
 use Rattle.edit_laws.proofs.Linked.{status-of, picture-linked}
 use Rattle.edit_laws.proofs.Rooted.{valid-rooted}
 use Rattle.edit_laws.proofs.Setting.{fill-rooted}
 use Rattle.edit_laws.proofs.FlagsAnew.{bit}
 use Rattle.edit_laws.proofs.Named.{AllNamed, kidsInTurn, kids-turn, kids-named, wanted-named}
 use Rattle.edit_laws.proofs.Celling.{withAll, fill-same, put-cells}
-use Rattle.edit_laws.proofs.Supplying.{next-from, Lends, give-lends}
-use Rattle.edit_laws.proofs.Starting.{startFlags, start-stands, start-blank, start-alive, start-complete, start-sentenced, picture-start}
+use Rattle.edit_laws.proofs.FreeNumbers.{free-at, fill-frees}
+use Rattle.edit_laws.proofs.Supplying.{Shows, give-shows}
+use Rattle.edit_laws.proofs.Starting.{startFlags, start-stands, start-blank, start-alive, start-complete, start-sentenced, picture-start, free-numbers}
 use Rattle.edit_laws.proofs.Nearby.{Nearly, refresh-near}
 
 -- "kids of a blank cell are blank, otherwise carried"
@@ -141,66 +143,45 @@ module _ (s : State) (v : Valid s) (n : ℕ) (p : Place) (x : Cell) (r : Refinab
 
   -- ---- the new patches
 
-  module _ (l : ℕ) (positive : 1 ≤ l) (none-below : (k : ℕ) → k < l → isFree (entry es k) ≡ false) (some-free : 0 < freeCount es) where
-    abbrev lending : Lending
-    lending = record { words = table s; low = l }
+  supplied-table : Shows g cap f given (suppliedNear (table s) cap (base g) n)
+  supplied-table =
+      let names : AllNamed es (p .depth) (wantedSpots (table s) cap n) (map some (wanted g p)) = rw (picture-start s u) (wanted-named (valid-rooted v) f n p own (corner-numbered s v (here s v n p x r) c-east)) in
+      give-shows (start-alive g es) (r .low) low (wanted g p) (record { rooted = valid-rooted v; is-table = picture-start s u; blank = start-blank g es }) names above-stands (wanted-distinct g p (lap-many g (v .rectangle) (p .depth))) (r .room)
 
-    start : Lends g cap f s lending
-    start = let next = next-free s (u .zeroth) some-free in record {
-      rooted = valid-rooted v;
-      is-table = picture-start s u;
-      blank = start-blank g es;
-      none-below = none-below;
-      low-from = positive;
-      low-to = omega (arith, next .inside, next-from s l next none-below);
-    }
+  -- ---- the kids are cells
 
-    abbrev supply : Lending
-    supply = suppliedAll cap (base g) (wantedSpots (table s) cap n) lending
+  abbrev celled : List ℤ
+  celled = putCells (kidSpots (table s) cap n) (suppliedNear (table s) cap (base g) n) cap 1 (kidStatus (wordOf (table s) n 13))
 
-    supplied-table : Lends g cap f given supply
-    supplied-table =
-        let names : AllNamed es (p .depth) (wantedSpots (table s) cap n) (map some (wanted g p)) = rw (picture-start s u) (wanted-named (valid-rooted v) f n p own (corner-numbered s v (here s v n p x r) c-east)) in
-        give-lends (start-alive g es) (r .low) low (wanted g p) start names above-stands (wanted-distinct g p (lap-many g (v .rectangle) (p .depth))) (r .room)
+  cell-table : celled ≡ tableWith g after flagsThen
+  cell-table =
+      rw (supplied-table .is-table, status-is)
+      (put-cells (supplied-table .rooted) f 1 (some (kidCell x)) (kidsInTurn p) (kids-named (supplied-table .rooted) f n p given-own) kids-stand
+      ∙ ap (λ (ds : List Entry). tableWith g ds flagsThen) (fill-same (kidsInTurn p) (kids p) (some (kidCell x)) (given .entries) (kids-turn p)))
 
-    -- ---- the kids are cells
+  -- ---- the flags around them
 
-    abbrev celled : List ℤ
-    celled = putCells (kidSpots (table s) cap n) (supply .words) cap 1 (kidStatus (wordOf (table s) n 13))
+  refined : refineTable (table s) cap (base g) n ≡ table (withEntries s after)
+  unfolding refineTable
+  refined =
+      rw cell-table
+      (refresh-near nearly (fill-rooted (kids p) (some (kidCell x)) (supplied-table .rooted)) n after-own east-stands
+      ∙ sym (picture-linked (withEntries s after) (after-numbered s v n p x r)))
 
-    cell-table : celled ≡ tableWith g after flagsThen
-    cell-table =
-        rw (supplied-table .is-table, status-is)
-        (put-cells (supplied-table .rooted) f 1 (some (kidCell x)) (kidsInTurn p) (kids-named (supplied-table .rooted) f n p given-own) kids-stand
-        ∙ ap (λ (ds : List Entry). tableWith g ds flagsThen) (fill-same (kidsInTurn p) (kids p) (some (kidCell x)) (given .entries) (kids-turn p)))
+  -- ---- the free numbers are those left by the new patches
 
-    -- ---- the flags around them
-
-    refined-words : refreshNear celled cap (base g) n ≡ table (withEntries s after)
-    refined-words =
-        rw cell-table
-        (refresh-near nearly (fill-rooted (kids p) (some (kidCell x)) (supplied-table .rooted)) n after-own east-stands
-        ∙ sym (picture-linked (withEntries s after) (after-numbered s v n p x r)))
-
-    -- ---- free numbers
-
-    none-free : (k : ℕ) → k < supply .low → isFree (entry after k) ≡ false
-    none-free k h = ap isFree (fill-entry (kids p) (some (kidCell x)) (given .entries) k) ∙ filled-free (kids p) (some (kidCell x)) (entry (given .entries) k) ∙ supplied-table .none-below k h
-
-    refined : let t = refineTable cap (base g) n lending in
-        (t .words ≡ table (withEntries s after)) × ((k : ℕ) → k < t .low → isFree (entry after k) ≡ false) × (1 ≤ t .low) × (t .low ≤ cap + 1)
-    unfolding refineTable
-    refined = (refined-words, none-free, supplied-table .low-from, supplied-table .low-to)
+  free-left : freeAt (suppliedNear (table s) cap (base g) n) ≡ freeAt (table (withEntries s after))
+  free-left =
+      ap freeAt (supplied-table .is-table)
+      ∙ free-at g (given .entries) f (start-alive g es)
+      ∙ sym (free-numbers (withEntries s after) (after-numbered s v n p x r) ∙ fill-frees (kids p) (some (kidCell x)) (given .entries))
 
 -- ---- an accepted refinement
 
 module _ (s : State) (v : Valid s) (n : ℕ) (ok : refusal (looseChecks s (refine n)) ≡ 0) where
-  -- with a number below which none is free, and at the end with another one
-  pub refine-table : (low : ℕ) → 1 ≤ low → ((k : ℕ) → k < low → isFree (entry (s .entries) k) ≡ false)
-      → let t = refineTable (capacity s) (base (gridOf s)) n (record { words = table s; low = low }) in
-      (t .words ≡ table (effect s (refine n))) × ((k : ℕ) → k < t .low → isFree (entry (effect s (refine n) .entries) k) ≡ false) × (1 ≤ t .low) × (t .low ≤ capacity s + 1)
-  unfolding missing
-  refine-table low positive none-below =
-      let (p, x, r) = refinable s v n ok in
-      let some-free : 0 < freeCount (s .entries) = omega (arith, r .room, rw (r .stood) at (refine-takes s v n ok .0)) in
-      rw (effect-is s v n p x r) (refined s v n p x r low positive none-below some-free)
+  pub refine-table : refineTable (table s) (capacity s) (base (gridOf s)) n ≡ table (effect s (refine n))
+  refine-table = let (p, x, r) = refinable s v n ok in rw (effect-is s v n p x r) (refined s v n p x r)
+
+  -- the free numbers are those that the new patches leave
+  pub refine-free : freeAt (suppliedNear (table s) (capacity s) (base (gridOf s)) n) ≡ freeAt (table (effect s (refine n)))
+  refine-free = let (p, x, r) = refinable s v n ok in rw (effect-is s v n p x r) (free-left s v n p x r)

@@ -17,7 +17,8 @@ use Rattle.mesh.specs.State.{State, Entry, nil, free, used, Cell, Value, blank,
 use Rattle.mesh.specs.Valid.{Valid}
 use Rattle.mesh.specs.Picture.{table, amounts}
 use Rattle.mesh.specs.Refusal.{refusal}
-use Rattle.mesh.specs.Request.{refine, wanted, looseChecks, give, filled, fill, inherited, kidCell, effect}
+use Rattle.mesh.specs.Carrying.{inherited, kidCell}
+use Rattle.mesh.specs.Request.{refine, wanted, looseChecks, give, filled, fill, effect}
 use Rattle.place_laws.proofs.Bools.{is-yes, no-is}
 use Rattle.place_laws.proofs.Kids.{in-parent, parent-depth}
 use Rattle.number_laws.proofs.NumberedPlaces.{valid-numbered, entry-contents, cells-contents}

@@ -25,6 +25,7 @@ use Rattle.place_laws.proofs.Kids.{in-parent, parent-depth, leaf-cell}
 use Rattle.place_laws.proofs.Near.{c-east, corner-depth}
 use Rattle.place_laws.proofs.Tree.{cell-patch}
 use Rattle.place_laws.proofs.Wanted.{corner-wanted, kid-wanted}
+use Rattle.table.specs.Words.{freeAt}
 use Rattle.number_laws.proofs.Entries.{stands-in}
 use Rattle.number_laws.proofs.NumberedPlaces.{numbered-not-zero}
 use Rattle.number_laws.proofs.Filling.{fill-place, fill-number, fill-stands}
@@ -34,14 +35,15 @@ use Rattle.number_laws.proofs.Naming.{Named}
 use Rattle.number_laws.proofs.Taking.{remove-passed, remove-kept}
 use Rattle.table_laws.proofs.LinkedRows.{touched-stands, corner-numbered}
 use Rattle.edit_laws.specs.Linked.{Flags, tableWith}
-use Rattle.edit_laws.specs.Tables.{kidSpots, wantedSpots, putCells, dropAt, refreshNear, putValues, removeTable, removeValues}
+use Rattle.edit_laws.specs.Tables.{kidSpots, wantedSpots, emptied, dropUntouched, eachAt, droppedNear, refreshNear, putValues, removeTable, removeValues}
 use Rattle.edit_laws.proofs.Linked.{picture-linked}
 use Rattle.edit_laws.proofs.Rooted.{valid-rooted}
 use Rattle.edit_laws.proofs.Setting.{fill-rooted}
 use Rattle.edit_laws.proofs.Named.{kidsInTurn, kids-turn, kids-named, wanted-named}
 use Rattle.edit_laws.proofs.PassingRows.{among-all}
-use Rattle.edit_laws.proofs.Celling.{withAll, fill-same, put-cells, put-values, valuesOf}
-use Rattle.edit_laws.proofs.Starting.{startFlags, picture-start}
+use Rattle.edit_laws.proofs.Celling.{withAll, all-alive, fill-same, put-cells, put-values, valuesOf}
+use Rattle.edit_laws.proofs.Starting.{startFlags, start-alive, picture-start, free-numbers}
+use Rattle.edit_laws.proofs.FreeNumbers.{free-at, fill-frees}
 use Rattle.edit_laws.proofs.Emptied.{emptied-complete, emptied-sentenced, emptied-away}
 use Rattle.edit_laws.proofs.Nearby.{Nearly, ready, refresh-near}
 use Rattle.edit_laws.proofs.Thinning.{thinned-nothing, thinned-place, thinned-prune}
@@ -133,9 +135,9 @@ module _ (s : State) (v : Valid s) (n : ℕ) (h : refusal (looseChecks s (remove
   there₁ : placeOf (entry between n) ≡ some p
   there₁ = fill-place (kids p) none es n ∙ there
 
-  without-cells : putCells (kidSpots (table s) cap n) (table s) cap 0 0 ≡ tableWith g between f₁
+  without-cells : emptied (table s) cap n ≡ tableWith g between f₁
   without-cells =
-      ap (λ (t : List ℤ). putCells (kidSpots t cap n) t cap 0 0) (picture-start s (r .numbered))
+      ap (λ (t : List ℤ). emptied t cap n) (picture-start s (r .numbered))
       ∙ put-cells r f₀ 0 none (kidsInTurn p) (kids-named r f₀ n p there) kids-there
       ∙ ap (λ (ds : List Entry). tableWith g ds f₁) (fill-same (kidsInTurn p) (kids p) none es (kids-turn p))
 
@@ -144,7 +146,7 @@ module _ (s : State) (v : Valid s) (n : ℕ) (h : refusal (looseChecks s (remove
 
   -- ---- the patches that no cell touches go
 
-  dropped : Dropped g cap (cells between) f₁ (p .depth) between between (dropAt (wantedSpots (tableWith g between f₁) cap n) (tableWith g between f₁) cap (base g)) (map some (wanted g p))
+  dropped : Dropped g cap (cells between) f₁ (p .depth) between between (eachAt (dropUntouched cap) cap (wantedSpots (tableWith g between f₁) cap n) (tableWith g between f₁)) (map some (wanted g p))
   dropped =
       dropped-all cap (omega (arith, low)) (ready near₁)
       (λ q d out m z e k. untouched-kidless g c (cells between) (kids p) (mid .left) (v .mesh) leaves q z (omega (arith, low)) out k (mid .was-patch m z e))
@@ -170,6 +172,12 @@ module _ (s : State) (v : Valid s) (n : ℕ) (h : refusal (looseChecks s (remove
   left-is : dropped .rest .left ≡ after
   left-is = thinned-prune (dropped .rest .less .thinned) left-patch
 
+  without-patches : droppedNear (table s) cap n ≡ tableWith g after f₁
+  without-patches =
+      ap (λ (t : List ℤ). eachAt (dropUntouched cap) cap (wantedSpots t cap n) t) without-cells
+      ∙ dropped .rest .is-table
+      ∙ ap (λ (ds : List Entry). tableWith g ds f₁) left-is
+
   -- ---- and the flags are worked out anew
 
   r₂ : Rooted g cap after
@@ -187,10 +195,18 @@ module _ (s : State) (v : Valid s) (n : ℕ) (h : refusal (looseChecks s (remove
   pub remove-table : removeTable (table s) (capacity s) (base (gridOf s)) n ≡ table (effect s (remove n))
   unfolding removeTable effect
   remove-table =
-      ap (λ (t : List ℤ). let u = dropAt (wantedSpots t cap n) t cap (base g) in refreshNear u cap (base g) n) without-cells
-      ∙ ap (λ (u : List ℤ). refreshNear u cap (base g) n) (dropped .rest .is-table ∙ ap (λ (ds : List Entry). tableWith g ds f₁) left-is)
+      ap (λ (u : List ℤ). refreshNear u cap (base g) n) without-patches
       ∙ refresh-near near₂ r₂ n there₂ (corner-numbered (withEntries s after) (kept .valid) p-cell c-east)
       ∙ sym (picture-linked (withEntries s after) (r₂ .numbered))
+
+  -- ---- the free numbers: kids that lose their cells are not free, and flags free none
+
+  pub emptied-free : freeAt (emptied (table s) (capacity s) n) ≡ freeAt (table s)
+  emptied-free = ap freeAt without-cells ∙ free-at g between f₁ (all-alive (kidsInTurn p) (start-alive g es)) ∙ fill-frees (kids p) none es ∙ sym (free-numbers s (r .numbered))
+
+  pub dropped-free : freeAt (droppedNear (table s) (capacity s) n) ≡ freeAt (table (effect s (remove n)))
+  unfolding effect
+  dropped-free = ap freeAt without-patches ∙ free-at g after f₁ (all-alive (kidsInTurn p) (start-alive g es)) ∙ sym (free-numbers (withEntries s after) (r₂ .numbered))
 
   pub remove-values : removeValues (table s) (capacity s) n (amounts s) ≡ amounts (effect s (remove n))
   unfolding removeValues effect amounts

@@ -7,19 +7,20 @@ use native.Mathlib.Decide.{decLt, ℕ-discrete}
 use mathlib.Core.Path.{_≡_, refl, sym, ap, _∙_, subst}
 use mathlib.Core.Logic.{_≢_, _⊎_, inl, inr}
 use mathlib.Core.Bool.{Bool, true, false, cond}
-use mathlib.Core.Option.{Option, none, some, Option·map}
+use mathlib.Core.Option.{Option, none, some}
 use mathlib.Core.List.{List, [], _∷_, _++_}
 use lib.Dec.{eqb}
 use lib.IntN.{ℤ, pos}
 use lib.ListN.{length, getD}
 use borrow.Author.Tests.{eq-eqb, ne-eqb}
 use Rattle.edit_laws.specs.Growing.{Rooted, InTurn}
-use Rattle.mesh.specs.Place.{Place, Grid, at, root, base, level, lap, jBefore, isRing, toNorth, toEast, toSouth, toWest, step, around, N, S, In}
+use Rattle.mesh.specs.Place.{Place, Grid, at, root, base, level, lap, isRing, then, step, around, N, E, S, W, In}
 use Rattle.mesh.specs.Seam.{opened}
 use Rattle.mesh.specs.State.{Entry, nil, free, used, placeOf, entry, number, numberOf}
 use Rattle.mesh.specs.Picture.{rowWords}
-use Rattle.place_laws.proofs.Laps.{Below, lap-ghost, lap-base, lap-open, after-on, after-anew, before-on, before-anew}
-use Rattle.place_laws.proofs.Places.{in-cases, in-here, in-there}
+use Rattle.place_laws.proofs.Steps.{lap-ghost, lap-open, north-on, north-anew, south-on, south-anew, south-end, east-on, west-on, west-end, step-north, step-east}
+use Rattle.place_laws.proofs.Laps.{Below, lap-base}
+use Rattle.place_laws.proofs.Places.{place-path, in-cases, in-here, in-there}
 use Rattle.number_laws.proofs.Entries.{in-list}
 use Rattle.number_laws.proofs.NumberedPlaces.{place-number, off-root}
 use Rattle.table.specs.Words.{code, wordOf, linkOf}
@@ -37,17 +38,33 @@ use Rattle.edit_laws.proofs.Named.{kid-link}
 
 module _ (g : Grid) where
   same-north : (p : Place) → suc (p .j) ≢ lap g (p .depth) → step g N p ≡ step (opened g) N p
-  unfolding step toNorth
-  same-north p h = rw (after-on (lap g (p .depth)) (p .j) h, lap-open (opened g) (p .depth) refl, after-on 0 (p .j) (λ e. omega arith))
+  same-north p h =
+      rw (step-north g p, step-north (opened g) p)
+      (ap some (north-on g (p .depth) (p .i) (p .j) h ∙ sym (north-on (opened g) (p .depth) (p .i) (p .j) (λ e. omega (arith, lap-open (opened g) (p .depth) refl)))))
 
   same-south : (p : Place) → (lap g (p .depth) ≡ 0) ⊎ ((0 < p .j) × (p .j ≢ lap g (p .depth))) → step g S p ≡ step (opened g) S p
-  unfolding step toSouth
-  same-south p h = ap (Option·map (λ j. at (p .depth) (p .i) j)) (go h (p .j) refl ∙ sym (ap (λ (n : ℕ). jBefore n (p .j)) (lap-open (opened g) (p .depth) refl)))
+  same-south p h = go (p .depth) (p .i) (p .j) h
     where
-      go : (lap g (p .depth) ≡ 0) ⊎ ((0 < p .j) × (p .j ≢ lap g (p .depth))) → (j : ℕ) → p .j ≡ j → jBefore (lap g (p .depth)) (p .j) ≡ jBefore 0 (p .j)
-      go (inl z) j e = rw z
-      go (inr (l, h)) zero e = absurd (omega arith)
-      go (inr (l, h)) (suc j) e = rw (e, before-on (lap g (p .depth)) j (λ k. h (e ∙ k)), before-on 0 j (λ k. omega arith))
+      go : (d i j : ℕ) → (lap g d ≡ 0) ⊎ ((0 < j) × (j ≢ lap g d)) → step g S (at d i j) ≡ step (opened g) S (at d i j)
+      go d i zero (inl z) = south-end g d i 0 (sym z) ∙ sym (south-end (opened g) d i 0 (sym (lap-open (opened g) d refl)))
+      go d i zero (inr (l, h)) = absurd (omega arith)
+      go d i (suc j) h = south-on g d i j (on h) ∙ sym (south-on (opened g) d i j (λ k. omega (arith, lap-open (opened g) d refl)))
+        where
+          on : (lap g d ≡ 0) ⊎ ((0 < suc j) × (suc j ≢ lap g d)) → suc j ≢ lap g d
+          on (inl z) k = omega arith
+          on (inr (l, h)) k = h k
+
+  same-east : (o : Option Place) → then (step (opened g) E) o ≡ then (step g E) o
+  same-east none = refl
+  same-east (some p) = rw (step-east g p, step-east (opened g) p) (ap some (east-on (opened g) (p .depth) (p .i) (p .j) ∙ sym (east-on g (p .depth) (p .i) (p .j))))
+
+  same-west : (o : Option Place) → then (step (opened g) W) o ≡ then (step g W) o
+  same-west none = refl
+  same-west (some p) = go (p .depth) (p .i) (p .j)
+    where
+      go : (d i j : ℕ) → step (opened g) W (at d i j) ≡ step g W (at d i j)
+      go d zero j = west-end (opened g) d 0 j ∙ sym (west-end g d 0 j)
+      go d (suc i) j = west-on (opened g) d i j ∙ sym (west-on g d i j)
 
 -- ---- the words that differ
 
@@ -138,16 +155,16 @@ module _ {g : Grid} {cap : ℕ} {es : List Entry} (r : Rooted g cap es) (f : Fla
         go (no l) = floored (on-floor n p h (omega (arith, l))) (below n p h) (ℕ-discrete (p .j) 0)
 
     link-differs : (w n : ℕ) → w < 9 → Differs n w
-    unfolding around step toEast toWest
+    unfolding around
     link-differs zero n l = link-same n 0 l refl
     link-differs (suc zero) n l = link-same n 1 l refl
     link-differs (suc (suc zero)) n l = link-same n 2 l refl
     link-differs (suc (suc (suc zero))) n l = link-same n 3 l refl
     link-differs (suc (suc (suc (suc zero)))) n l = link-same n 4 l refl
     link-differs (suc (suc (suc (suc (suc zero))))) n l = north-differs n (placeOf (entry es n)) refl
-    link-differs (suc (suc (suc (suc (suc (suc zero)))))) n l = link-same n 6 l refl
+    link-differs (suc (suc (suc (suc (suc (suc zero)))))) n l = link-same n 6 l (same-east g (placeOf (entry es n)))
     link-differs (suc (suc (suc (suc (suc (suc (suc zero))))))) n l = south-differs n (placeOf (entry es n)) refl
-    link-differs (suc (suc (suc (suc (suc (suc (suc (suc zero)))))))) n l = link-same n 8 l refl
+    link-differs (suc (suc (suc (suc (suc (suc (suc (suc zero)))))))) n l = link-same n 8 l (same-west g (placeOf (entry es n)))
     link-differs (suc (suc (suc (suc (suc (suc (suc (suc (suc w))))))))) n l = absurd (omega arith)
 
     same-fields : (e : Entry) → fieldsWith (opened g) f e ≡ fieldsWith g f e
@@ -205,12 +222,12 @@ module _ {g : Grid} {cap : ℕ} {es : List Entry} (r : Rooted g cap es) (f : Fla
       across w j l e = word-link g es f a w l ∙ ap (λ (o : Option Place). pos (numberOf es (getD (around g o) w none))) here ∙ ap (λ (o : Option Place). pos (numberOf es o)) e ∙ ap pos (sym (found j))
 
       north : q .j ≡ g .rows - 1 → getD (around g (some q)) 5 none ≡ some (at (base g) (q .i) 0)
-      unfolding around step toNorth
-      north e = rw (deep, lap-base g ring, after-anew (g .rows) (q .j) (omega arith))
+      unfolding around
+      north e = rw (← deep) (step-north g q ∙ ap some (north-anew g (q .depth) (q .i) (q .j) (omega (arith, ap (lap g) deep, lap-base g ring))))
 
       south : q .j ≡ 0 → getD (around g (some q)) 7 none ≡ some (at (base g) (q .i) (g .rows - 1))
-      unfolding around step toSouth
-      south e = rw (deep, lap-base g ring, e, before-anew (g .rows) (g .rows - 1) (omega arith))
+      unfolding around
+      south e = ap (step g S) (place-path q (at (base g) (q .i) 0) deep refl e) ∙ south-anew g (base g) (q .i) (g .rows - 1) (omega (arith, lap-base g ring))
 
       seam-row : Off (seamRow g cap (base g) t a) sewn (slotsFrom (a + 1) qs)
       seam-row = rw (col-is, row-is) (go (ℕ-discrete (q .j) (g .rows - 1)) off)

@@ -23,7 +23,7 @@ use Rattle.place_laws.proofs.Bools.{cond-same}
 use Rattle.number_laws.proofs.NumberedPlaces.{number-place, numbered-not-zero, beside-root}
 use Rattle.picture_laws.proofs.Links.{around-parent, around-side}
 use Rattle.table.specs.Words.{code, wordOf, linkOf}
-use Rattle.table.specs.Worked.{kidWord, sideOf}
+use Rattle.table.specs.Worked.{kidWord, sideBy, sideOf}
 use Rattle.table.proofs.Offsets.{kid-word-range}
 use Rattle.edit_laws.specs.Linked.{Flags, tableWith}
 use Rattle.edit_laws.proofs.Slots.{word}
@@ -124,7 +124,7 @@ module _ {g : Grid} {cap : ℕ} {es : List Entry} (r : Rooted g cap es) (f : Fla
         go false = refl
 
     pub side-by : sideOf u cap n w ≡ numberOf es (step g w p)
-    unfolding sideOf
+    unfolding sideOf sideBy
     side-by =
         rw (own-up, own-i, own-j, beside (parent p) refl, number-from)
         (kid-link ((iMoved w p + 1) % 2) ((jMoved w p + 1) % 2) (omega arith) (omega arith) from from-apart ∙ from-step)

@@ -15,13 +15,17 @@ use Rattle.number_laws.specs.Numbered.{Numbered}
 use Rattle.mesh.specs.Tools.{digits, orElse, isSome}
 use Rattle.mesh.specs.Place.{Place, Grid}
 use Rattle.mesh.specs.Mesh.{derived, flags}
-use Rattle.mesh.specs.State.{State, Entry, nil, Cell, cellOf, entry, cells, number, gridOf, contents}
+use Rattle.mesh.specs.State.{State, Entry, nil, Cell, cellOf, entry, cells, number, gridOf, withEntries, contents}
 use Rattle.mesh.specs.Picture.{table}
+use Rattle.mesh.specs.Request.{fill}
+use Rattle.number_laws.proofs.Filling.{fill-numbered}
+use Rattle.table.specs.Words.{freeAt}
 use Rattle.number_laws.proofs.NumberedPlaces.{cells-contents, place-number, not-zero}
 use Rattle.table_laws.proofs.Pictured.{digit-at}
 use Rattle.edit_laws.specs.Linked.{Flags, tableWith, flagsOf}
 use Rattle.edit_laws.proofs.Linked.{picture-linked}
 use Rattle.edit_laws.proofs.Setting.{flags-same}
+use Rattle.edit_laws.proofs.FreeNumbers.{freeEntries, free-at, fill-frees}
 use Rattle.edit_laws.proofs.FlagsAnew.{bit, complete-bit, sentenced-bit}
 
 -- a row without the flag Dead is not free
@@ -84,3 +88,13 @@ picture-start s u =
     picture-linked s u
     ∙ flags-same (gridOf s) (s .entries) (flagsOf (gridOf s) (s .entries)) (startFlags (gridOf s) (s .entries))
     (λ n p h. sym (start-stands (gridOf s) (s .entries) p (λ z. not-zero (s .entries) u n p h (sym (place-number (s .entries) u n p h) ∙ z))))
+
+-- ---- the free numbers
+
+-- are those of the free entries
+pub free-numbers : (s : State) → Numbered (s .entries) → freeAt (table s) ≡ freeEntries (s .entries)
+free-numbers s u = ap freeAt (picture-start s u) ∙ free-at (gridOf s) (s .entries) (startFlags (gridOf s) (s .entries)) (start-alive (gridOf s) (s .entries))
+
+-- a cell that changes leaves them as they are
+pub free-kept : (s : State) → Numbered (s .entries) → (ps : List Place) (x : Option Cell) → freeAt (table (withEntries s (fill ps x (s .entries)))) ≡ freeAt (table s)
+free-kept s u ps x = free-numbers (withEntries s (fill ps x (s .entries))) (fill-numbered ps x (s .entries) u) ∙ fill-frees ps x (s .entries) ∙ sym (free-numbers s u)

@@ -13,10 +13,9 @@ use Rattle.mesh.specs.Mesh.{on, touched}
 use Rattle.mesh.specs.State.{Entry, placeOf, entry, numberOf}
 use Rattle.table.specs.Words.{linkOf, flagOf}
 use Rattle.place_laws.proofs.Bools.{or-right}
-use Rattle.place_laws.proofs.SideDigits.{southwest}
+use Rattle.place_laws.proofs.Steps.{southwest}
 use Rattle.place_laws.proofs.Walls.{wallH-cells, wallH-touched}
 use Rattle.edit_laws.specs.Linked.{Flags, tableWith}
-use Rattle.edit_laws.specs.Tables.{touchedRow}
 use Rattle.edit_laws.proofs.FlagsAnew.{Ready, zero-flag, zero-link, link-side, by-place, cell-of, cell-side, beside}
 
 module _ {g : Grid} {cap : ℕ} {es : List Entry} (r : Rooted g cap es) (f : Flags) (c : Place → Bool) (e : ℕ) (low : base g ≤ e) (ready : Ready g es f c e) where
@@ -31,8 +30,8 @@ module _ {g : Grid} {cap : ℕ} {es : List Entry} (r : Rooted g cap es) (f : Fla
       (λ q u. wallH-touched g c q (rw (wallH-cells g c q) (or-right (c q) (on g c (step g S q)) u)))
       (λ n q h d. cell-side r f c e low ready S tt n q h d) q (l q refl)
 
-  pub touched-row : (n : ℕ) (q : Place) → placeOf (entry es n) ≡ some q → q .depth ≡ e → touchedRow t cap (base g) n ≡ touched g c q
-  unfolding touchedRow touchedIn touched
+  pub touched-row : (n : ℕ) (q : Place) → placeOf (entry es n) ≡ some q → q .depth ≡ e → touchedIn t cap n ≡ touched g c q
+  unfolding touchedIn touched
   touched-row n q h d =
       let here : flagOf t 0 n ≡ c q = cell-of r f c e low ready n q h d in
       let west : flagOf t 0 (linkOf t cap n 8) ≡ on g c (step g W q) = cell-side r f c e low ready W tt n q h d in

@@ -12,7 +12,7 @@ use lib.Dec.{T, eqb, eqb→eq}
 use lib.IntN.{ℤ}
 use lib.ListN.{set}
 use borrow.Author.Tests.{ne-eqb, eqb-false}
-use Rattle.table.specs.Worked.{kidless}
+use Rattle.table.specs.Worked.{kidless, touchedIn}
 use Rattle.edit_laws.specs.Growing.{Rooted}
 use Rattle.mesh.specs.Tools.{any, all}
 use Rattle.mesh.specs.Place.{Place, Grid, root, same, base, kid, kids, parent, In, Distinct}
@@ -28,7 +28,7 @@ use Rattle.number_laws.proofs.Entries.{stands-in}
 use Rattle.number_laws.proofs.NumberedPlaces.{number-place, numbered-not-zero}
 use Rattle.edit_laws.specs.Linked.{Flags, tableWith}
 use Rattle.edit_laws.specs.Steps.{takeOut}
-use Rattle.edit_laws.specs.Tables.{touchedRow, dropUp, dropCorner}
+use Rattle.edit_laws.specs.Tables.{dropUp, dropCorner}
 use Rattle.edit_laws.proofs.FlagsAnew.{Ready, link-parent}
 use Rattle.edit_laws.proofs.Named.{kid-link}
 use Rattle.edit_laws.proofs.Touching.{touched-row}
@@ -97,7 +97,7 @@ up-step : (e : ℕ) (t : List ℤ) (cap k : ℕ) (a : Bool) → k ≢ 0 → kidl
 unfolding dropUp
 up-step e t cap k a z i = rw (ne-eqb k 0 z, i)
 
-corner-step : (t : List ℤ) (cap d k : ℕ) (a : Bool) → k ≢ 0 → touchedRow t cap d k ≡ a → dropCorner t cap d k ≡ cond a t (dropUp d (takeOut t cap k) cap (linkOf t cap k 0))
+corner-step : (t : List ℤ) (cap d k : ℕ) (a : Bool) → k ≢ 0 → touchedIn t cap k ≡ a → dropCorner t cap d k ≡ cond a t (dropUp d (takeOut t cap k) cap (linkOf t cap k 0))
 unfolding dropCorner
 corner-step t cap d k a z i = rw (ne-eqb k 0 z, i)
 
@@ -214,7 +214,7 @@ module _ {g : Grid} (cap : ℕ) {es : List Entry} (f : Flags) {c : Place → Boo
         t : List ℤ
         t = tableWith g ds f
 
-        go : (a : Bool) → touched g c q ≡ a → touchedRow t cap (base g) (number ds q) ≡ touched g c q → Withered g cap c f es ds (dropCorner t cap (base g) (number ds q)) (q ∷ [])
+        go : (a : Bool) → touched g c q ≡ a → touchedIn t cap (number ds q) ≡ touched g c q → Withered g cap c f es ds (dropCorner t cap (base g) (number ds q)) (q ∷ [])
         go true i j = record {
           rest = left-whole h (corner-step t cap (base g) (number ds q) true z (j ∙ i));
           budding = bud;

@@ -10,12 +10,13 @@ use lib.Dec.{eqb}
 use lib.IntN.{ℤ, pos}
 use lib.ListN.{length, getD, set}
 use lib.Seq.{getD-set-same, getD-set-other}
-use Rattle.mesh.specs.Place.{Wind}
+use Rattle.mesh.specs.Place.{Wind, compass}
 use Rattle.mesh.specs.Winds.{wordOfWind}
 use Rattle.mesh.specs.Picture.{rowWords}
 use Rattle.picture_laws.proofs.Links.{wind-lt}
-use Rattle.table.specs.Words.{code, wordOf}
-use Rattle.edit_laws.specs.Steps.{putWord, putUnlessNil}
+use Rattle.table.specs.Words.{code, wordOf, linkOf}
+use Rattle.table.specs.Worked.{sideOf}
+use Rattle.edit_laws.specs.Steps.{putWord, putUnlessNil, linkSide, dropSide}
 
 -- what is read after a write is what was written or what was there
 set-either : {A : Type 0} (P : A → Type 0) (l : List A) (i j : ℕ) (a d : A) → P a → P (getD l j d) → P (getD (set l i a) j d)
@@ -31,6 +32,13 @@ module _ (t : List ℤ) (k w : ℕ) (z : ℤ) (n i : ℕ) where
   word-other a b h = ap code (getD-set-other t (k * rowWords + w) (n * rowWords + i) z (pos 0) (λ e. h (same e)))
     where
       same : n * rowWords + i ≡ k * rowWords + w → w ≡ i
+      same e = omega arith
+
+  pub word-elsewhere : w < rowWords → i < rowWords → n ≢ k → wordOf (set t (k * rowWords + w) z) n i ≡ wordOf t n i
+  unfolding wordOf
+  word-elsewhere a b h = ap code (getD-set-other t (k * rowWords + w) (n * rowWords + i) z (pos 0) (λ e. h (same e)))
+    where
+      same : n * rowWords + i ≡ k * rowWords + w → n ≡ k
       same e = omega arith
 
   pub word-either : (P : ℕ → Type 0) → P (code z) → P (wordOf t n i) → P (wordOf (set t (k * rowWords + w) z) n i)
@@ -62,3 +70,12 @@ keeps-then f g = record { same = λ n i a b. g .same n i a b ∙ f .same n i a b
 
 pub wind-word : (w : Wind) → wordOfWind w < 9
 wind-word = wind-lt
+
+module _ (t : List ℤ) (cap k : ℕ) (w : Wind) where
+  pub keeps-side : Keeps t (linkSide t cap k w)
+  unfolding linkSide
+  keeps-side = keeps-then (keeps-put t k (wordOfWind w) (sideOf t cap k w) (wind-word w)) (keeps-unless _ (sideOf t cap k w) (wordOfWind (compass w .opposite)) k (wind-word (compass w .opposite)))
+
+  pub keeps-drop : Keeps t (dropSide t cap k w)
+  unfolding dropSide
+  keeps-drop = keeps-unless t (linkOf t cap k (wordOfWind w)) (wordOfWind (compass w .opposite)) 0 (wind-word (compass w .opposite))

@@ -22,11 +22,13 @@ putUnlessNil t n w x = cond (eqb n 0) t (putWord t n w x)
 
 -- ---- a new patch
 
--- the row k and its neighbour to the wind w name each other
+-- the row k and the row x to the wind w of it, if that is not 0, name each other
+abbrev pub nameEach : List ℤ → ℕ → Wind → ℕ → List ℤ
+nameEach t k w x = putUnlessNil (putWord t k (wordOfWind w) x) x (wordOfWind (compass w .opposite)) k
+
+-- the row k and its neighbour
 unfoldable pub linkSide : List ℤ → ℕ → ℕ → Wind → List ℤ
-linkSide t cap k w =
-    let x = sideOf t cap k w in
-    putUnlessNil (putWord t k (wordOfWind w) x) x (wordOfWind (compass w .opposite)) k
+linkSide t cap k w = nameEach t k w (sideOf t cap k w)
 
 -- the free row k becomes the kid of the row p whose digits are l and m, without a kid, a cell or a flag
 unfoldable pub placeIn : List ℤ → ℕ → ℕ → ℕ → ℕ → ℕ → List ℤ

@@ -1,8 +1,7 @@
 -- What an accepted refinement, removal or kill does to the words of a table, step by step and only near the cell.
 -- Assumes nothing.
-use Prim.Native.Nat.{ℕ, zero, suc, _+_, _-_, _≤_, _<_}
-use mathlib.Core.Path.{_≡_}
-use mathlib.Core.Bool.{Bool, true, not, _||_, cond}
+use Prim.Native.Nat.{ℕ, zero, suc, _+_}
+use mathlib.Core.Bool.{not, _||_, cond}
 use mathlib.Core.List.{List, [], _∷_, _++_}
 use lib.Dec.{eqb}
 use lib.ListN.{set, getD}
@@ -10,24 +9,12 @@ use lib.IntN.{ℤ}
 use lib.Ieee.{Float}
 use Rattle.mesh.specs.State.{plusZero}
 use Rattle.mesh.specs.Picture.{eastWord, flagsWord, neWord, northWord, nwWord, parentWord, seWord, southWord, statusWord, swWord, westWord, freeFlags}
-use Rattle.table.specs.Words.{wordOf, linkOf, freeAt}
+use Rattle.table.specs.Words.{wordOf, linkOf}
+use Rattle.table.specs.Carried.{putStatus, putAmount, nothing}
 use Rattle.table.specs.Worked.{kidless, touchedIn, kidWord}
-use Rattle.free.specs.Free.{freeFrom}
+use Rattle.free.specs.Free.{nextIn}
 use Rattle.edit_laws.specs.Steps.{putWord, putUnlessNil, linkIn, takeOut}
 use Rattle.edit_laws.specs.Anew.{wallRow, pointRow}
-
--- ---- free numbers
-
--- a table, and a number below which none is free
-pub record Lending : Type 0 where
-  pub words : List ℤ
-  pub low : ℕ
-
--- t becomes u, and the bound low becomes low′: no row below it is free in u that was not in t
-pub record Lowers (t u : List ℤ) (low low′ : ℕ) : Type 0 where
-  pub below : low′ ≤ low
-  pub from : 1 ≤ low → 1 ≤ low′
-  pub freed : (k : ℕ) → k < low′ → freeAt u k ≡ true → freeAt t k ≡ true
 
 -- ---- rows near a cell
 
@@ -84,25 +71,26 @@ putValues (x ∷ xs) t cap y v = putValues xs t cap y (set v (kidAt t cap x) y)
 
 -- ---- refine
 
-unfoldable pub supplied : ℕ → ℕ → Spot → Lending → Lending
-supplied cap d x r =
-    let t = r .words in
-    let k = freeFrom t (cap + 1 - r .low) (r .low) in
-    cond (eqb (kidAt t cap x) 0) (record { words = linkIn t cap d (x .parent) (x .l) (x .m) k; low = k + 1 }) r
+-- where the kid is missing it takes the next free number, if there is one
+unfoldable pub supplied : ℕ → ℕ → Spot → List ℤ → List ℤ
+supplied cap d x t =
+    let k = nextIn t cap in
+    cond (eqb (kidAt t cap x) 0) (cond (eqb k 0) t (linkIn t cap d (x .parent) (x .l) (x .m) k)) t
 
-unfoldable pub suppliedAll : ℕ → ℕ → List Spot → Lending → Lending
-suppliedAll cap d [] r = r
-suppliedAll cap d (x ∷ xs) r = suppliedAll cap d xs (supplied cap d x r)
+unfoldable pub suppliedAll : ℕ → ℕ → List Spot → List ℤ → List ℤ
+suppliedAll cap d [] t = t
+suppliedAll cap d (x ∷ xs) t = suppliedAll cap d xs (supplied cap d x t)
+
+-- the nine patches that the kids want
+abbrev pub suppliedNear : List ℤ → ℕ → ℕ → ℕ → List ℤ
+suppliedNear t cap d n = suppliedAll cap d (wantedSpots t cap n) t
 
 -- "kids of a blank cell are blank, otherwise carried"
 abbrev pub kidStatus : ℕ → ℕ
 kidStatus st = cond (eqb st 0) 0 2
 
-unfoldable pub refineTable : ℕ → ℕ → ℕ → Lending → Lending
-refineTable cap d n r =
-    let s = suppliedAll cap d (wantedSpots (r .words) cap n) r in
-    let t = putCells (kidSpots (r .words) cap n) (s .words) cap 1 (kidStatus (wordOf (r .words) n statusWord)) in
-    record { words = refreshNear t cap d n; low = s .low }
+unfoldable pub refineTable : List ℤ → ℕ → ℕ → ℕ → List ℤ
+refineTable t cap d n = refreshNear (putCells (kidSpots t cap n) (suppliedNear t cap d n) cap 1 (kidStatus (wordOf t n statusWord))) cap d n
 
 -- the values, with the words after the refinement
 unfoldable pub refineValues : List ℤ → ℕ → ℕ → List Float → List Float
@@ -111,21 +99,19 @@ refineValues t cap n v = cond (eqb (wordOf t n statusWord) 0) v (putValues (kidS
 -- ---- remove
 
 -- a patch from level 0 up that no cell touches goes
-unfoldable pub touchedRow : List ℤ → ℕ → ℕ → ℕ → Bool
-touchedRow t cap d n = touchedIn t cap n
+abbrev pub dropUntouched : ℕ → List ℤ → ℕ → List ℤ
+dropUntouched cap t n = cond (eqb n 0 || touchedIn t cap n) t (takeOut t cap n)
 
-abbrev pub dropUntouched : List ℤ → ℕ → ℕ → ℕ → List ℤ
-dropUntouched t cap d n = cond (eqb n 0 || touchedRow t cap d n) t (takeOut t cap n)
+-- the kids are no cells
+abbrev pub emptied : List ℤ → ℕ → ℕ → List ℤ
+emptied t cap n = putCells (kidSpots t cap n) t cap 0 0
 
-unfoldable pub dropAt : List Spot → List ℤ → ℕ → ℕ → List ℤ
-dropAt [] t cap d = t
-dropAt (x ∷ xs) t cap d = dropAt xs (dropUntouched t cap d (kidAt t cap x)) cap d
+-- and the patches go that no cell touches any more
+abbrev pub droppedNear : List ℤ → ℕ → ℕ → List ℤ
+droppedNear t cap n = let u = emptied t cap n in eachAt (dropUntouched cap) cap (wantedSpots u cap n) u
 
 unfoldable pub removeTable : List ℤ → ℕ → ℕ → ℕ → List ℤ
-removeTable t cap d n =
-    let t₁ = putCells (kidSpots t cap n) t cap 0 0 in
-    let t₂ = dropAt (wantedSpots t₁ cap n) t₁ cap d in
-    refreshNear t₂ cap d n
+removeTable t cap d n = refreshNear (droppedNear t cap n) cap d n
 
 unfoldable pub removeValues : List ℤ → ℕ → ℕ → List Float → List Float
 removeValues t cap n v = putValues (kidSpots t cap n) t cap plusZero v
@@ -139,7 +125,18 @@ dropUp (suc e) t cap n = cond (eqb n 0 || not (kidless t cap n)) t (dropUp e (ta
 
 -- a corner of the killed cell that no cell touches goes, and the ghosts above it that have no kid left
 unfoldable pub dropCorner : List ℤ → ℕ → ℕ → ℕ → List ℤ
-dropCorner t cap d n = cond (eqb n 0 || touchedRow t cap d n) t (dropUp d (takeOut t cap n) cap (linkOf t cap n parentWord))
+dropCorner t cap d n = cond (eqb n 0 || touchedIn t cap n) t (dropUp d (takeOut t cap n) cap (linkOf t cap n parentWord))
+
+-- the row n is no cell
+abbrev pub cleared : List ℤ → ℕ → List ℤ
+cleared t n = putStatus (putWord t n flagsWord 0) n nothing
+
+-- and its corners go that no cell touches any more
+abbrev pub droppedCorners : List ℤ → ℕ → ℕ → ℕ → List ℤ
+droppedCorners t cap d n =
+    let north = linkOf t cap n northWord in
+    let east = linkOf t cap n eastWord in
+    dropCorner (dropCorner (dropCorner (dropCorner (cleared t n) cap d (linkOf t cap east northWord)) cap d north) cap d east) cap d n
 
 -- a step at each kid of the row n that these words name
 abbrev pub eachKid : (List ℤ → ℕ → List ℤ) → ℕ → ℕ → List ℕ → List ℤ → List ℤ
@@ -192,14 +189,9 @@ killTable t cap d n =
     let north = linkOf t cap n northWord in
     let east = linkOf t cap n eastWord in
     let both = linkOf t cap east northWord in
-    let t₁ = putWord (putWord t n flagsWord 0) n statusWord 0 in
-    let t₂ = dropCorner (dropCorner (dropCorner (dropCorner t₁ cap d both) cap d north) cap d east) cap d n in
-    let b : Border = record { own = stillUsed t₂ n; north = stillUsed t₂ north; east = stillUsed t₂ east; both = stillUsed t₂ both; south = linkOf t cap n southWord; west = linkOf t cap n westWord } in
-    refreshLevels 13 b 0 t₂ cap d
+    let u = droppedCorners t cap d n in
+    let b : Border = record { own = stillUsed u n; north = stillUsed u north; east = stillUsed u east; both = stillUsed u both; south = linkOf t cap n southWord; west = linkOf t cap n westWord } in
+    refreshLevels 13 b 0 u cap d
 
 unfoldable pub killValues : ℕ → List Float → List Float
-killValues n v = set v n plusZero
-
--- a row that is free in u is so in t
-pub record FreesNone (t u : List ℤ) : Type 0 where
-  pub was : (k : ℕ) → freeAt u k ≡ true → freeAt t k ≡ true
+killValues n v = putAmount v n nothing

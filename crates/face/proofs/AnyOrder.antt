@@ -13,7 +13,9 @@ use borrow.Author.Tests.{eq-eqb}
 use Rattle.mesh.specs.Refusal.{Check, _if_, refusal}
 use Rattle.mesh.specs.Request.{no6}
 use Rattle.mesh.specs.Scan.{permutation, scanChecks}
-use Rattle.mesh.specs.Call.{Lent, stateOf, lentChecks, Wrote, scanCall}
+use Rattle.mesh.specs.Picture.{Lent}
+use Rattle.mesh.specs.Decode.{decode}
+use Rattle.mesh.specs.Call.{lentChecks, Wrote, scanCall}
 use Rattle.place_laws.proofs.Bools.{no-is, and-left, and-right}
 use Rattle.number_laws.proofs.Checks.{from}
 use Rattle.demand_laws.proofs.Refusals.{unless-refused}
@@ -39,7 +41,7 @@ refuses ((k if false) ∷ cs) t b e = refuses cs (and-right (leb 1 k) (from 1 cs
 
 module _ (cap : ℕ) (l : Lent) (n : ℕ) (k : ℕ) (from to : ℤ) (out : List ℕ) where
   unfoldable given : ℕ
-  given = refusal (lentChecks cap l ++ no6 (stateOf l) n ∷ (17 if true) ∷ [])
+  given = refusal (lentChecks cap l ++ no6 (decode l) n ∷ (17 if true) ∷ [])
 
   unordered : (o : List ℕ) → permutation o ≡ false → scanCall cap l n o k from to out ≡ record { refusal = given; count = 0; out = out }
   unfolding scanCall scanChecks lentChecks given

@@ -2,7 +2,7 @@
 -- Assumes nothing.
 use Prim.Native.Nat.{ℕ, zero, suc, _≤_, _<_, _^_}
 use native.Mathlib.Omega.{arith}
-use mathlib.Core.Path.{_≡_, refl, sym, ap, _∙_, subst}
+use mathlib.Core.Path.{_≡_, refl, sym, ap, _∙_}
 use mathlib.Core.Logic.{_≢_}
 use mathlib.Core.Bool.{not}
 use mathlib.Core.List.{List, _++_}
@@ -15,16 +15,17 @@ use Rattle.mesh.specs.State.{State, isUsed, entry}
 use Rattle.mesh.specs.Valid.{Valid}
 use Rattle.mesh.specs.Refusal.{Check, refusal}
 use Rattle.mesh.specs.Scan.{permutation, scan, scanChecks}
-use Rattle.mesh.specs.Call.{Lent, stateOf, lentChecks, checkCall, unless, Built, buildCall, Wrote, scanCall}
+use Rattle.mesh.specs.Picture.{Lent}
+use Rattle.mesh.specs.Decode.{decode}
+use Rattle.mesh.specs.Call.{lentChecks, checkCall, unless, Built, buildCall, Wrote, scanCall}
 use Rattle.place_laws.proofs.Bools.{is-yes, neither}
 use Rattle.number_laws.proofs.Checks.{passes, kept}
 use Rattle.number_laws.proofs.Building.{built-in-use}
-use Rattle.picture_laws.proofs.Rows.{amounts-length}
-use Rattle.picture_laws.proofs.Soundness.{sound-state}
+use Rattle.picture_laws.proofs.Soundness.{sound-state, sound-valid}
+use Rattle.picture_laws.proofs.Accepted.{lent-sizes, lent-sound, sound-capacity}
 use Rattle.walk_laws.proofs.Few.{scan-few}
-use Rattle.call_laws.proofs.Called.{values-length, lent-sound, checks-after}
+use Rattle.call_laws.proofs.Called.{checks-after}
 use Rattle.demand_laws.proofs.PicturedCalls.{build-checked}
-use Rattle.grid.proofs.First.{sizes}
 
 -- what holds of a refusal and of an answer holds of the call
 bounded : {A : Type 0} (f : A → ℕ) (m r : ℕ) (refused : ℕ → A) (done : A) → ((n : ℕ) → f (refused n) ≤ m) → (r ≡ 0 → f done ≤ m) → f (unless r refused done) ≤ m
@@ -49,21 +50,20 @@ module _ (cap : ℕ) (l : Lent) where
   build-fits g b e = omega (arith, build-count g, ap (λ (x : Built). x .in-use) e)
 
   -- the state that is lent, where the first checks pass
-  module _ (ok : refusal (lentChecks cap l) ≡ 0) where
-    lent-valid : Valid (stateOf l)
-    lent-valid = subst Valid (sound-state _ _ _ (lent-sound cap l ok)) (lent-sound cap l ok .valid)
+  module _ (ok : checkCall cap l ≡ 0) where
+    lent-valid : Valid (decode l)
+    lent-valid = sound-valid (lent-sound cap l ok)
 
-    lent-few : length (stateOf l .entries) ≤ 4096
-    unfolding checkCall
+    lent-few : length (decode l .entries) ≤ 4096
     lent-few =
         let o = lent-sound cap l ok in
-        let e : length (l .values) ≡ length (stateOf l .entries) = ap length (o .is-values) ∙ amounts-length (o .state) ∙ ap (λ (s : State). length (s .entries)) (sound-state _ _ _ o) in
-        omega (arith, e, values-length cap l ok, sizes cap l ok .high)
+        let z = lent-sizes cap l ok in
+        omega (arith, sound-capacity cap l z o, z .high, ap (λ (s : State). length (s .entries)) (sound-state o))
 
-    listed-few : (n : ℕ) (o : List ℕ) (k : ℕ) (from to : ℤ) (room : ℕ) → refusal (scanChecks (stateOf l) room n o k from to) ≡ 0 → length (scan (stateOf l) n o k from to) ≤ 4096
+    listed-few : (n : ℕ) (o : List ℕ) (k : ℕ) (from to : ℤ) (room : ℕ) → refusal (scanChecks (decode l) room n o k from to) ≡ 0 → length (scan (decode l) n o k from to) ≤ 4096
     unfolding scanChecks
     listed-few n o k from to room h =
-        let s = stateOf l in
+        let s = decode l in
         let (a, h₁) = passes 6 _ _ (λ z. omega arith) h in
         let (b, _) = passes 17 _ _ (λ z. omega arith) h₁ in
         let (p, _) = neither (not (permutation o)) _ b in
@@ -71,7 +71,7 @@ module _ (cap : ℕ) (l : Lent) where
         omega (arith, lent-few, scan-few s lent-valid n o k from to used (is-yes (permutation o) (not-false _ p)))
 
   scan-count : (n : ℕ) (o : List ℕ) (k : ℕ) (from to : ℤ) (out : List ℕ) → scanCall cap l n o k from to out .count ≤ 4096
-  unfolding scanCall
+  unfolding scanCall checkCall
   scan-count n o k from to out =
       bounded (λ (w : Wrote). w .count) 4096 _ _ _ (λ n. omega arith) (λ ok.
       let first = firsts (lentChecks cap l) _ ok in

@@ -12,8 +12,10 @@ use contract.Monad.{fact}
 use denote.Ref.{RefT, at-last}
 use denote.Triple.Spec.{exits}
 use borrow.Fn.World.{World, Pr}
-use Rattle.mesh.specs.declared.header.Header.{Header}
-use Rattle.grid.proofs.Unique.{lent-same, both-told}
+use Rattle.mesh.specs.Picture.{Lent}
+use Rattle.header.specs.Headers.{lentOf}
+use Rattle.header.specs.declared.Header.{Header}
+use Rattle.grid.proofs.Unique.{both-told}
 use Rattle.face.specs.Outputs.{Builds, Tapes, Checks, Scans, Looks, Pages}
 use Rattle.face.proofs.grid_build as grid-build
 use Rattle.face.proofs.grid_tape as grid-tape
@@ -24,31 +26,25 @@ use Rattle.face.proofs.grid_page as grid-page
 
 -- ---- the relations
 
-module _ {h : Header} {t : List ℤ} {v : List Float} {cap : ℕ} where
-  module _ (h₁ h₂ : Header) (t₁ t₂ : List ℤ) (v₁ v₂ : List Float) where
-    pub build-unique : {columns rows mode : ℕ} (n m r s : ℕ) → Builds h t v cap columns rows mode h₁ t₁ v₁ n r → Builds h t v cap columns rows mode h₂ t₂ v₂ m s → (r ≡ s) × (n ≡ m) × (h₁ ≡ h₂) × (t₁ ≡ t₂) × (v₁ ≡ v₂)
-    build-unique n m r s a b =
-        let e = a .is ∙ sym (b .is) in
-        let (x, y, z) = lent-same h₁ h₂ t₁ t₂ v₁ v₂ (λ i. e i .lent) in
-        ((λ i. e i .refusal), (λ i. e i .in-use), x, y, z)
+module _ {l : Lent} {cap : ℕ} where
+  module _ (l₁ l₂ : Lent) where
+    pub build-unique : {columns rows mode : ℕ} (n m r s : ℕ) → Builds l cap columns rows mode l₁ n r → Builds l cap columns rows mode l₂ m s → (r ≡ s) × (n ≡ m) × (l₁ ≡ l₂)
+    build-unique n m r s a b = let e = a .is ∙ sym (b .is) in ((λ i. e i .refusal), (λ i. e i .in-use), λ i. e i .lent)
 
-    pub tape-unique : {bytes : List ℕ} (n m o p r s : ℕ) → Tapes h t v cap bytes h₁ t₁ v₁ n o r → Tapes h t v cap bytes h₂ t₂ v₂ m p s → (r ≡ s) × (n ≡ m) × (o ≡ p) × (h₁ ≡ h₂) × (t₁ ≡ t₂) × (v₁ ≡ v₂)
-    tape-unique n m o p r s a b =
-        let e = a .is ∙ sym (b .is) in
-        let (x, y, z) = lent-same h₁ h₂ t₁ t₂ v₁ v₂ (λ i. e i .lent) in
-        ((λ i. e i .refusal), (λ i. e i .done), (λ i. e i .offset), x, y, z)
+    pub tape-unique : {bytes : List ℕ} (n m o p r s : ℕ) → Tapes l cap bytes l₁ n o r → Tapes l cap bytes l₂ m p s → (r ≡ s) × (n ≡ m) × (o ≡ p) × (l₁ ≡ l₂)
+    tape-unique n m o p r s a b = let e = a .is ∙ sym (b .is) in ((λ i. e i .refusal), (λ i. e i .done), (λ i. e i .offset), λ i. e i .lent)
 
-  pub check-unique : (r s : ℕ) → Checks h t v cap r → Checks h t v cap s → r ≡ s
+  pub check-unique : (r s : ℕ) → Checks l cap r → Checks l cap s → r ≡ s
   check-unique r s a b = a .is ∙ sym (b .is)
 
-  pub scan-unique : {start : ℕ} {order : List ℕ} {kind : ℕ} {from to : ℤ} {out : List ℕ} (out₁ out₂ : List ℕ) (n m r s : ℕ) → Scans h t v cap start order kind from to out out₁ n r → Scans h t v cap start order kind from to out out₂ m s
+  pub scan-unique : {start : ℕ} {order : List ℕ} {kind : ℕ} {from to : ℤ} {out : List ℕ} (out₁ out₂ : List ℕ) (n m r s : ℕ) → Scans l cap start order kind from to out out₁ n r → Scans l cap start order kind from to out out₂ m s
       → (r ≡ s) × (n ≡ m) × (out₁ ≡ out₂)
   scan-unique out₁ out₂ n m r s a b = let e = a .is ∙ sym (b .is) in ((λ i. e i .refusal), (λ i. e i .count), λ i. e i .out)
 
-  pub lookup-unique : {speed load : ℕ} (n m c d : ℕ) (x y : Float) (r s : ℕ) → Looks h t v cap speed load n c x r → Looks h t v cap speed load m d y s → (r ≡ s) × (n ≡ m) × (c ≡ d) × (x ≡ y)
+  pub lookup-unique : {speed load : ℕ} (n m c d : ℕ) (x y : Float) (r s : ℕ) → Looks l cap speed load n c x r → Looks l cap speed load m d y s → (r ≡ s) × (n ≡ m) × (c ≡ d) × (x ≡ y)
   lookup-unique n m c d x y r s a b = let e = a .is ∙ sym (b .is) in ((λ i. e i .refusal), (λ i. e i .leaf), (λ i. e i .status), λ i. e i .value)
 
-  pub page-unique : {out : List ℕ} (out₁ out₂ : List ℕ) (n m r s : ℕ) → Pages h t v cap out out₁ n r → Pages h t v cap out out₂ m s → (r ≡ s) × (n ≡ m) × (out₁ ≡ out₂)
+  pub page-unique : {out : List ℕ} (out₁ out₂ : List ℕ) (n m r s : ℕ) → Pages l cap out out₁ n r → Pages l cap out out₂ m s → (r ≡ s) × (n ≡ m) × (out₁ ≡ out₂)
   page-unique out₁ out₂ n m r s a b = let e = a .is ∙ sym (b .is) in ((λ i. e i .refusal), (λ i. e i .count), λ i. e i .out)
 
 -- ---- the contracts themselves, at any model `w` as in their statements: one says at exit that its relation holds of the
@@ -60,31 +56,31 @@ module _ (w : World) (h : RefT Header) (t : RefT (List ℤ)) (v : RefT (List Flo
     BuildSays r h′ t′ v′ n′ = grid-build.clauses (w .𝓤) (w .H) (w .𝓖 .A) (w .𝓜 .mem) (w .𝓡 .run) κs (h, (t, (v, (cap, (columns, (rows, (mode, (n, tt)))))))) .ensures tt r (at-last h h′, (at-last t t′, (at-last v v′, (cap, (columns, (rows, (mode, (at-last n n′, tt))))))))
 
     pub build-says : (r : ℕ) → grid-build.spec (w .𝓤) (w .H) (w .𝓖 .A) (w .𝓜 .mem) (w .𝓡 .run) κs (h, (t, (v, (cap, (columns, (rows, (mode, (n, tt)))))))) .ensures tt r
-        ≡ exits (w .𝓤) (w .H) (w .𝓖 .A) grid-build.signature (grid-build.ended .kept) κs (h, (t, (v, (cap, (columns, (rows, (mode, (n, tt)))))))) (λ e. fact (w .𝓤) (Builds (h .now) (t .now) (v .now) cap columns rows mode (e .0 .now) (e .1 .0 .now) (e .1 .1 .0 .now) (e .1 .1 .1 .1 .1 .1 .1 .0 .now) r))
+        ≡ exits (w .𝓤) (w .H) (w .𝓖 .A) grid-build.signature (grid-build.ended .kept) κs (h, (t, (v, (cap, (columns, (rows, (mode, (n, tt)))))))) (λ e. fact (w .𝓤) (Builds (lentOf (h .now) (t .now) (v .now)) cap columns rows mode (lentOf (e .0 .now) (e .1 .0 .now) (e .1 .1 .0 .now)) (e .1 .1 .1 .1 .1 .1 .1 .0 .now) r))
     build-says r = refl
 
     pub build-once : (P : Pr w) (r s : ℕ) (h₁ h₂ : Header) (t₁ t₂ : List ℤ) (v₁ v₂ : List Float) (n₁ n₂ : ℕ) → ent (w .𝓤) P (BuildSays r h₁ t₁ v₁ n₁) → ent (w .𝓤) P (BuildSays s h₂ t₂ v₂ n₂)
-        → ent (w .𝓤) P (fact (w .𝓤) ((r ≡ s) × (n₁ ≡ n₂) × (h₁ ≡ h₂) × (t₁ ≡ t₂) × (v₁ ≡ v₂)))
-    build-once P r s h₁ h₂ t₁ t₂ v₁ v₂ n₁ n₂ p q = both-told w P _ _ (build-unique h₁ h₂ t₁ t₂ v₁ v₂ n₁ n₂ r s) p q
+        → ent (w .𝓤) P (fact (w .𝓤) ((r ≡ s) × (n₁ ≡ n₂) × (lentOf h₁ t₁ v₁ ≡ lentOf h₂ t₂ v₂)))
+    build-once P r s h₁ h₂ t₁ t₂ v₁ v₂ n₁ n₂ p q = both-told w P _ _ (build-unique (lentOf h₁ t₁ v₁) (lentOf h₂ t₂ v₂) n₁ n₂ r s) p q
 
   module _ (κs : Lfts 6) (bytes : RefT (List ℕ)) (n o : RefT ℕ) where
     abbrev TapeSays : ℕ → Header → List ℤ → List Float → ℕ → ℕ → Pr w
     TapeSays r h′ t′ v′ n′ o′ = grid-tape.clauses (w .𝓤) (w .H) (w .𝓖 .A) (w .𝓜 .mem) (w .𝓡 .run) κs (h, (t, (v, (cap, (bytes, (n, (o, tt))))))) .ensures tt r (at-last h h′, (at-last t t′, (at-last v v′, (cap, (bytes, (at-last n n′, (at-last o o′, tt)))))))
 
     pub tape-says : (r : ℕ) → grid-tape.spec (w .𝓤) (w .H) (w .𝓖 .A) (w .𝓜 .mem) (w .𝓡 .run) κs (h, (t, (v, (cap, (bytes, (n, (o, tt))))))) .ensures tt r
-        ≡ exits (w .𝓤) (w .H) (w .𝓖 .A) grid-tape.signature (grid-tape.ended .kept) κs (h, (t, (v, (cap, (bytes, (n, (o, tt))))))) (λ e. fact (w .𝓤) (Tapes (h .now) (t .now) (v .now) cap (bytes .now) (e .0 .now) (e .1 .0 .now) (e .1 .1 .0 .now) (e .1 .1 .1 .1 .1 .0 .now) (e .1 .1 .1 .1 .1 .1 .0 .now) r))
+        ≡ exits (w .𝓤) (w .H) (w .𝓖 .A) grid-tape.signature (grid-tape.ended .kept) κs (h, (t, (v, (cap, (bytes, (n, (o, tt))))))) (λ e. fact (w .𝓤) (Tapes (lentOf (h .now) (t .now) (v .now)) cap (bytes .now) (lentOf (e .0 .now) (e .1 .0 .now) (e .1 .1 .0 .now)) (e .1 .1 .1 .1 .1 .0 .now) (e .1 .1 .1 .1 .1 .1 .0 .now) r))
     tape-says r = refl
 
     pub tape-once : (P : Pr w) (r s : ℕ) (h₁ h₂ : Header) (t₁ t₂ : List ℤ) (v₁ v₂ : List Float) (n₁ n₂ : ℕ) (o₁ o₂ : ℕ) → ent (w .𝓤) P (TapeSays r h₁ t₁ v₁ n₁ o₁) → ent (w .𝓤) P (TapeSays s h₂ t₂ v₂ n₂ o₂)
-        → ent (w .𝓤) P (fact (w .𝓤) ((r ≡ s) × (n₁ ≡ n₂) × (o₁ ≡ o₂) × (h₁ ≡ h₂) × (t₁ ≡ t₂) × (v₁ ≡ v₂)))
-    tape-once P r s h₁ h₂ t₁ t₂ v₁ v₂ n₁ n₂ o₁ o₂ p q = both-told w P _ _ (tape-unique h₁ h₂ t₁ t₂ v₁ v₂ n₁ n₂ o₁ o₂ r s) p q
+        → ent (w .𝓤) P (fact (w .𝓤) ((r ≡ s) × (n₁ ≡ n₂) × (o₁ ≡ o₂) × (lentOf h₁ t₁ v₁ ≡ lentOf h₂ t₂ v₂)))
+    tape-once P r s h₁ h₂ t₁ t₂ v₁ v₂ n₁ n₂ o₁ o₂ p q = both-told w P _ _ (tape-unique (lentOf h₁ t₁ v₁) (lentOf h₂ t₂ v₂) n₁ n₂ o₁ o₂ r s) p q
 
   module _ (κs : Lfts 3) where
     abbrev CheckSays : ℕ → Pr w
     CheckSays r = grid-check.clauses (w .𝓤) (w .H) (w .𝓖 .A) (w .𝓜 .mem) (w .𝓡 .run) κs (h, (t, (v, (cap, tt)))) .ensures tt r (h, (t, (v, (cap, tt))))
 
     pub check-says : (r : ℕ) → grid-check.spec (w .𝓤) (w .H) (w .𝓖 .A) (w .𝓜 .mem) (w .𝓡 .run) κs (h, (t, (v, (cap, tt)))) .ensures tt r
-        ≡ exits (w .𝓤) (w .H) (w .𝓖 .A) grid-check.signature (grid-check.ended .kept) κs (h, (t, (v, (cap, tt)))) (λ e. fact (w .𝓤) (Checks (h .now) (t .now) (v .now) cap r))
+        ≡ exits (w .𝓤) (w .H) (w .𝓖 .A) grid-check.signature (grid-check.ended .kept) κs (h, (t, (v, (cap, tt)))) (λ e. fact (w .𝓤) (Checks (lentOf (h .now) (t .now) (v .now)) cap r))
     check-says r = refl
 
     pub check-once : (P : Pr w) (r s : ℕ) → ent (w .𝓤) P (CheckSays r) → ent (w .𝓤) P (CheckSays s)
@@ -96,7 +92,7 @@ module _ (w : World) (h : RefT Header) (t : RefT (List ℤ)) (v : RefT (List Flo
     ScanSays r out′ n′ = grid-scan.clauses (w .𝓤) (w .H) (w .𝓖 .A) (w .𝓜 .mem) (w .𝓡 .run) κs (h, (t, (v, (cap, (start, (order, (kind, (from, (to, (out, (n, tt))))))))))) .ensures tt r (h, (t, (v, (cap, (start, (order, (kind, (from, (to, (at-last out out′, (at-last n n′, tt)))))))))))
 
     pub scan-says : (r : ℕ) → grid-scan.spec (w .𝓤) (w .H) (w .𝓖 .A) (w .𝓜 .mem) (w .𝓡 .run) κs (h, (t, (v, (cap, (start, (order, (kind, (from, (to, (out, (n, tt))))))))))) .ensures tt r
-        ≡ exits (w .𝓤) (w .H) (w .𝓖 .A) grid-scan.signature (grid-scan.ended .kept) κs (h, (t, (v, (cap, (start, (order, (kind, (from, (to, (out, (n, tt))))))))))) (λ e. fact (w .𝓤) (Scans (h .now) (t .now) (v .now) cap start (order .now) kind from to (out .now) (e .1 .1 .1 .1 .1 .1 .1 .1 .1 .0 .now) (e .1 .1 .1 .1 .1 .1 .1 .1 .1 .1 .0 .now) r))
+        ≡ exits (w .𝓤) (w .H) (w .𝓖 .A) grid-scan.signature (grid-scan.ended .kept) κs (h, (t, (v, (cap, (start, (order, (kind, (from, (to, (out, (n, tt))))))))))) (λ e. fact (w .𝓤) (Scans (lentOf (h .now) (t .now) (v .now)) cap start (order .now) kind from to (out .now) (e .1 .1 .1 .1 .1 .1 .1 .1 .1 .0 .now) (e .1 .1 .1 .1 .1 .1 .1 .1 .1 .1 .0 .now) r))
     scan-says r = refl
 
     pub scan-once : (P : Pr w) (r s : ℕ) (out₁ out₂ : List ℕ) (n₁ n₂ : ℕ) → ent (w .𝓤) P (ScanSays r out₁ n₁) → ent (w .𝓤) P (ScanSays s out₂ n₂)
@@ -108,7 +104,7 @@ module _ (w : World) (h : RefT Header) (t : RefT (List ℤ)) (v : RefT (List Flo
     LookupSays r n′ c′ x′ = grid-lookup.clauses (w .𝓤) (w .H) (w .𝓖 .A) (w .𝓜 .mem) (w .𝓡 .run) κs (h, (t, (v, (cap, (speed, (load, (n, (c, (x, tt))))))))) .ensures tt r (h, (t, (v, (cap, (speed, (load, (at-last n n′, (at-last c c′, (at-last x x′, tt)))))))))
 
     pub lookup-says : (r : ℕ) → grid-lookup.spec (w .𝓤) (w .H) (w .𝓖 .A) (w .𝓜 .mem) (w .𝓡 .run) κs (h, (t, (v, (cap, (speed, (load, (n, (c, (x, tt))))))))) .ensures tt r
-        ≡ exits (w .𝓤) (w .H) (w .𝓖 .A) grid-lookup.signature (grid-lookup.ended .kept) κs (h, (t, (v, (cap, (speed, (load, (n, (c, (x, tt))))))))) (λ e. fact (w .𝓤) (Looks (h .now) (t .now) (v .now) cap speed load (e .1 .1 .1 .1 .1 .1 .0 .now) (e .1 .1 .1 .1 .1 .1 .1 .0 .now) (e .1 .1 .1 .1 .1 .1 .1 .1 .0 .now) r))
+        ≡ exits (w .𝓤) (w .H) (w .𝓖 .A) grid-lookup.signature (grid-lookup.ended .kept) κs (h, (t, (v, (cap, (speed, (load, (n, (c, (x, tt))))))))) (λ e. fact (w .𝓤) (Looks (lentOf (h .now) (t .now) (v .now)) cap speed load (e .1 .1 .1 .1 .1 .1 .0 .now) (e .1 .1 .1 .1 .1 .1 .1 .0 .now) (e .1 .1 .1 .1 .1 .1 .1 .1 .0 .now) r))
     lookup-says r = refl
 
     pub lookup-once : (P : Pr w) (r s : ℕ) (n₁ n₂ : ℕ) (c₁ c₂ : ℕ) (x₁ x₂ : Float) → ent (w .𝓤) P (LookupSays r n₁ c₁ x₁) → ent (w .𝓤) P (LookupSays s n₂ c₂ x₂)
@@ -120,7 +116,7 @@ module _ (w : World) (h : RefT Header) (t : RefT (List ℤ)) (v : RefT (List Flo
     PageSays r out′ n′ = grid-page.clauses (w .𝓤) (w .H) (w .𝓖 .A) (w .𝓜 .mem) (w .𝓡 .run) κs (h, (t, (v, (cap, (out, (n, tt)))))) .ensures tt r (h, (t, (v, (cap, (at-last out out′, (at-last n n′, tt))))))
 
     pub page-says : (r : ℕ) → grid-page.spec (w .𝓤) (w .H) (w .𝓖 .A) (w .𝓜 .mem) (w .𝓡 .run) κs (h, (t, (v, (cap, (out, (n, tt)))))) .ensures tt r
-        ≡ exits (w .𝓤) (w .H) (w .𝓖 .A) grid-page.signature (grid-page.ended .kept) κs (h, (t, (v, (cap, (out, (n, tt)))))) (λ e. fact (w .𝓤) (Pages (h .now) (t .now) (v .now) cap (out .now) (e .1 .1 .1 .1 .0 .now) (e .1 .1 .1 .1 .1 .0 .now) r))
+        ≡ exits (w .𝓤) (w .H) (w .𝓖 .A) grid-page.signature (grid-page.ended .kept) κs (h, (t, (v, (cap, (out, (n, tt)))))) (λ e. fact (w .𝓤) (Pages (lentOf (h .now) (t .now) (v .now)) cap (out .now) (e .1 .1 .1 .1 .0 .now) (e .1 .1 .1 .1 .1 .0 .now) r))
     page-says r = refl
 
     pub page-once : (P : Pr w) (r s : ℕ) (out₁ out₂ : List ℕ) (n₁ n₂ : ℕ) → ent (w .𝓤) P (PageSays r out₁ n₁) → ent (w .𝓤) P (PageSays s out₂ n₂)

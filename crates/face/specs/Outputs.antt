@@ -1,5 +1,5 @@
--- What an exported call may do: what it is lent and given at entry; then the header and the lists at exit, what its pointers hold at exit, and the
--- refusal that it returns. Each is one equation with the call's definition in `mesh`.
+-- What an exported call may do: what it is lent and given at entry; then what is lent at exit, what its pointers hold at exit, and the refusal
+-- that it returns. Each is one equation with the call's definition in `mesh`.
 -- Assumes nothing.
 use Prim.Native.Nat.{ℕ}
 use mathlib.Core.Path.{_≡_}
@@ -10,9 +10,8 @@ use lib.ListN.{length}
 use lib.IntN.{ℤ}
 use lib.Ieee.{Float}
 use Rattle.mesh.specs.State as State
+use Rattle.mesh.specs.Picture.{Lent}
 use Rattle.mesh.specs.Call as Call
-use Rattle.mesh.specs.Headers.{lentOf}
-use Rattle.mesh.specs.declared.header.Header.{Header}
 
 -- an order of another length than four is no permutation; four zeros stand for it
 abbrev pub fourOf : List ℕ → List ℕ
@@ -28,21 +27,21 @@ pub record Told : Type 0 where
 abbrev pub told : Call.Found → Told
 told f = record { refusal = f .refusal; leaf = f .leaf; status = State.status (f .value); value = State.amount (f .value) }
 
-module _ (h : Header) (t : List ℤ) (v : List Float) (cap : ℕ) where
-  pub record Builds (columns rows mode : ℕ) (h′ : Header) (t′ : List ℤ) (v′ : List Float) (in-use r : ℕ) : Type 0 where
-    pub is : record { refusal = r; in-use = in-use; lent = lentOf h′ t′ v′ } ≡ Call.buildCall cap (lentOf h t v) (record { columns = columns; rows = rows; mode = mode })
+module _ (l : Lent) (cap : ℕ) where
+  pub record Builds (columns rows mode : ℕ) (l′ : Lent) (in-use r : ℕ) : Type 0 where
+    pub is : record { refusal = r; in-use = in-use; lent = l′ } ≡ Call.buildCall cap l (record { columns = columns; rows = rows; mode = mode })
 
-  pub record Tapes (bytes : List ℕ) (h′ : Header) (t′ : List ℤ) (v′ : List Float) (done offset r : ℕ) : Type 0 where
-    pub is : record { done = done; refusal = r; offset = offset; lent = lentOf h′ t′ v′ } ≡ Call.tapeCall cap (lentOf h t v) bytes
+  pub record Tapes (bytes : List ℕ) (l′ : Lent) (done offset r : ℕ) : Type 0 where
+    pub is : record { done = done; refusal = r; offset = offset; lent = l′ } ≡ Call.tapeCall cap l bytes
 
   pub record Checks (r : ℕ) : Type 0 where
-    pub is : r ≡ Call.checkCall cap (lentOf h t v)
+    pub is : r ≡ Call.checkCall cap l
 
   pub record Scans (start : ℕ) (order : List ℕ) (kind : ℕ) (from to : ℤ) (out out′ : List ℕ) (count r : ℕ) : Type 0 where
-    pub is : record { refusal = r; count = count; out = out′ } ≡ Call.scanCall cap (lentOf h t v) start order kind from to out
+    pub is : record { refusal = r; count = count; out = out′ } ≡ Call.scanCall cap l start order kind from to out
 
   pub record Looks (speed load number status : ℕ) (value : Float) (r : ℕ) : Type 0 where
-    pub is : record { refusal = r; leaf = number; status = status; value = value } ≡ told (Call.lookupCall cap (lentOf h t v) speed load)
+    pub is : record { refusal = r; leaf = number; status = status; value = value } ≡ told (Call.lookupCall cap l speed load)
 
   pub record Pages (out out′ : List ℕ) (count r : ℕ) : Type 0 where
-    pub is : record { refusal = r; count = count; out = out′ } ≡ Call.pageCall cap (lentOf h t v) out
+    pub is : record { refusal = r; count = count; out = out′ } ≡ Call.pageCall cap l out

@@ -2,10 +2,11 @@
 // exported entry is thin: it copies the header out and calls the core above it, and a build or a tape puts back the header that the core leaves.
 ghost use mathlib.Core.Path.{_≡_};
 ghost use Rattle.mesh.specs.State.{status, amount};
+ghost use Rattle.header.specs.Headers.{lentOf};
 ghost use Rattle.lookup.specs.LookupRows.{valueOfReading};
 ghost use Rattle.face.specs.Outputs.{fourOf, Builds, Tapes, Checks, Scans, Looks, Pages};
+use header::Header;
 use lookup::Reading;
-use mesh::header::Header;
 
 // The header at exit, and the refusal or 0.
 struct Left {
@@ -23,7 +24,7 @@ fn build_core(
     mode: u32,
     in_use: &mut u32,
 ) -> Left
-    ensures { λ r. ⌜ Builds header (now (table .entry)) (now (values .entry)) capacity columns rows mode (r .header) (now (table .exit)) (now (values .exit)) (now (in_use .exit)) (r .answer) ⌝ }
+    ensures { λ r. ⌜ Builds (lentOf header (now (table .entry)) (now (values .entry))) capacity columns rows mode (lentOf (r .header) (now (table .exit)) (now (values .exit))) (now (in_use .exit)) (r .answer) ⌝ }
 {
     let out = grid::build_core(header, table, values, capacity, columns, rows, mode);
     let left = out.header;
@@ -47,7 +48,7 @@ pub extern "C" fn grid_build(
     mode: u32,
     in_use: &mut u32,
 ) -> u32
-    ensures { λ r. ⌜ Builds (now (header .entry)) (now (table .entry)) (now (values .entry)) capacity columns rows mode (now (header .exit)) (now (table .exit)) (now (values .exit)) (now (in_use .exit)) r ⌝ }
+    ensures { λ r. ⌜ Builds (lentOf (now (header .entry)) (now (table .entry)) (now (values .entry))) capacity columns rows mode (lentOf (now (header .exit)) (now (table .exit)) (now (values .exit))) (now (in_use .exit)) r ⌝ }
 {
     let out = build_core(
         *header,
@@ -72,7 +73,7 @@ fn tape_core(
     done: &mut usize,
     offset: &mut usize,
 ) -> Left
-    ensures { λ r. ⌜ Tapes header (now (table .entry)) (now (values .entry)) capacity (now (tape .entry)) (r .header) (now (table .exit)) (now (values .exit)) (now (done .exit)) (now (offset .exit)) (r .answer) ⌝ }
+    ensures { λ r. ⌜ Tapes (lentOf header (now (table .entry)) (now (values .entry))) capacity (now (tape .entry)) (lentOf (r .header) (now (table .exit)) (now (values .exit))) (now (done .exit)) (now (offset .exit)) (r .answer) ⌝ }
 {
     let out = grid::tape_core(header, table, values, capacity, tape);
     let left = out.header;
@@ -96,7 +97,7 @@ pub extern "C" fn grid_tape(
     done: &mut usize,
     offset: &mut usize,
 ) -> u32
-    ensures { λ r. ⌜ Tapes (now (header .entry)) (now (table .entry)) (now (values .entry)) capacity (now (tape .entry)) (now (header .exit)) (now (table .exit)) (now (values .exit)) (now (done .exit)) (now (offset .exit)) r ⌝ }
+    ensures { λ r. ⌜ Tapes (lentOf (now (header .entry)) (now (table .entry)) (now (values .entry))) capacity (now (tape .entry)) (lentOf (now (header .exit)) (now (table .exit)) (now (values .exit))) (now (done .exit)) (now (offset .exit)) r ⌝ }
 {
     let out = tape_core(*header, table, values, capacity, tape, done, offset);
     *header = out.header;
@@ -104,7 +105,7 @@ pub extern "C" fn grid_tape(
 }
 
 fn check_core(header: Header, table: &[i32], values: &[f64], capacity: u32) -> u32
-    ensures { λ r. ⌜ Checks header (now (table .entry)) (now (values .entry)) capacity r ⌝ }
+    ensures { λ r. ⌜ Checks (lentOf header (now (table .entry)) (now (values .entry))) capacity r ⌝ }
 {
     grid::check(header, table, values, capacity)
 }
@@ -112,7 +113,7 @@ fn check_core(header: Header, table: &[i32], values: &[f64], capacity: u32) -> u
 // Whether the table, the values and the header are sound: 0 for yes.
 #[no_mangle]
 pub extern "C" fn grid_check(header: &Header, table: &[i32], values: &[f64], capacity: u32) -> u32
-    ensures { λ r. ⌜ Checks (now (header .entry)) (now (table .entry)) (now (values .entry)) capacity r ⌝ }
+    ensures { λ r. ⌜ Checks (lentOf (now (header .entry)) (now (table .entry)) (now (values .entry))) capacity r ⌝ }
 {
     check_core(*header, table, values, capacity)
 }
@@ -140,7 +141,7 @@ fn scan_core(
     out: &mut [u16],
     count: &mut u32,
 ) -> u32
-    ensures { λ r. ⌜ Scans header (now (table .entry)) (now (values .entry)) capacity start (now (order .entry)) kind from to (now (out .entry)) (now (out .exit)) (now (count .exit)) r ⌝ }
+    ensures { λ r. ⌜ Scans (lentOf header (now (table .entry)) (now (values .entry))) capacity start (now (order .entry)) kind from to (now (out .entry)) (now (out .exit)) (now (count .exit)) r ⌝ }
 {
     let winds = four(order);
     let w = grid::scan(
@@ -174,7 +175,7 @@ pub extern "C" fn grid_scan(
     out: &mut [u16],
     count: &mut u32,
 ) -> u32
-    ensures { λ r. ⌜ Scans (now (header .entry)) (now (table .entry)) (now (values .entry)) capacity start (now (order .entry)) kind from to (now (out .entry)) (now (out .exit)) (now (count .exit)) r ⌝ }
+    ensures { λ r. ⌜ Scans (lentOf (now (header .entry)) (now (table .entry)) (now (values .entry))) capacity start (now (order .entry)) kind from to (now (out .entry)) (now (out .exit)) (now (count .exit)) r ⌝ }
 {
     scan_core(
         *header,
@@ -224,7 +225,7 @@ fn lookup_core(
     status: &mut u32,
     value: &mut f64,
 ) -> u32
-    ensures { λ r. ⌜ Looks header (now (table .entry)) (now (values .entry)) capacity speed load (now (number .exit)) (now (status .exit)) (now (value .exit)) r ⌝ }
+    ensures { λ r. ⌜ Looks (lentOf header (now (table .entry)) (now (values .entry))) capacity speed load (now (number .exit)) (now (status .exit)) (now (value .exit)) r ⌝ }
 {
     let found = grid::lookup(header, table, values, capacity, speed, load);
     let reading = found.reading;
@@ -247,7 +248,7 @@ pub extern "C" fn grid_lookup(
     status: &mut u32,
     value: &mut f64,
 ) -> u32
-    ensures { λ r. ⌜ Looks (now (header .entry)) (now (table .entry)) (now (values .entry)) capacity speed load (now (number .exit)) (now (status .exit)) (now (value .exit)) r ⌝ }
+    ensures { λ r. ⌜ Looks (lentOf (now (header .entry)) (now (table .entry)) (now (values .entry))) capacity speed load (now (number .exit)) (now (status .exit)) (now (value .exit)) r ⌝ }
 {
     lookup_core(
         *header,
@@ -270,7 +271,7 @@ fn page_core(
     out: &mut [u8],
     count: &mut usize,
 ) -> u32
-    ensures { λ r. ⌜ Pages header (now (table .entry)) (now (values .entry)) capacity (now (out .entry)) (now (out .exit)) (now (count .exit)) r ⌝ }
+    ensures { λ r. ⌜ Pages (lentOf header (now (table .entry)) (now (values .entry))) capacity (now (out .entry)) (now (out .exit)) (now (count .exit)) r ⌝ }
 {
     let w = grid::page(header, table, values, capacity, out);
     *count = w.count;
@@ -287,7 +288,7 @@ pub extern "C" fn grid_page(
     out: &mut [u8],
     count: &mut usize,
 ) -> u32
-    ensures { λ r. ⌜ Pages (now (header .entry)) (now (table .entry)) (now (values .entry)) capacity (now (out .entry)) (now (out .exit)) (now (count .exit)) r ⌝ }
+    ensures { λ r. ⌜ Pages (lentOf (now (header .entry)) (now (table .entry)) (now (values .entry))) capacity (now (out .entry)) (now (out .exit)) (now (count .exit)) r ⌝ }
 {
     page_core(*header, table, values, capacity, out, count)
 }

@@ -1,5 +1,6 @@
--- What the stock of free numbers is after each of its steps.
-pub mod Searching
-pub mod Restocking
-pub mod StockCounting
-pub mod KeepingStock
+-- What the map of free numbers is after each of its steps, and what it answers.
+pub mod MapBits
+pub mod Switching
+pub mod FirstFree
+pub mod FreeRows
+pub mod LoadingMap

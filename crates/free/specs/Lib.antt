@@ -1,3 +1,3 @@
--- Free numbers, and a stock of them that is kept along a tape.
+-- Free numbers, and the map of them that is kept along a tape.
+pub mod FreeMap
 pub mod Free
-pub mod Stock

@@ -1,4 +1,3 @@
-// Free numbers, kept along a tape.
-pub mod keep;
-pub mod next;
-pub mod restock;
+// Free numbers, kept in a map along a tape.
+pub mod load;
+pub mod map;

@@ -7,9 +7,10 @@ use mathlib.Core.List.{List}
 use lib.IntN.{ℤ}
 use lib.Ieee.{Float}
 use Rattle.mesh.specs.State.{Value, blank, measured, carried}
+use Rattle.mesh.specs.Picture.{Lent}
 use Rattle.mesh.specs.Call as Call
-use Rattle.mesh.specs.Headers.{lentOf}
-use Rattle.mesh.specs.declared.header.Header.{Header}
+use Rattle.header.specs.Headers.{lentOf}
+use Rattle.header.specs.declared.Header.{Header}
 use Rattle.lookup.specs.declared.Found.{Found}
 use Rattle.lookup.specs.declared.Reading.{Reading}
 use Rattle.lookup.specs.declared.Reading.the-variants.{Measured, Carried, Blank}
@@ -37,11 +38,11 @@ use Rattle.grid.specs.Calls.{wroteOf, Builds, Tapes}
 
 -- ---- what is lent
 
-module _ (h h′ : Header) (t t′ : List ℤ) (v v′ : List Float) where
-  pub lent-same : lentOf h t v ≡ lentOf h′ t′ v′ → (h ≡ h′) × (t ≡ t′) × (v ≡ v′)
-  lent-same e =
-      let x : h ≡ h′ = λ i. record { columns = e i .header .grid .columns; rows = e i .header .grid .rows; mode = e i .header .grid .mode; mark = e i .header .mark } in
-      (x, (λ i. e i .words), λ i. e i .values)
+-- it is the same only if each part of it is
+pub lent-same : (h h′ : Header) (t t′ : List ℤ) (v v′ : List Float) → lentOf h t v ≡ lentOf h′ t′ v′ → (h ≡ h′) × (t ≡ t′) × (v ≡ v′)
+lent-same h h′ t t′ v v′ e =
+    let x : h ≡ h′ = λ i. record { columns = e i .header .grid .columns; rows = e i .header .grid .rows; mode = e i .header .grid .mode; mark = e i .header .mark } in
+    (x, (λ i. e i .words), λ i. e i .values)
 
 -- ---- scan and page
 
@@ -72,20 +73,18 @@ found-unique r s a b =
 
 -- ---- build and tape
 
-module _ {h : Header} {t : List ℤ} {v : List Float} {cap : ℕ} (h₁ h₂ : Header) (t₁ t₂ : List ℤ) (v₁ v₂ : List Float) where
-  pub build-unique : {columns rows mode : ℕ} (r s : Built) → Builds h t v cap columns rows mode h₁ t₁ v₁ r → Builds h t v cap columns rows mode h₂ t₂ v₂ s → (r ≡ s) × (h₁ ≡ h₂) × (t₁ ≡ t₂) × (v₁ ≡ v₂)
+module _ {l : Lent} {cap : ℕ} (l₁ l₂ : Lent) where
+  pub build-unique : {columns rows mode : ℕ} (r s : Built) → Builds l cap columns rows mode l₁ r → Builds l cap columns rows mode l₂ s → (r ≡ s) × (l₁ ≡ l₂)
   build-unique r s a b =
       let e = a .is ∙ sym (b .is) in
       let x : r ≡ s = λ i. record { refusal = e i .refusal; used = e i .in-use } in
-      let (a₁, a₂, a₃) = lent-same h₁ h₂ t₁ t₂ v₁ v₂ (λ i. e i .lent) in
-      (x, a₁, a₂, a₃)
+      (x, λ i. e i .lent)
 
-  pub tape-unique : {bytes : List ℕ} (r s : Taped) → Tapes h t v cap bytes h₁ t₁ v₁ r → Tapes h t v cap bytes h₂ t₂ v₂ s → (r ≡ s) × (h₁ ≡ h₂) × (t₁ ≡ t₂) × (v₁ ≡ v₂)
+  pub tape-unique : {bytes : List ℕ} (r s : Taped) → Tapes l cap bytes l₁ r → Tapes l cap bytes l₂ s → (r ≡ s) × (l₁ ≡ l₂)
   tape-unique r s a b =
       let e = a .is ∙ sym (b .is) in
       let x : r ≡ s = λ i. record { done = e i .done; refusal = e i .refusal; offset = e i .offset } in
-      let (a₁, a₂, a₃) = lent-same h₁ h₂ t₁ t₂ v₁ v₂ (λ i. e i .lent) in
-      (x, a₁, a₂, a₃)
+      (x, λ i. e i .lent)
 
 -- ---- the contracts themselves: any two outcomes that one allows are equal
 
@@ -109,8 +108,8 @@ module _ (h : Header) (t : RefT (List ℤ)) (v : RefT (List Float)) (cap : ℕ) 
       BuildAllows r t′ v′ = build-core.Post κs (h, (t, (v, (cap, (columns, (rows, (mode, tt))))))) r (h, (at-last t t′, (at-last v v′, (cap, (columns, (rows, (mode, tt)))))))
 
       pub build-once : (r s : BuildOut) (t₁ t₂ : List ℤ) (v₁ v₂ : List Float) → BuildAllows r t₁ v₁ → BuildAllows s t₂ v₂
-          → (r .answer ≡ s .answer) × (r .header ≡ s .header) × (t₁ ≡ t₂) × (v₁ ≡ v₂)
-      build-once r s t₁ t₂ v₁ v₂ p q = build-unique (r .header) (s .header) t₁ t₂ v₁ v₂ (r .answer) (s .answer) p q
+          → (r .answer ≡ s .answer) × (lentOf (r .header) t₁ v₁ ≡ lentOf (s .header) t₂ v₂)
+      build-once r s t₁ t₂ v₁ v₂ p q = build-unique (lentOf (r .header) t₁ v₁) (lentOf (s .header) t₂ v₂) (r .answer) (s .answer) p q
 
   module _ (κs : Lfts 3) where
     module _ (bytes : RefT (List ℕ)) where
@@ -118,8 +117,8 @@ module _ (h : Header) (t : RefT (List ℤ)) (v : RefT (List Float)) (cap : ℕ) 
       TapeAllows r t′ v′ = tape-core.Post κs (h, (t, (v, (cap, (bytes, tt))))) r (h, (at-last t t′, (at-last v v′, (cap, (bytes, tt)))))
 
       pub tape-once : (r s : TapeOut) (t₁ t₂ : List ℤ) (v₁ v₂ : List Float) → TapeAllows r t₁ v₁ → TapeAllows s t₂ v₂
-          → (r .answer ≡ s .answer) × (r .header ≡ s .header) × (t₁ ≡ t₂) × (v₁ ≡ v₂)
-      tape-once r s t₁ t₂ v₁ v₂ p q = tape-unique (r .header) (s .header) t₁ t₂ v₁ v₂ (r .answer) (s .answer) p q
+          → (r .answer ≡ s .answer) × (lentOf (r .header) t₁ v₁ ≡ lentOf (s .header) t₂ v₂)
+      tape-once r s t₁ t₂ v₁ v₂ p q = tape-unique (lentOf (r .header) t₁ v₁) (lentOf (s .header) t₂ v₂) (r .answer) (s .answer) p q
 
     module _ (out : RefT (List ℕ)) where
       abbrev PageAllows : Wrote → List ℕ → Type 0
@@ -150,12 +149,12 @@ module _ (w : World) (h : RefT Header) (t : RefT (List ℤ)) (v : RefT (List Flo
         build.clauses (w .𝓤) (w .H) (w .𝓖 .A) (w .𝓜 .mem) (w .𝓡 .run) κs (h, (t, (v, (cap, (columns, (rows, (mode, tt))))))) .ensures tt r (at-last h h′, (at-last t t′, (at-last v v′, (cap, (columns, (rows, (mode, tt)))))))
 
     pub build-says : (r : Built) → build.spec (w .𝓤) (w .H) (w .𝓖 .A) (w .𝓜 .mem) (w .𝓡 .run) κs (h, (t, (v, (cap, (columns, (rows, (mode, tt))))))) .ensures tt r
-        ≡ exits (w .𝓤) (w .H) (w .𝓖 .A) build.signature (build.ended .kept) κs (h, (t, (v, (cap, (columns, (rows, (mode, tt))))))) (λ e. fact (w .𝓤) (Builds (h .now) (t .now) (v .now) cap columns rows mode (e .0 .now) (e .1 .0 .now) (e .1 .1 .0 .now) r))
+        ≡ exits (w .𝓤) (w .H) (w .𝓖 .A) build.signature (build.ended .kept) κs (h, (t, (v, (cap, (columns, (rows, (mode, tt))))))) (λ e. fact (w .𝓤) (Builds (lentOf (h .now) (t .now) (v .now)) cap columns rows mode (lentOf (e .0 .now) (e .1 .0 .now) (e .1 .1 .0 .now)) r))
     build-says r = refl
 
     pub build-entry-once : (P : Pr w) (r s : Built) (h₁ h₂ : Header) (t₁ t₂ : List ℤ) (v₁ v₂ : List Float) → ent (w .𝓤) P (BuildSays r h₁ t₁ v₁) → ent (w .𝓤) P (BuildSays s h₂ t₂ v₂)
-        → ent (w .𝓤) P (fact (w .𝓤) ((r ≡ s) × (h₁ ≡ h₂) × (t₁ ≡ t₂) × (v₁ ≡ v₂)))
-    build-entry-once P r s h₁ h₂ t₁ t₂ v₁ v₂ p q = both-told w P _ _ (build-unique h₁ h₂ t₁ t₂ v₁ v₂ r s) p q
+        → ent (w .𝓤) P (fact (w .𝓤) ((r ≡ s) × (lentOf h₁ t₁ v₁ ≡ lentOf h₂ t₂ v₂)))
+    build-entry-once P r s h₁ h₂ t₁ t₂ v₁ v₂ p q = both-told w P _ _ (build-unique (lentOf h₁ t₁ v₁) (lentOf h₂ t₂ v₂) r s) p q
 
   module _ (κs : Lfts 4) (bytes : RefT (List ℕ)) where
     abbrev TapeSays : Taped → Header → List ℤ → List Float → Pr w
@@ -163,9 +162,9 @@ module _ (w : World) (h : RefT Header) (t : RefT (List ℤ)) (v : RefT (List Flo
         tape.clauses (w .𝓤) (w .H) (w .𝓖 .A) (w .𝓜 .mem) (w .𝓡 .run) κs (h, (t, (v, (cap, (bytes, tt))))) .ensures tt r (at-last h h′, (at-last t t′, (at-last v v′, (cap, (bytes, tt)))))
 
     pub tape-says : (r : Taped) → tape.spec (w .𝓤) (w .H) (w .𝓖 .A) (w .𝓜 .mem) (w .𝓡 .run) κs (h, (t, (v, (cap, (bytes, tt))))) .ensures tt r
-        ≡ exits (w .𝓤) (w .H) (w .𝓖 .A) tape.signature (tape.ended .kept) κs (h, (t, (v, (cap, (bytes, tt))))) (λ e. fact (w .𝓤) (Tapes (h .now) (t .now) (v .now) cap (bytes .now) (e .0 .now) (e .1 .0 .now) (e .1 .1 .0 .now) r))
+        ≡ exits (w .𝓤) (w .H) (w .𝓖 .A) tape.signature (tape.ended .kept) κs (h, (t, (v, (cap, (bytes, tt))))) (λ e. fact (w .𝓤) (Tapes (lentOf (h .now) (t .now) (v .now)) cap (bytes .now) (lentOf (e .0 .now) (e .1 .0 .now) (e .1 .1 .0 .now)) r))
     tape-says r = refl
 
     pub tape-entry-once : (P : Pr w) (r s : Taped) (h₁ h₂ : Header) (t₁ t₂ : List ℤ) (v₁ v₂ : List Float) → ent (w .𝓤) P (TapeSays r h₁ t₁ v₁) → ent (w .𝓤) P (TapeSays s h₂ t₂ v₂)
-        → ent (w .𝓤) P (fact (w .𝓤) ((r ≡ s) × (h₁ ≡ h₂) × (t₁ ≡ t₂) × (v₁ ≡ v₂)))
-    tape-entry-once P r s h₁ h₂ t₁ t₂ v₁ v₂ p q = both-told w P _ _ (tape-unique h₁ h₂ t₁ t₂ v₁ v₂ r s) p q
+        → ent (w .𝓤) P (fact (w .𝓤) ((r ≡ s) × (lentOf h₁ t₁ v₁ ≡ lentOf h₂ t₂ v₂)))
+    tape-entry-once P r s h₁ h₂ t₁ t₂ v₁ v₂ p q = both-told w P _ _ (tape-unique (lentOf h₁ t₁ v₁) (lentOf h₂ t₂ v₂) r s) p q

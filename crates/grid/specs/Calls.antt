@@ -3,13 +3,9 @@
 use Prim.Native.Nat.{ℕ}
 use mathlib.Core.Path.{_≡_}
 use mathlib.Core.List.{List}
-use lib.IntN.{ℤ}
-use lib.Ieee.{Float}
 use Rattle.mesh.specs.Place.{Grid}
-use Rattle.mesh.specs.State as State
+use Rattle.mesh.specs.Picture.{Lent}
 use Rattle.mesh.specs.Call as Call
-use Rattle.mesh.specs.Headers.{lentOf}
-use Rattle.mesh.specs.declared.header.Header.{Header}
 use Rattle.grid.specs.declared.Wrote.{Wrote}
 use Rattle.grid.specs.declared.Built.{Built}
 use Rattle.grid.specs.declared.Taped.{Taped}
@@ -18,28 +14,24 @@ use Rattle.grid.specs.declared.Taped.{Taped}
 abbrev pub wroteOf : Wrote → List ℕ → Call.Wrote
 wroteOf r out = record { refusal = r .refusal; count = r .count; out = out }
 
--- lists lent with any header
-abbrev pub lists : State.Header → List ℤ → List Float → Call.Lent
-lists h t v = record { header = h; words = t; values = v }
-
 -- ---- build
 
-abbrev pub builtOf : Built → Header → List ℤ → List Float → Call.Built
-builtOf r h t v = record { refusal = r .refusal; in-use = r .used; lent = lentOf h t v }
+abbrev pub builtOf : Built → Lent → Call.Built
+builtOf r l = record { refusal = r .refusal; in-use = r .used; lent = l }
 
 -- the grid that it is asked for
 abbrev pub asked : ℕ → ℕ → ℕ → Grid
 asked columns rows mode = record { columns = columns; rows = rows; mode = mode }
 
--- what a build may do: the header, the lists, the capacity, columns, rows and mode at entry; the header, the lists and the answer at exit
-pub record Builds (h : Header) (t : List ℤ) (v : List Float) (cap columns rows mode : ℕ) (h′ : Header) (t′ : List ℤ) (v′ : List Float) (r : Built) : Type 0 where
-  pub is : builtOf r h′ t′ v′ ≡ Call.buildCall cap (lentOf h t v) (asked columns rows mode)
+-- what a build may do: what is lent, the capacity, columns, rows and mode at entry; what is lent and the answer at exit
+pub record Builds (l : Lent) (cap columns rows mode : ℕ) (l′ : Lent) (r : Built) : Type 0 where
+  pub is : builtOf r l′ ≡ Call.buildCall cap l (asked columns rows mode)
 
 -- ---- tape
 
-abbrev pub tapedOf : Taped → Header → List ℤ → List Float → Call.Taped
-tapedOf r h t v = record { done = r .done; refusal = r .refusal; offset = r .offset; lent = lentOf h t v }
+abbrev pub tapedOf : Taped → Lent → Call.Taped
+tapedOf r l = record { done = r .done; refusal = r .refusal; offset = r .offset; lent = l }
 
--- what a tape may do: the header, the lists, the capacity and the bytes at entry; the header, the lists and the answer at exit
-pub record Tapes (h : Header) (t : List ℤ) (v : List Float) (cap : ℕ) (bytes : List ℕ) (h′ : Header) (t′ : List ℤ) (v′ : List Float) (r : Taped) : Type 0 where
-  pub is : tapedOf r h′ t′ v′ ≡ Call.tapeCall cap (lentOf h t v) bytes
+-- what a tape may do: what is lent, the capacity and the bytes at entry; what is lent and the answer at exit
+pub record Tapes (l : Lent) (cap : ℕ) (bytes : List ℕ) (l′ : Lent) (r : Taped) : Type 0 where
+  pub is : tapedOf r l′ ≡ Call.tapeCall cap l bytes

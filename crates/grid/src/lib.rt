@@ -1,18 +1,17 @@
 // The public calls of the grid library. Every call takes any lists of any length and any header, and refuses by number; none has a `requires`.
 ghost use mathlib.Core.Path.{_≡_};
-ghost use Rattle.mesh.specs.State as State;
 ghost use Rattle.mesh.specs.Refusal.{refusal};
 ghost use Rattle.mesh.specs.Lookup as Lookup;
 ghost use Rattle.mesh.specs.Call.{checkCall, scanCall, lookupCall, pageCall, buildChecks};
-ghost use Rattle.mesh.specs.Headers.{headerOf, lentOf};
+ghost use Rattle.header.specs.Headers.{headerOf, lentOf};
 ghost use Rattle.lookup.specs.LookupRows.{foundOf};
-ghost use Rattle.grid.specs.Calls.{lists, wroteOf, Builds, Tapes};
+ghost use Rattle.grid.specs.Calls.{wroteOf, Builds, Tapes};
+use header::Header;
+use header::fresh;
+use header::is_ring;
+use header::with_mark;
 use lookup::Found;
 use lookup::Reading;
-use mesh::header::Header;
-use mesh::header::fresh;
-use mesh::header::is_ring;
-use mesh::header::with_mark;
 
 // What a scan or a page answers: a refusal or 0, and how many places of the output it wrote.
 pub struct Wrote {
@@ -57,7 +56,7 @@ pub fn scan(
     if refusal != 0 {
         return Wrote { refusal, count: 0 };
     }
-    let d = mesh::ground_depth(header);
+    let d = header::ground_depth(header);
     let w = scan::scan_out(
         table,
         capacity as usize,
@@ -101,7 +100,7 @@ pub fn lookup(header: Header, table: &[i32], values: &[f64], capacity: u32, x: u
             reading: Reading::Blank,
         };
     }
-    let d = mesh::ground_depth(header);
+    let d = header::ground_depth(header);
     lookup::lookup_out(table, values, capacity as usize, d, x, y)
 }
 
@@ -113,7 +112,7 @@ pub fn page(header: Header, table: &[i32], values: &[f64], capacity: u32, out: &
     if refusal != 0 {
         return Wrote { refusal, count: 0 };
     }
-    let d = mesh::ground_depth(header);
+    let d = header::ground_depth(header);
     let p = page::pages::write_page(header, table, values, capacity as usize, d, out);
     Wrote {
         refusal: p.refusal,
@@ -123,14 +122,14 @@ pub fn page(header: Header, table: &[i32], values: &[f64], capacity: u32, out: &
 
 // The refusal of a build, or 0: the old contents of the lists are not read.
 fn build_refusal(table: &[i32], values: &[f64], capacity: u32, header: Header) -> u32
-    ensures { λ r. ⌜ ((h : State.Header) → r ≡ refusal (buildChecks capacity (lists h (now (table .entry)) (now (values .entry))) (headerOf header .grid))) ⌝ }
+    ensures { λ r. ⌜ r ≡ refusal (buildChecks capacity (lentOf header (now (table .entry)) (now (values .entry))) (headerOf header .grid)) ⌝ }
 {
     let early = checker::lent::first_refusal(header, table, values, capacity);
     if early != 0 {
         return early;
     }
     let cap = capacity as usize;
-    let d = mesh::ground_depth(header);
+    let d = header::ground_depth(header);
     if cap < build::count::patches_in(header, d) {
         return 11;
     }
@@ -147,7 +146,7 @@ pub fn build_core(
     rows: u32,
     mode: u32,
 ) -> BuildOut
-    ensures { λ r. ⌜ Builds header (now (table .entry)) (now (values .entry)) capacity columns rows mode (r .header) (now (table .exit)) (now (values .exit)) (r .answer) ⌝ }
+    ensures { λ r. ⌜ Builds (lentOf header (now (table .entry)) (now (values .entry))) capacity columns rows mode (lentOf (r .header) (now (table .exit)) (now (values .exit))) (r .answer) ⌝ }
 {
     let new = fresh(columns, rows, mode);
     let refusal = build_refusal(table, values, capacity, new);
@@ -184,29 +183,21 @@ pub fn tape_core(
     capacity: u32,
     tape: &[u8],
 ) -> TapeOut
-    ensures { λ r. ⌜ Tapes header (now (table .entry)) (now (values .entry)) capacity (now (tape .entry)) (r .header) (now (table .exit)) (now (values .exit)) (r .answer) ⌝ }
+    ensures { λ r. ⌜ Tapes (lentOf header (now (table .entry)) (now (values .entry))) capacity (now (tape .entry)) (lentOf (r .header) (now (table .exit)) (now (values .exit))) (r .answer) ⌝ }
 {
-    let c = checker::checks::check_first(header, table, values, capacity);
-    if c.refusal != 0 {
+    let refusal = check(header, table, values, capacity);
+    if refusal != 0 {
         return TapeOut {
             header,
             answer: Taped {
                 done: 0,
-                refusal: c.refusal,
+                refusal,
                 offset: 0,
             },
         };
     }
-    let d = mesh::ground_depth(header);
-    let r = tape::turns::run_tape(
-        table,
-        values,
-        capacity as usize,
-        d,
-        c.first,
-        header.mark,
-        tape,
-    );
+    let d = header::ground_depth(header);
+    let r = tape::turns::run_tape(table, values, capacity as usize, d, header.mark, tape);
     let left = with_mark(header, r.mark);
     TapeOut {
         header: left,
@@ -228,7 +219,7 @@ pub fn build(
     rows: u32,
     mode: u32,
 ) -> Built
-    ensures { λ r. ⌜ Builds (now (header .entry)) (now (table .entry)) (now (values .entry)) capacity columns rows mode (now (header .exit)) (now (table .exit)) (now (values .exit)) r ⌝ }
+    ensures { λ r. ⌜ Builds (lentOf (now (header .entry)) (now (table .entry)) (now (values .entry))) capacity columns rows mode (lentOf (now (header .exit)) (now (table .exit)) (now (values .exit))) r ⌝ }
 {
     let out = build_core(*header, table, values, capacity, columns, rows, mode);
     *header = out.header;
@@ -243,7 +234,7 @@ pub fn tape(
     capacity: u32,
     tape: &[u8],
 ) -> Taped
-    ensures { λ r. ⌜ Tapes (now (header .entry)) (now (table .entry)) (now (values .entry)) capacity (now (tape .entry)) (now (header .exit)) (now (table .exit)) (now (values .exit)) r ⌝ }
+    ensures { λ r. ⌜ Tapes (lentOf (now (header .entry)) (now (table .entry)) (now (values .entry))) capacity (now (tape .entry)) (lentOf (now (header .exit)) (now (table .exit)) (now (values .exit))) r ⌝ }
 {
     let out = tape_core(*header, table, values, capacity, tape);
     *header = out.header;

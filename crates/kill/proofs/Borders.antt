@@ -13,15 +13,15 @@ use lib.ListN.{length, getD, drop, drop-of-length-le}
 use lib.Seq.{drop-cons}
 use lib.IntN.{ℤ}
 use Rattle.mesh.specs.Tools.{all}
-use Rattle.mesh.specs.Picture.{linkWords, eastWord, flagsWord, northWord, southWord, statusWord, westWord, neWord, seWord, swWord, nwWord}
+use Rattle.mesh.specs.Picture.{linkWords, eastWord, flagsWord, northWord, southWord, westWord, neWord, seWord, swWord, nwWord}
 use Rattle.table.specs.Words.{linkOf}
+use Rattle.table.specs.Carried.{putStatus, nothing}
 use Rattle.edit_laws.specs.Steps.{putWord}
 use Rattle.edit_laws.specs.Anew.{wallRow, pointRow}
-use Rattle.edit_laws.specs.Tables.{Lowers, Border, eachKid, eachDown, alongCorners, alongBorder, refreshLevel, refreshLevels, dropCorner, killTable}
-use Rattle.edit_laws.proofs.Lowering.{lowers-nothing, lowers-then, lowers-none, frees-word, frees-flags, frees-levels}
+use Rattle.edit_laws.specs.Tables.{Border, eachKid, eachDown, alongCorners, alongBorder, refreshLevel, refreshLevels, dropCorner, cleared, droppedCorners, killTable}
 use Rattle.place_laws.proofs.Bools.{yes-is, is-yes, or-left, or-right, or-cases, and-left, and-right, neither}
 use Rattle.place_laws.proofs.Lists.{all-at, all-weaken}
-use Rattle.kill.specs.Borders.{isLink, passRow, bareDown, BareCorners, BareBorder, stillBorder, cleared}
+use Rattle.kill.specs.Borders.{isLink, passRow, bareDown, BareCorners, BareBorder, stillBorder, cornersDropped}
 
 -- ---- down by kids
 
@@ -252,43 +252,29 @@ levels-end b t cap d n e k = levels-bare b t cap d n (e + 1) (border-up k)
 
 -- ---- a killed cell
 
+pub cell-cleared : (t : List ℤ) (n : ℕ) {t₁ t₂ : List ℤ} → t₁ ≡ putWord t n flagsWord 0 → t₂ ≡ putStatus t₁ n nothing → t₂ ≡ cleared t n
+cell-cleared t n h1 h2 = rw (h2, h1)
+
 module _ (t : List ℤ) (cap d n : ℕ) where
-  pub cell-cleared : (north east both : ℕ) {t₁ t₂ t₃ t₄ t₅ t₆ : List ℤ} →
-      t₁ ≡ putWord t n flagsWord 0 →
-      t₂ ≡ putWord t₁ n statusWord 0 →
-      t₃ ≡ dropCorner t₂ cap d both →
-      t₄ ≡ dropCorner t₃ cap d north →
-      t₅ ≡ dropCorner t₄ cap d east →
-      t₆ ≡ dropCorner t₅ cap d n →
-      t₆ ≡ cleared t cap d n north east both
-  cell-cleared north east both h1 h2 h3 h4 h5 h6 = rw (h6, h5, h4, h3, h2, h1)
+  pub corners-gone : (north east both : ℕ) {t₁ t₂ t₃ t₄ t₅ : List ℤ} →
+      t₁ ≡ cleared t n →
+      t₂ ≡ dropCorner t₁ cap d both →
+      t₃ ≡ dropCorner t₂ cap d north →
+      t₄ ≡ dropCorner t₃ cap d east →
+      t₅ ≡ dropCorner t₄ cap d n →
+      t₅ ≡ cornersDropped t cap d n north east both
+  corners-gone north east both h1 h2 h3 h4 h5 = rw (h5, h4, h3, h2, h1)
 
-  pub killed : {north east both south west : ℕ} {t₁ t₂ : List ℤ} (b : Border) →
-      north ≡ linkOf t cap n northWord →
-      east ≡ linkOf t cap n eastWord →
-      both ≡ linkOf t cap east northWord →
-      south ≡ linkOf t cap n southWord →
-      west ≡ linkOf t cap n westWord →
-      t₁ ≡ cleared t cap d n north east both →
-      b ≡ stillBorder t₁ n north east both south west →
-      t₂ ≡ refreshLevels 13 b 0 t₁ cap d →
-      t₂ ≡ killTable t cap d n
-  unfolding killTable
-  killed b h1 h2 h3 h4 h5 h6 h7 h8 = rw (h8, h7, h6, h5, h4, h3, h2, h1)
+  module _ {north east both : ℕ} {t₁ : List ℤ} (h1 : north ≡ linkOf t cap n northWord) (h2 : east ≡ linkOf t cap n eastWord) (h3 : both ≡ linkOf t cap east northWord)
+      (h4 : t₁ ≡ cornersDropped t cap d n north east both) where
+    pub all-dropped : t₁ ≡ droppedCorners t cap d n
+    all-dropped = rw (h4, h3, h2, h1)
 
--- ---- the numbers that a kill frees are those of the corners and the ghosts that go
-
-pub cleared-lowers : (t : List ℤ) (n : ℕ) {low a b c r : ℕ} {t₁ t₂ t₃ t₄ t₅ t₆ : List ℤ} →
-    t₁ ≡ putWord t n flagsWord 0 →
-    t₂ ≡ putWord t₁ n statusWord 0 →
-    Lowers t₂ t₃ low a →
-    Lowers t₃ t₄ a b →
-    Lowers t₄ t₅ b c →
-    Lowers t₅ t₆ c r →
-    Lowers t t₆ low r
-cleared-lowers t n {low} {t₁ = t₁} h1 h2 f g h i =
-    let none : Lowers t t₁ low low = lowers-none (lowers-nothing t low) (rw h1 (frees-flags t n 0 (λ e. omega arith))) in
-    lowers-then (lowers-none none (rw h2 (frees-word t₁ n statusWord 0 (omega arith) (λ e. omega arith)))) (lowers-then f (lowers-then g (lowers-then h i)))
-
-pub killed-lowers : (cap d : ℕ) (b : Border) {low r : ℕ} {t t₁ t₂ : List ℤ} → Lowers t t₁ low r → t₂ ≡ refreshLevels 13 b 0 t₁ cap d → Lowers t t₂ low r
-killed-lowers cap d b {t₁ = t₁} f h = rw h (lowers-none f (frees-levels cap d 13 b 0 t₁))
+    pub killed : {south west : ℕ} {t₂ : List ℤ} (b : Border) →
+        south ≡ linkOf t cap n southWord →
+        west ≡ linkOf t cap n westWord →
+        b ≡ stillBorder t₁ n north east both south west →
+        t₂ ≡ refreshLevels 13 b 0 t₁ cap d →
+        t₂ ≡ killTable t cap d n
+    unfolding killTable
+    killed b h5 h6 h7 h8 = rw (h8, h7, all-dropped, h6, h5, h3, h2, h1)

@@ -6,12 +6,11 @@ use mathlib.Core.List.{List, [], _∷_}
 use lib.Dec.{T, eqb, ltb}
 use lib.IntN.{ℤ}
 use Rattle.mesh.specs.Tools.{all}
-use Rattle.mesh.specs.Picture.{linkWords, neWord, seWord, swWord, nwWord, flagsWord, statusWord}
+use Rattle.mesh.specs.Picture.{linkWords, neWord, seWord, swWord, nwWord}
 use Rattle.table.specs.Words.{linkOf}
-use Rattle.edit_laws.specs.Steps.{putWord}
 use Rattle.edit_laws.specs.Anew.{wallRow, pointRow}
 use Rattle.edit_laws.specs.Tables as Tables
-use Rattle.edit_laws.specs.Tables.{stillUsed, dropCorner}
+use Rattle.edit_laws.specs.Tables.{stillUsed, dropCorner, cleared}
 use Rattle.kill.specs.declared.Border.{Border}
 
 -- a word of a row that is a link
@@ -62,6 +61,5 @@ stillBorder t n north east both south west =
     record { own = stillUsed t n; north = stillUsed t north; east = stillUsed t east; both = stillUsed t both; south = south; west = west }
 
 -- the row n is no cell, and its corners go that no cell touches
-abbrev pub cleared : List ℤ → ℕ → ℕ → ℕ → ℕ → ℕ → ℕ → List ℤ
-cleared t cap d n north east both =
-    dropCorner (dropCorner (dropCorner (dropCorner (putWord (putWord t n flagsWord 0) n statusWord 0) cap d both) cap d north) cap d east) cap d n
+abbrev pub cornersDropped : List ℤ → ℕ → ℕ → ℕ → ℕ → ℕ → ℕ → List ℤ
+cornersDropped t cap d n north east both = dropCorner (dropCorner (dropCorner (dropCorner (cleared t n) cap d both) cap d north) cap d east) cap d n

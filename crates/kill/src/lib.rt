@@ -6,17 +6,19 @@ ghost use lib.Dec.{T};
 ghost use lib.ListN.{length, getD};
 ghost use Rattle.mesh.specs.Tools.{all};
 ghost use Rattle.mesh.specs.Picture.{rowWords};
-ghost use Rattle.table.specs.Words.{linkOf};
+ghost use Rattle.table.specs.Words.{linkOf, freeAt};
 ghost use Rattle.table.specs.Plain.{Plain};
 ghost use Rattle.table.specs.Worked.{kidless};
-ghost use Rattle.edit_laws.specs.Steps.{takeOut};
-ghost use Rattle.edit_laws.specs.Tables.{Lowers, dropUp, dropCorner, eachDown, alongCorners, refreshLevel, refreshLevels, stillUsed, killTable, killValues};
-ghost use Rattle.kill.specs.Borders.{isLink, passRow, bareDown, BareCorners, BareBorder, Within, borderOf, stillBorder, cleared};
-use free::next::lesser;
+ghost use Rattle.free.specs.FreeMap.{Mapped};
+ghost use Rattle.edit_laws.specs.Tables.{dropUp, dropCorner, cleared, droppedCorners, eachDown, alongCorners, refreshLevel, refreshLevels, stillUsed, killTable, killValues};
+ghost use Rattle.kill.specs.Borders.{isLink, passRow, bareDown, BareCorners, BareBorder, Within, borderOf, stillBorder, cornersDropped};
+use free::map::Spare;
 use patch::anew::point_row;
 use patch::anew::wall_row;
-use patch::links::take_out;
+use patch::freed::free_row;
 use patch::links::touched_row;
+use table::carried::blank;
+use table::carried::put_carried;
 use table::flag_bits::FREE;
 use table::plain::link;
 use table::words::EAST;
@@ -27,12 +29,10 @@ use table::words::NW_KID;
 use table::words::PARENT;
 use table::words::SE_KID;
 use table::words::SOUTH;
-use table::words::STATUS;
 use table::words::SW_KID;
 use table::words::WEST;
 use table::words::word;
 use table::writes::put;
-use table::writes::put_value;
 
 // The words of the kids in a byte each.
 const NE: u8 = NE_KID as u8;
@@ -55,52 +55,43 @@ fn kidless(t: &[i32], cap: usize, n: usize) -> bool
     (a == 0) & ((b == 0) & ((c == 0) & (e == 0)))
 }
 
-// The row k, which has no kids, is free; the least number that is freed, with it.
-fn free_row(t: &mut [i32], cap: usize, k: usize, low: usize) -> usize
-    requires { ⌜ Plain (now t) cap × (1 ≤ k) × (k ≤ cap) ⌝ }
-    ensures { λ r. ⌜ (now (t .exit) ≡ takeOut (now (t .entry)) cap k) × Lowers (now (t .entry)) (now (t .exit)) low r × Plain (now (t .exit)) cap ⌝ }
-{
-    take_out(t, cap, k);
-    lesser(low, k)
-}
-
 // A ghost without a kid goes, and then its parent if that has none left, up to so many levels.
-fn drop_up(t: &mut [i32], cap: usize, levels: u32, n: usize, low: usize) -> usize
-    requires { ⌜ Plain (now t) cap × (n ≤ cap) ⌝ }
-    ensures { λ r. ⌜ (now (t .exit) ≡ dropUp levels (now (t .entry)) cap n) × Lowers (now (t .entry)) (now (t .exit)) low r × Plain (now (t .exit)) cap ⌝ }
+fn drop_up(t: &mut [i32], cap: usize, map: &mut [u64; 64], s: Spare, levels: u32, n: usize) -> Spare
+    requires { ⌜ Plain (now t) cap × (n ≤ cap) × Mapped (freeAt (now t)) (now map) (s .top) (s .count) ⌝ }
+    ensures { λ r. ⌜ (now (t .exit) ≡ dropUp levels (now (t .entry)) cap n) × Plain (now (t .exit)) cap × Mapped (freeAt (now (t .exit))) (now (map .exit)) (r .top) (r .count) ⌝ }
 {
     let mut e = levels;
     let mut k = n;
-    let mut least = low;
+    let mut a = s;
     while e > 0 {
         if k == 0 {
-            return least;
+            return a;
         }
         if !kidless(t, cap, k) {
-            return least;
+            return a;
         }
         let p = link(t, cap, k, PARENT);
-        least = free_row(t, cap, k, least);
+        a = free_row(t, cap, map, a, k);
         k = p;
         e -= 1;
     }
-    least
+    a
 }
 
 // A corner of the killed cell that no cell touches goes, and the ghosts above it that have no kid left.
-fn drop_corner(t: &mut [i32], cap: usize, d: u32, n: usize, low: usize) -> usize
-    requires { ⌜ Plain (now t) cap × (n ≤ cap) ⌝ }
-    ensures { λ r. ⌜ (now (t .exit) ≡ dropCorner (now (t .entry)) cap d n) × Lowers (now (t .entry)) (now (t .exit)) low r × Plain (now (t .exit)) cap ⌝ }
+fn drop_corner(t: &mut [i32], cap: usize, map: &mut [u64; 64], s: Spare, d: u32, n: usize) -> Spare
+    requires { ⌜ Plain (now t) cap × (n ≤ cap) × Mapped (freeAt (now t)) (now map) (s .top) (s .count) ⌝ }
+    ensures { λ r. ⌜ (now (t .exit) ≡ dropCorner (now (t .entry)) cap d n) × Plain (now (t .exit)) cap × Mapped (freeAt (now (t .exit))) (now (map .exit)) (r .top) (r .count) ⌝ }
 {
     if n == 0 {
-        return low;
+        return s;
     }
-    if touched_row(t, cap, d, n) {
-        return low;
+    if touched_row(t, cap, n) {
+        return s;
     }
     let p = link(t, cap, n, PARENT);
-    let a = free_row(t, cap, n, low);
-    drop_up(t, cap, d, p, a)
+    let a = free_row(t, cap, map, s, n);
+    drop_up(t, cap, map, a, d, p)
 }
 
 // The row n with its walls anew, or with its points and its cell.
@@ -236,55 +227,47 @@ fn still_border(
 // The cell n is none, and those of its corners that no cell touches any more go.
 fn clear_cell(
     t: &mut [i32],
+    v: &mut [f64],
     cap: usize,
+    map: &mut [u64; 64],
+    s: Spare,
     d: u32,
     n: usize,
     north: usize,
     east: usize,
     both: usize,
-    low: usize,
-) -> usize
-    requires { ⌜ Plain (now t) cap × (n ≤ cap) × (north ≤ cap) × (east ≤ cap) × (both ≤ cap) ⌝ }
-    ensures { λ r. ⌜ (now (t .exit) ≡ cleared (now (t .entry)) cap d n north east both) × Lowers (now (t .entry)) (now (t .exit)) low r × Plain (now (t .exit)) cap ⌝ }
+) -> Spare
+    requires { ⌜ Plain (now t) cap × (cap < length (now v)) × (n ≤ cap) × (north ≤ cap) × (east ≤ cap) × (both ≤ cap) × Mapped (freeAt (cleared (now t) n)) (now map) (s .top) (s .count) ⌝ }
+    ensures { λ r. ⌜ (now (t .exit) ≡ cornersDropped (now (t .entry)) cap d n north east both) × (now (v .exit) ≡ killValues n (now (v .entry))) × Plain (now (t .exit)) cap × Mapped (freeAt (now (t .exit))) (now (map .exit)) (r .top) (r .count) ⌝ }
 {
     put(t, n, FLAGS, 0);
-    put(t, n, STATUS, 0);
-    let a = drop_corner(t, cap, d, both, low);
-    let b = drop_corner(t, cap, d, north, a);
-    let c = drop_corner(t, cap, d, east, b);
-    drop_corner(t, cap, d, n, c)
+    put_carried(t, v, n, blank());
+    let a = drop_corner(t, cap, map, s, d, both);
+    let b = drop_corner(t, cap, map, a, d, north);
+    let c = drop_corner(t, cap, map, b, d, east);
+    drop_corner(t, cap, map, c, d, n)
 }
 
-// Kills the cell n; the bound below which no number is free, after it.
-pub fn kill_table(t: &mut [i32], cap: usize, d: u32, n: usize, low: usize) -> usize
-    requires { ⌜ Plain (now t) cap × (n ≤ cap) × (d ≤ 32) ⌝ }
-    ensures { λ r. ⌜ (now (t .exit) ≡ killTable (now (t .entry)) cap d n) × Lowers (now (t .entry)) (now (t .exit)) low r ⌝ }
+// Kills the cell n. The map is that of the table when it is no cell, and then that of the table without the rows that go.
+pub fn kill(
+    t: &mut [i32],
+    v: &mut [f64],
+    cap: usize,
+    map: &mut [u64; 64],
+    s: Spare,
+    d: u32,
+    n: usize,
+) -> Spare
+    requires { ⌜ Plain (now t) cap × (cap < length (now v)) × (n ≤ cap) × (d ≤ 32) × Mapped (freeAt (cleared (now t) n)) (now map) (s .top) (s .count) ⌝ }
+    ensures { λ r. ⌜ (now (t .exit) ≡ killTable (now (t .entry)) cap d n) × (now (v .exit) ≡ killValues n (now (v .entry))) × Mapped (freeAt (droppedCorners (now (t .entry)) cap d n)) (now (map .exit)) (r .top) (r .count) ⌝ }
 {
     let north = link(t, cap, n, NORTH);
     let east = link(t, cap, n, EAST);
     let both = link(t, cap, east, NORTH);
     let south = link(t, cap, n, SOUTH);
     let west = link(t, cap, n, WEST);
-    let next = clear_cell(t, cap, d, n, north, east, both, low);
+    let a = clear_cell(t, v, cap, map, s, d, n, north, east, both);
     let b = still_border(t, cap, n, north, east, both, south, west);
     refresh_levels(t, cap, d, b);
-    next
-}
-
-// The values.
-pub fn kill_values(v: &mut [f64], n: usize)
-    requires { ⌜ n < length (now v) ⌝ }
-    ensures { λ _. ⌜ now (v .exit) ≡ killValues n (now (v .entry)) ⌝ }
-{
-    put_value(v, n, 0.0);
-}
-
-// Kills the cell n, its value too.
-pub fn kill(t: &mut [i32], v: &mut [f64], cap: usize, d: u32, n: usize, low: usize) -> usize
-    requires { ⌜ Plain (now t) cap × (cap < length (now v)) × (n ≤ cap) × (d ≤ 32) ⌝ }
-    ensures { λ r. ⌜ (now (t .exit) ≡ killTable (now (t .entry)) cap d n) × (now (v .exit) ≡ killValues n (now (v .entry))) × Lowers (now (t .entry)) (now (t .exit)) low r ⌝ }
-{
-    let next = kill_table(t, cap, d, n, low);
-    kill_values(v, n);
-    next
+    a
 }

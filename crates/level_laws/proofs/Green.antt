@@ -14,7 +14,7 @@ use Rattle.mesh.specs.Place.{Place, Grid, Wind, N, E, S, W, compass, sideWinds,
 use Rattle.mesh.specs.Mesh.{Mesh, isGreen, wallOf, on, inArea, wallH, wallV, sides, derived}
 use Rattle.mesh.specs.Jump.{bare, coarseBeside}
 use Rattle.place_laws.proofs.Bools.{yes-is}
-use Rattle.place_laws.proofs.Places.{step-back}
+use Rattle.place_laws.proofs.Steps.{step-back}
 use Rattle.place_laws.proofs.SideDigits.{aside, step-depth}
 use Rattle.place_laws.proofs.Walls.{wall, home-ground}
 

@@ -11,11 +11,10 @@ use mathlib.Core.Logic.{_⊎_, inl, inr}
 use mathlib.Core.Bool.{Bool}
 use mathlib.Core.Option.{some}
 use lib.Dec.{T}
-use Rattle.mesh.specs.Place.{Place, Grid, Wind, N, E, S, W, base, lap, home, toSouth, toWest, step, parent}
+use Rattle.mesh.specs.Place.{Place, Grid, Wind, N, E, S, W, at, base, lap, home, step, parent}
 use Rattle.mesh.specs.Mesh.{Mesh, on, hasKids, leaf}
 use Rattle.mesh.specs.Holding.{side, westEdge, eastEdge, southEdge, northEdge, holds}
-use Rattle.place_laws.proofs.Laps.{before-on, before-anew}
-use Rattle.place_laws.proofs.Places.{step-back}
+use Rattle.place_laws.proofs.Steps.{south-on, south-anew, west-on, step-back}
 use Rattle.place_laws.proofs.Kids.{up-is, kid-has, leaf-cell, leaf-kidless}
 use Rattle.place_laws.proofs.SideDigits.{aside}
 use Rattle.place_laws.proofs.Walls.{home-up, home-cell}
@@ -58,17 +57,17 @@ module _ (g : Grid) (e : ℕ) where
   len-pos = one-le-pow (base g + 12 - e) 2 (omega arith)
 
   west-of : (k v : ℕ) → step g W (placeAt g e (suc k * len) v) ≡ some (placeAt g e (suc k * len - 1) v)
-  unfolding placeAt step toWest
-  west-of k v = let (a, b) = index len k len-pos in rw (a, b)
+  unfolding placeAt
+  west-of k v = let (a, b) = index len k len-pos in rw (a, b) (west-on g e k (v / len))
 
   south-of : (k u : ℕ) → (suc k ≡ lap g e → ⊥) → step g S (placeAt g e u (suc k * len)) ≡ some (placeAt g e u (suc k * len - 1))
-  unfolding placeAt step toSouth
-  south-of k u h = let (a, b) = index len k len-pos in rw (a, b, before-on (lap g e) k h)
+  unfolding placeAt
+  south-of k u h = let (a, b) = index len k len-pos in rw (a, b) (south-on g e (u / len) k h)
 
   -- over the seam
   south-round : (k u : ℕ) → suc k ≡ lap g e → step g S (placeAt g e u 0) ≡ some (placeAt g e u (suc k * len - 1))
-  unfolding placeAt step toSouth
-  south-round k u h = let (a, b) = index len k len-pos in rw (zero-div len, b, before-anew (lap g e) k h)
+  unfolding placeAt
+  south-round k u h = let (a, b) = index len k len-pos in rw (zero-div len, b) (south-anew g e (u / len) k h)
 
 -- ---- a leaf two levels finer
 

@@ -15,7 +15,8 @@ use Rattle.mesh.specs.Mesh.{Mesh, on, inArea, hasKids}
 use Rattle.mesh.specs.Jump.{bare, coarseBeside, finerThan, finerBeside}
 use Rattle.mesh.specs.Build.{full}
 use Rattle.place_laws.proofs.Bools.{either, and-both, and-right, or-left, or-right}
-use Rattle.place_laws.proofs.Places.{in-any, in-one, step-back}
+use Rattle.place_laws.proofs.Steps.{step-back}
+use Rattle.place_laws.proofs.Places.{in-any, in-one}
 use Rattle.place_laws.proofs.Kids.{parent-depth, has-kid, kid-has}
 use Rattle.place_laws.proofs.Tree.{kids-cell}
 use Rattle.place_laws.proofs.Near.{on-at}

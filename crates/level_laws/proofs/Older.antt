@@ -10,7 +10,8 @@ use Rattle.mesh.specs.Place.{rectangle, at}
 use Rattle.mesh.specs.State.{State, cells, gridOf}
 use Rattle.mesh.specs.Build.{built}
 use Rattle.mesh.specs.Request.{refine, effect}
-use Rattle.mesh.specs.Call.{picture, checkCall, tapeCall}
+use Rattle.mesh.specs.Picture.{picture}
+use Rattle.mesh.specs.Call.{checkCall, tapeCall}
 use Rattle.mesh.specs.Grids.{outcome}
 use Rattle.mesh.proofs.References.{rules}
 use Rattle.level_laws.specs.Beside.{NoJump}

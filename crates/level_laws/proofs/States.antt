@@ -1,14 +1,14 @@
 -- A build is balanced, and an accepted request keeps a valid state so: 21 does not hold of a cell that it refines, nor 22 of one whose kids it removes.
 -- Assumes nothing.
 use Prim.Native.Nat.{ℕ}
-use mathlib.Core.Path.{_≡_, refl, sym, _∙_, subst, fun-ext}
+use mathlib.Core.Path.{_≡_, refl, sym, ap, _∙_, subst, fun-ext}
 use mathlib.Core.Bool.{Bool, true, false, not, _&&_, cond}
 use mathlib.Core.Option.{none}
 use mathlib.Core.List.{List}
 use Rattle.mesh.specs.Call.{Rectangle}
 use Rattle.mesh.specs.Tools.{any}
 use Rattle.mesh.specs.Place.{Place, Grid, same}
-use Rattle.mesh.specs.Jump.{coarseBeside}
+use Rattle.mesh.specs.Jump.{coarseBeside, finerBeside}
 use Rattle.mesh.specs.Build.{full, built}
 use Rattle.mesh.specs.State.{State, Header, cells, placeAt, gridOf}
 use Rattle.mesh.specs.Valid.{Valid}
@@ -17,6 +17,8 @@ use Rattle.mesh.specs.Request.{Request, refine, sentence, remove, kill, setValu
 use Rattle.place_laws.proofs.Shrinking.{shrunk}
 use Rattle.number_laws.proofs.Checks.{refine-passes, remove-passes, loosely}
 use Rattle.number_laws.proofs.Building.{built-cells}
+use Rattle.number_laws.proofs.NumberedPlaces.{valid-numbered}
+use Rattle.number_laws.proofs.ByPlace.{cells-held}
 use Rattle.number_laws.proofs.Keeping.{Kept}
 use Rattle.number_laws.proofs.Refining.{refinable, here, after-cells, effect-is}
 use Rattle.number_laws.proofs.Marking.{sentence-kept, sentence-cells, setValue-kept, setValue-cells}
@@ -55,14 +57,14 @@ module _ (s : State) (v : Valid s) (even : Even s) where
   refine-even n ok =
       let (fine, loose) = refine-passes s n ok in
       let (p, x, r) = refinable s v n loose in
-      let f : coarseBeside (gridOf s) (cells (s .entries)) p ≡ false = rw (r .stood) at fine in
+      let f : coarseBeside (gridOf s) (cells (s .entries)) p ≡ false = rw (r .stood) at (ap (λ (c : Place → Bool). coarseBeside (gridOf s) c (placeAt (s .entries) n)) (cells-held (s .entries) (valid-numbered v)) ∙ fine) in
       rw (effect-is s v n p x r) (rw (after-cells s v n p x r) (grown-balanced (gridOf s) (cells (s .entries)) (v .mesh) even p (here s v n p x r) f))
 
   remove-even : (n : ℕ) → refusal (checks s (remove n)) ≡ 0 → Even (effect s (remove n))
   remove-even n ok =
       let (fine, loose) = remove-passes s n ok in
       let k = remove-kept s v n loose in
-      even-by s (effect s (remove n)) _ (k .header-is) (gone k) (removed-balanced (gridOf s) (cells (s .entries)) even (placeAt (s .entries) n) fine)
+      even-by s (effect s (remove n)) _ (k .header-is) (gone k) (removed-balanced (gridOf s) (cells (s .entries)) even (placeAt (s .entries) n) (ap (λ (c : Place → Bool). finerBeside (gridOf s) c (placeAt (s .entries) n)) (cells-held (s .entries) (valid-numbered v)) ∙ fine))
 
   kill-even : (n : ℕ) → refusal (looseChecks s (kill n)) ≡ 0 → Even (effect s (kill n))
   kill-even n ok =

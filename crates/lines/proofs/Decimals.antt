@@ -4,13 +4,15 @@ use Prim.Native.Nat.{ℕ, zero, suc, _+_, _*_, _≤_, _<_, _/_, _%_, _^_}
 use native.Mathlib.Nat.{add-zero, zero-add, pow-suc, one-le-pow}
 use native.Mathlib.Omega.{arith}
 use native.Mathlib.Decide.{decLe}
-use borrow.Author.Tests.{lt-ltb, le-ltb}
+use borrow.Author.Tests.{lt-ltb, le-ltb, eqb-true, eqb-false}
 use mathlib.Core.Path.{_≡_, refl, sym, ap, _∙_}
 use mathlib.Core.Bool.{Bool, true, false, _&&_}
 use mathlib.Core.List.{List, [], _∷_, _++_, append-assoc}
 use lib.Dec.{T, eqb, ltb, eqb→eq}
 use lib.ListN.{length, getD, length-append}
 use Rattle.mesh.specs.Page.{decimalIn, decimal, hexIn, letter}
+use Rattle.table.specs.Carried.{statusOf, isBlank, isMeasured}
+use Rattle.table.specs.declared.carried.Carried.{Carried}
 use Rattle.place_laws.proofs.Bools.{and-left, and-right}
 use Rattle.lines.specs.LineRows.{hexDigit}
 use Rattle.lines.proofs.Puts.{places, length-places}
@@ -56,10 +58,21 @@ hex-table x h = digit-at (48 ∷ 49 ∷ 50 ∷ 51 ∷ 52 ∷ 53 ∷ 54 ∷ 55 �
 
 -- ---- letters
 
-pub letter-two : (n : ℕ) → (n ≡ 0 → ⊥) → (n ≡ 1 → ⊥) → 99 ≡ letter n
-letter-two zero a b = absurd (a refl)
-letter-two (suc zero) a b = absurd (b refl)
-letter-two (suc (suc n)) a b = refl
+module _ (c : Carried) {a : Bool} (e : a ≡ isBlank c) where
+  pub letter-blank : a ≡ true → 110 ≡ letter (statusOf c)
+  letter-blank h = rw (eqb-true (statusOf c) 0 (sym e ∙ h))
+
+  module _ (h : a ≡ false) {b : Bool} (f : b ≡ isMeasured c) where
+    pub letter-measured : b ≡ true → 109 ≡ letter (statusOf c)
+    letter-measured i = rw (eqb-true (statusOf c) 1 (sym f ∙ i))
+
+    pub letter-carried : b ≡ false → 99 ≡ letter (statusOf c)
+    letter-carried i = go (statusOf c) (eqb-false (statusOf c) 0 (sym e ∙ h)) (eqb-false (statusOf c) 1 (sym f ∙ i))
+      where
+        go : (n : ℕ) → (n ≡ 0 → ⊥) → (n ≡ 1 → ⊥) → 99 ≡ letter n
+        go zero a b = absurd (a refl)
+        go (suc zero) a b = absurd (b refl)
+        go (suc (suc n)) a b = refl
 
 -- ---- digits in their places
 

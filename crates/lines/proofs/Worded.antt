@@ -10,11 +10,14 @@ use lib.Seq.{drop-cons}
 use lib.IntN.{ℤ}
 use lib.Ieee.{Float}
 use Rattle.mesh.specs.Place.{Grid, isRing}
-use Rattle.mesh.specs.State.{Header, plusZero}
+use Rattle.mesh.specs.State.{Header}
 use Rattle.mesh.specs.Page.{decimal, hexIn, letter, line, space, lineFeed, modeWord, headLine, total, footLine}
+use Rattle.mesh.specs.Picture.{levelWord, iWord, jWord}
 use Rattle.table.specs.Words.{wordOf}
+use Rattle.table.specs.Carried.{carriedOf, statusOf}
+use Rattle.table.specs.declared.carried.Carried.{Carried}
 use Rattle.lines.specs.Puts.{Put}
-use Rattle.lines.specs.LineRows.{bitsOf, rowLine, linesOf}
+use Rattle.lines.specs.LineRows.{bitsOf, lineEnd, rowLine, linesOf}
 use Rattle.lines.proofs.Puts.{total-append, take-more, put-length}
 use Rattle.lines.proofs.Decimals.{hex-long, decimal-long}
 
@@ -24,18 +27,18 @@ two-words : (l h : List ℕ) → l ++ (space ∷ []) ++ h ++ (lineFeed ∷ []) �
 unfolding line
 two-words l h = simp append-assoc
 
-pub value-line : (l b st : ℕ) (x : Float) → l ≡ letter st → b ≡ bitsOf x → (l ∷ []) ++ (space ∷ []) ++ hexIn 16 b [] ++ (lineFeed ∷ []) ≡ line ((letter st ∷ []) ∷ hexIn 16 (bitsOf x) [] ∷ [])
-value-line l b st x e h = two-words (l ∷ []) (hexIn 16 b []) ∙ rw (e, h)
+pub value-line : (l b : ℕ) (c : Carried) → l ≡ letter (statusOf c) → b ≡ bitsOf (c .value) → (l ∷ []) ++ (space ∷ []) ++ hexIn 16 b [] ++ (lineFeed ∷ []) ≡ lineEnd c
+value-line l b c e h = two-words (l ∷ []) (hexIn 16 b []) ∙ rw (e, h)
 
 line-words : (a b c e l h : List ℕ) → (a ++ (space ∷ [])) ++ (b ++ (space ∷ [])) ++ (c ++ (space ∷ [])) ++ (e ++ (space ∷ [])) ++ line (l ∷ h ∷ []) ≡ line (a ∷ b ∷ c ∷ e ∷ l ∷ h ∷ [])
 unfolding line
 line-words a b c e l h = simp append-assoc
 
-pub leaf-line : (t : List ℤ) (v : List Float) (n k i j st : ℕ) (x : Float) → k ≡ wordOf t n 9 → i ≡ wordOf t n 10 → j ≡ wordOf t n 11 → st ≡ wordOf t n 13 → x ≡ getD v n plusZero
-    → (decimal n ++ (space ∷ [])) ++ (decimal k ++ (space ∷ [])) ++ (decimal i ++ (space ∷ [])) ++ (decimal j ++ (space ∷ [])) ++ line ((letter st ∷ []) ∷ hexIn 16 (bitsOf x) [] ∷ []) ≡ rowLine t v n
+pub leaf-line : (t : List ℤ) (v : List Float) (n k i j : ℕ) (x : Carried) → k ≡ wordOf t n levelWord → i ≡ wordOf t n iWord → j ≡ wordOf t n jWord → x ≡ carriedOf t v n
+    → (decimal n ++ (space ∷ [])) ++ (decimal k ++ (space ∷ [])) ++ (decimal i ++ (space ∷ [])) ++ (decimal j ++ (space ∷ [])) ++ lineEnd x ≡ rowLine t v n
 unfolding rowLine
-leaf-line t v n k i j st x a b c e h =
-    line-words (decimal n) (decimal k) (decimal i) (decimal j) (letter st ∷ []) (hexIn 16 (bitsOf x) []) ∙ rw (a, b, c, e, h)
+leaf-line t v n k i j x a b c e =
+    line-words (decimal n) (decimal k) (decimal i) (decimal j) (letter (statusOf x) ∷ []) (hexIn 16 (bitsOf (x .value)) []) ∙ rw (a, b, c, e)
 
 -- the word of the mode and the line's end, by what was tested
 pub ring-word : (g : Grid) {b : Bool} → b ≡ true → b ≡ isRing g → (114 ∷ 105 ∷ 110 ∷ 103 ∷ 10 ∷ []) ≡ modeWord g ++ (lineFeed ∷ [])

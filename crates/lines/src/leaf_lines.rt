@@ -1,22 +1,25 @@
 // The lines of the leaves.
-ghost use mathlib.Core.List.{List, [], _∷_};
+ghost use mathlib.Core.List.{List};
 ghost use mathlib.Core.Path.{_≡_};
 ghost use Prim.Native.Nat.{_+_, _*_, _%_, _^_, _<_, _≤_};
 ghost use lib.ListN.{length, getD};
 ghost use lib.Ieee.{Float};
 ghost use Rattle.mesh.specs.Picture.{rowWords};
-ghost use Rattle.mesh.specs.Page.{letter, hexIn, line, total};
+ghost use Rattle.mesh.specs.Page.{letter, total};
+ghost use Rattle.table.specs.Carried.{statusOf};
 ghost use Rattle.lines.specs.Puts.{Put};
-ghost use Rattle.lines.specs.LineRows.{bitsOf, rowLine, linesOf, Listed};
+ghost use Rattle.lines.specs.LineRows.{bitsOf, lineEnd, rowLine, linesOf, Listed};
 use crate::numerals::digits;
 use crate::numerals::put_byte;
 use crate::numerals::put_hex;
 use crate::numerals::put_number;
-use table::values::value;
+use table::carried::Carried;
+use table::carried::carried_at;
+use table::carried::is_blank;
+use table::carried::is_measured;
 use table::words::INDEX_I;
 use table::words::INDEX_J;
 use table::words::LEVEL;
-use table::words::STATUS;
 use table::words::word;
 
 fn bits(x: f64) -> u64
@@ -28,12 +31,12 @@ fn bits(x: f64) -> u64
     0
 }
 
-fn letter_of(status: u32) -> u8
-    ensures { λ r. ⌜ r ≡ letter status ⌝ }
+fn letter_of(c: Carried) -> u8
+    ensures { λ r. ⌜ r ≡ letter (statusOf c) ⌝ }
 {
-    if status == 0 {
+    if is_blank(c) {
         b'n'
-    } else if status == 1 {
+    } else if is_measured(c) {
         b'm'
     } else {
         b'c'
@@ -41,14 +44,14 @@ fn letter_of(status: u32) -> u8
 }
 
 // Puts the letter and the value, which end a line.
-fn put_value(out: &mut [u8], at: usize, status: u32, x: f64) -> usize
+fn put_value(out: &mut [u8], at: usize, c: Carried) -> usize
     requires { ⌜ at + 19 ≤ length (now out) ⌝ }
-    ensures { λ r. ⌜ Put (now (out .entry)) at (line ((letter status ∷ []) ∷ hexIn 16 (bitsOf x) [] ∷ [])) (now (out .exit)) r ⌝ }
+    ensures { λ r. ⌜ Put (now (out .entry)) at (lineEnd c) (now (out .exit)) r ⌝ }
 {
-    let a = put_byte(out, at, letter_of(status));
+    let a = put_byte(out, at, letter_of(c));
     let b = put_byte(out, a, b' ');
-    let c = put_hex(out, b, bits(x));
-    put_byte(out, c, b'\n')
+    let e = put_hex(out, b, bits(c.value));
+    put_byte(out, e, b'\n')
 }
 
 // Puts the line of the row n.
@@ -59,13 +62,12 @@ fn put_line(t: &[i32], v: &[f64], n: usize, out: &mut [u8], at: usize) -> usize
     let level = word(t, n, LEVEL);
     let i = word(t, n, INDEX_I);
     let j = word(t, n, INDEX_J);
-    let status = word(t, n, STATUS);
-    let x = value(v, n);
+    let carried = carried_at(t, v, n);
     let a = put_number(out, at, n as u32);
     let b = put_number(out, a, level);
     let c = put_number(out, b, i);
     let e = put_number(out, c, j);
-    put_value(out, e, status, x)
+    put_value(out, e, carried)
 }
 
 // Puts the lines of the leaves.

@@ -4,24 +4,16 @@ use Prim.Native.Nat.{ℕ, zero, suc, _+_, _/_, _%_, _^_}
 use mathlib.Core.Bool.{_&&_, cond}
 use mathlib.Core.List.{List, [], _∷_}
 use lib.Dec.{eqb, ltb}
-use lib.ListN.{getD}
-use lib.IntN.{ℤ}
-use Rattle.mesh.specs.Lookup.{firstFound}
-use Rattle.table.specs.Words.{wordOf, linkOf}
-use Rattle.table.specs.Worked.{kidWord}
-use Rattle.walk.specs.WalkRows.{leafRow}
-use Prim.Native.Nat.{ℕ, _+_}
-use mathlib.Core.Bool.{_&&_, cond}
-use mathlib.Core.List.{List, [], _∷_}
-use lib.Dec.{eqb}
-use lib.ListN.{getD}
 use lib.IntN.{ℤ}
 use lib.Ieee.{Float}
-use Rattle.mesh.specs.Picture.{statusWord}
-use Rattle.mesh.specs.State.{Value, blank, measured, carried, plusZero}
+use Rattle.mesh.specs.State.{Value, blank, measured, carried}
 use Rattle.mesh.specs.Refusal.{_if_, refusal}
+use Rattle.mesh.specs.Lookup.{firstFound}
 use Rattle.mesh.specs.Call.{Found, unless}
-use Rattle.table.specs.Words.{wordOf}
+use Rattle.table.specs.Words.{linkOf}
+use Rattle.table.specs.Carried.{carriedOf, valueIn}
+use Rattle.table.specs.Worked.{kidWord}
+use Rattle.walk.specs.WalkRows.{leafRow}
 use Rattle.lookup.specs.declared.Found.{Found as Answer}
 use Rattle.lookup.specs.declared.Reading.{Reading}
 use Rattle.lookup.specs.declared.Reading.the-variants.{Measured, Carried, Blank}
@@ -44,16 +36,10 @@ module _ (t : List ℤ) (cap d : ℕ) where
 -- ---- the call
 
 module _ (t : List ℤ) (v : List Float) where
-  -- "status 0 blank, 1 measured, 2 carried down from the parent"
-  unfoldable pub rowValue : ℕ → Value
-  rowValue n =
-      let x = getD v n plusZero in
-      cond (eqb (wordOf t n statusWord) 1) (measured x) (cond (eqb (wordOf t n statusWord) 2) (carried x) blank)
-
   unfoldable pub rowLookupOut : ℕ → ℕ → ℕ → ℕ → Found
   rowLookupOut cap d x y =
       let n = rowLookup t cap d x y in
-      unless (refusal ((19 if eqb n 0) ∷ [])) (λ k. record { refusal = k; leaf = 0; value = blank }) (record { refusal = 0; leaf = n; value = rowValue n })
+      unless (refusal ((19 if eqb n 0) ∷ [])) (λ k. record { refusal = k; leaf = 0; value = blank }) (record { refusal = 0; leaf = n; value = valueIn (carriedOf t v n) })
 
 -- the answer, as the call's definition says it
 abbrev pub valueOfReading : Reading → Value

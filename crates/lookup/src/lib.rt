@@ -1,18 +1,19 @@
 // Lookup over the rows of a table: the leaf that holds a point, or one it is tried again at, and its value.
 ghost use mathlib.Core.Path.{_≡_};
-ghost use Prim.Native.Nat.{_/_, _%_, _^_, _<_, _≤_, _+_, _*_};
+ghost use Prim.Native.Nat.{_/_, _%_, _^_, _<_, _≤_};
 ghost use Rattle.table.specs.Words.{linkOf};
 ghost use Rattle.table.specs.Worked.{kidWord};
+ghost use Rattle.table.specs.Carried.{valueIn};
 ghost use Rattle.mesh.specs.Lookup.{tried};
-ghost use Rattle.lookup.specs.LookupRows.{rowAt, rowLookup, valueOfReading, rowValue, foundOf, rowLookupOut};
+ghost use Rattle.lookup.specs.LookupRows.{rowAt, rowLookup, valueOfReading, foundOf, rowLookupOut};
 ghost use Rattle.table.specs.Plain.{Plain};
 ghost use Rattle.walk.specs.Walkable.{Walkable};
 ghost use lib.ListN.{length};
-ghost use Rattle.mesh.specs.Picture.{rowWords};
+use table::carried::Carried;
+use table::carried::carried_at;
+use table::carried::is_blank;
+use table::carried::is_measured;
 use table::plain;
-use table::values::value;
-use table::words::STATUS;
-use table::words::says;
 use table::worked::kid_word;
 use walk::leaf;
 
@@ -96,18 +97,17 @@ pub struct Found {
     pub reading: Reading,
 }
 
-// The value of the row n, by its status.
-fn value_of(t: &[i32], v: &[f64], n: usize) -> Reading
-    requires { ⌜ (n * rowWords + rowWords ≤ length (now t)) × (n < length (now v)) ⌝ }
-    ensures { λ r. ⌜ valueOfReading r ≡ rowValue (now (t .entry)) (now (v .entry)) n ⌝ }
+// The value that is carried, by its status.
+fn value_of(c: Carried) -> Reading
+    ensures { λ r. ⌜ valueOfReading r ≡ valueIn c ⌝ }
 {
-    if says(t, n, STATUS, 1) {
-        return Reading::Measured(value(v, n));
+    if is_blank(c) {
+        return Reading::Blank;
     }
-    if says(t, n, STATUS, 2) {
-        return Reading::Carried(value(v, n));
+    if is_measured(c) {
+        return Reading::Measured(c.value);
     }
-    Reading::Blank
+    Reading::Carried(c.value)
 }
 
 // The leaf that a lookup finds, and its value.
@@ -123,7 +123,7 @@ pub fn lookup_out(t: &[i32], v: &[f64], cap: usize, d: u32, x: u32, y: u32) -> F
             reading: Reading::Blank,
         };
     }
-    let reading = value_of(t, v, n);
+    let reading = value_of(carried_at(t, v, n));
     Found {
         refusal: 0,
         leaf: n as u32,

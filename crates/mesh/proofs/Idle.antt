@@ -7,7 +7,8 @@ use mathlib.Core.Logic.{_≢_}
 use mathlib.Core.List.{List, [], _∷_, _++_}
 use lib.ListN.{getD}
 use Rattle.mesh.specs.Place.{Grid, rectangle}
-use Rattle.mesh.specs.Call.{Lent, Built, buildCall, Taped, tapeCall}
+use Rattle.mesh.specs.Picture.{Lent}
+use Rattle.mesh.specs.Call.{Built, buildCall, Taped, tapeCall}
 use Rattle.mesh.specs.Grids.{grids, empty, build, tape, flagsAt, outcome, refine2, away}
 use Rattle.mesh.proofs.References.{references}
 

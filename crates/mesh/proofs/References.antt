@@ -9,11 +9,12 @@ use Rattle.mesh.specs.Jump.{coarseBeside, finerBeside}
 use Rattle.mesh.specs.State.{cells, number, freeCount, inUse, nextFree}
 use Rattle.mesh.specs.Picture.{fields, rowOf, table, amounts}
 use Rattle.mesh.specs.Decode.{decode}
-use Rattle.mesh.specs.Test.{meshTests, cornersThere, valueTest, tests, valid, sound}
+use Rattle.mesh.specs.Test.{meshTests, cornersThere, valueTest, tests, valid, soundTests, sound}
 use Rattle.mesh.specs.Refusal.{refusal}
 use Rattle.mesh.specs.Build.{full, nextLevel, levels, numbered, built}
-use Rattle.mesh.specs.Request.{wanted, missing, groundCells, looseChecks, checks, supply, give, fill, prune, effect, marked, request}
-use Rattle.mesh.specs.Tape.{runFrom, run}
+use Rattle.mesh.specs.Deed.{anyGround}
+use Rattle.mesh.specs.Request.{wanted, missing, looseChecks, checks, supply, give, fill, prune, effect, marked, request}
+use Rattle.mesh.specs.Tape.{kinds, kind, runFrom, run}
 use Rattle.mesh.specs.Scan.{listed, walk, scan, scanChecks}
 use Rattle.mesh.specs.Holding.{holds, leafHolding, leafAt}
 use Rattle.mesh.specs.Lookup.{firstFound, lookup, lookupChecks}
@@ -24,7 +25,7 @@ use Rattle.mesh.specs.Grids.{Hold, grids}
 
 -- every rule that the grids are worked out by
 unfoldable pub rules : Unit {0}
-unfolding same base level lap jAfter jBefore toNorth toEast toSouth toWest step kid kids parent around home touched under patch hasKids leaf wallH wallV ends sides derived flags coarseBeside finerBeside cells number freeCount inUse nextFree fields rowOf table amounts decode meshTests cornersThere valueTest tests valid sound refusal full nextLevel levels numbered built wanted missing groundCells looseChecks checks supply give fill prune effect marked request runFrom run listed walk scan scanChecks holds leafHolding leafAt firstFound lookup lookupChecks decimalIn decimal hexIn line headLine leaves leafLine footLine body page lentChecks unless checkCall buildChecks buildCall tapeCall scanCall lookupCall refusedLine inputChecks gridChecks tapePage program Count.leadingZeros Ieee.toBits Ieee.size Ieee.span Ieee.climb
+unfolding same base level lap jAfter jBefore toNorth toEast toSouth toWest step kid kids parent around home touched under patch hasKids leaf wallH wallV ends sides derived flags coarseBeside finerBeside cells number freeCount inUse nextFree fields rowOf table amounts decode meshTests cornersThere valueTest tests valid soundTests sound refusal full nextLevel levels numbered built anyGround wanted missing looseChecks checks supply give fill prune effect marked request kinds kind runFrom run listed walk scan scanChecks holds leafHolding leafAt firstFound lookup lookupChecks decimalIn decimal hexIn line headLine leaves leafLine footLine body page lentChecks unless checkCall buildChecks buildCall tapeCall scanCall lookupCall refusedLine inputChecks gridChecks tapePage program Count.leadingZeros Ieee.toBits Ieee.size Ieee.span Ieee.climb
 rules = tt
 
 pub references : Hold grids

@@ -3,14 +3,15 @@
 -- Assumes nothing.
 use Prim.Native.Nat.{ℕ, zero, suc, _+_, _*_, _≤_}
 use mathlib.Core.Bool.{Bool, not, _&&_, _||_}
+use mathlib.Core.Path.{_≡_}
 use mathlib.Core.List.{List, [], _∷_, _++_}
 use lib.Dec.{leb, ltb, eqb, T}
 use lib.ListN.{length, drop}
-use lib.Ieee.{Float}
 use lib.IntN.{ℤ}
+use Rattle.mesh.specs.Tools.{every}
 use Rattle.mesh.specs.Place.{Grid, isRing}
-use Rattle.mesh.specs.State.{State, Header, Value, blank, valueOf, entry, inUse}
-use Rattle.mesh.specs.Picture.{rowWords, table, amounts}
+use Rattle.mesh.specs.State.{Value, blank, valueOf, entry, inUse}
+use Rattle.mesh.specs.Picture.{rowWords, Lent, picture}
 use Rattle.mesh.specs.Decode.{decode}
 use Rattle.mesh.specs.Test.{sound}
 use Rattle.mesh.specs.Refusal.{Check, _if_, refusal}
@@ -20,26 +21,32 @@ use Rattle.mesh.specs.Scan.{scan, scanChecks, no18}
 use Rattle.mesh.specs.Lookup.{lookup, lookupChecks}
 use Rattle.mesh.specs.Page.{page, pageChecks}
 
--- what is lent with a capacity: the header, the table and the values
-pub record Lent : Type 0 where
-  pub header : Header
-  pub words : List ℤ
-  pub values : List Float
-
-abbrev pub picture : State → Lent
-picture s = record { header = s .header; words = table s; values = amounts s }
-
-abbrev pub stateOf : Lent → State
-stateOf l = decode (l .header) (l .words) (l .values)
-
 -- ---- the first checks
 
 abbrev pub outside : ℕ → ℕ → ℕ → Bool
 outside low high n = not (leb low n && leb n high)
 
 -- 1: "table length is not 14 × (capacity+1), value list is not capacity+1, or capacity outside 5 to 4,095"
+abbrev pub sizeTests : ℕ → Lent → List Bool
+sizeTests cap l =
+    eqb (length (l .words)) (rowWords * (cap + 1)) ∷
+    eqb (length (l .values)) (cap + 1) ∷
+    leb 5 cap ∷
+    leb cap 4095 ∷
+    []
+
+abbrev pub missized : ℕ → Lent → Bool
+missized cap l = not (every (sizeTests cap l))
+
+-- what it does not refuse
+pub record Sizes (cap : ℕ) (l : Lent) : Type 0 where
+  pub words : length (l .words) ≡ rowWords * (cap + 1)
+  pub values : length (l .values) ≡ cap + 1
+  pub low : 5 ≤ cap
+  pub high : cap ≤ 4095
+
 abbrev pub no1 : ℕ → Lent → Check
-no1 cap l = 1 if (not (eqb (length (l .words)) (rowWords * (cap + 1))) || (not (eqb (length (l .values)) (cap + 1)) || outside 5 4095 cap))
+no1 cap l = 1 if missized cap l
 
 -- 2: "columns or rows outside 1 to 32"; "2 also for a mode that is neither, or a ring with fewer than 3 rows"
 abbrev pub misfit : Grid → Bool
@@ -54,7 +61,7 @@ no2 g = 2 if misfit g
 
 -- 3: "table, values and header are not sound"
 abbrev pub no3 : Lent → Check
-no3 l = 3 if not (sound (l .header) (l .words) (l .values))
+no3 l = 3 if not (sound l)
 
 unfoldable pub lentChecks : ℕ → Lent → List Check
 lentChecks cap l = no1 cap l ∷ no2 (l .header .grid) ∷ no3 l ∷ []
@@ -95,7 +102,7 @@ pub record Taped : Type 0 where
 
 unfoldable pub tapeCall : ℕ → Lent → List ℕ → Taped
 tapeCall cap l bytes =
-    let r = run (stateOf l) bytes in
+    let r = run (decode l) bytes in
     unless (refusal (lentChecks cap l))
     (λ n. record { done = 0; refusal = n; offset = 0; lent = l })
     (record { done = r .done; refusal = r .refusal; offset = r .offset; lent = picture (r .state) })
@@ -120,12 +127,12 @@ writing xs out = wrote (refusal (no18 (length out) xs ∷ [])) xs out
 
 unfoldable pub scanCall : ℕ → Lent → ℕ → List ℕ → ℕ → ℤ → ℤ → List ℕ → Wrote
 scanCall cap l n o k from to out =
-    let s = stateOf l in
+    let s = decode l in
     wrote (refusal (lentChecks cap l ++ scanChecks s (length out) n o k from to)) (scan s n o k from to) out
 
 unfoldable pub pageCall : ℕ → Lent → List ℕ → Wrote
 pageCall cap l out =
-    let s = stateOf l in
+    let s = decode l in
     wrote (refusal (lentChecks cap l ++ pageChecks s (length out))) (page s) out
 
 -- ---- lookup: "the answer is the leaf's number and is a measured value, a carried value, or blank"; refused, "number 0 and blank"
@@ -137,7 +144,7 @@ pub record Found : Type 0 where
 
 unfoldable pub lookupCall : ℕ → Lent → ℕ → ℕ → Found
 lookupCall cap l u v =
-    let s = stateOf l in
+    let s = decode l in
     unless (refusal (lentChecks cap l ++ lookupChecks s u v))
     (λ n. record { refusal = n; leaf = 0; value = blank })
     (record { refusal = 0; leaf = lookup s u v; value = valueOf (entry (s .entries) (lookup s u v)) })

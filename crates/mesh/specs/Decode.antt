@@ -10,8 +10,8 @@ use lib.Ieee.{Float}
 use lib.IntN.{ℤ, pos, _+ℤ_, natAbs}
 use Rattle.mesh.specs.Place.{Place, Grid, at, base}
 use Rattle.mesh.specs.Mesh.{completeBit, sentencedBit, deadBit, flagCount}
-use Rattle.mesh.specs.State.{State, Header, Entry, nil, free, used, Cell, Value, blank, measured, carried}
-use Rattle.mesh.specs.Picture.{rowWords, levelWord, iWord, jWord, flagsWord, statusWord}
+use Rattle.mesh.specs.State.{State, Entry, nil, free, used, Cell, Value, blank, measured, carried}
+use Rattle.mesh.specs.Picture.{rowWords, levelWord, iWord, jWord, flagsWord, statusWord, Lent}
 
 -- the k lowest binary digits, lowest first
 abbrev pub digitsOf : ℕ → ℕ → List Bool
@@ -46,5 +46,5 @@ abbrev pub entriesFrom : Grid → List ℤ → List Float → List Entry
 entriesFrom g t [] = []
 entriesFrom g t (x ∷ xs) = entryFrom g (take rowWords t) x ∷ entriesFrom g (drop rowWords t) xs
 
-unfoldable pub decode : Header → List ℤ → List Float → State
-decode h t v = record { header = h; entries = nil ∷ entriesFrom (h .grid) (drop rowWords t) (tail v) }
+unfoldable pub decode : Lent → State
+decode l = record { header = l .header; entries = nil ∷ entriesFrom (l .header .grid) (drop rowWords (l .words)) (tail (l .values)) }

@@ -10,9 +10,10 @@ use lib.IntN.{ℤ, pos, negsuc, natAbs}
 use Rattle.mesh.specs.Tools.{keep}
 use Rattle.mesh.specs.Place.{rectangle}
 use Rattle.mesh.specs.State.{inUse, plusZero}
-use Rattle.mesh.specs.Picture.{rowWords}
+use Rattle.mesh.specs.Picture.{rowWords, levelWord, iWord, jWord, flagsWord, freeFlags, Lent}
+use Rattle.mesh.specs.Decode.{decode}
 use Rattle.mesh.specs.Page.{headLine}
-use Rattle.mesh.specs.Call.{Lent, stateOf, checkCall, Built, buildCall, Taped, tapeCall, scanCall, lookupCall}
+use Rattle.mesh.specs.Call.{checkCall, Built, buildCall, Taped, tapeCall, scanCall, lookupCall}
 use Rattle.mesh.specs.Program.{program}
 
 -- ---- how 01's words read what a call leaves
@@ -49,25 +50,25 @@ abbrev wordAt : Lent → ℕ → ℕ → ℕ
 wordAt l w n = natAbs (getD (l .words) (n * rowWords + w) (pos 0))
 
 abbrev pub flagsAt : Lent → List ℕ → List ℕ
-flagsAt l ns = map (wordAt l 12) ns
+flagsAt l ns = map (wordAt l flagsWord) ns
 
 -- level, i and j of the rows with these numbers
 abbrev spotsAt : Lent → List ℕ → List (ℤ × ℕ × ℕ)
-spotsAt l ns = map (λ n. (getD (l .words) (n * rowWords + 9) (pos 0), wordAt l 10 n, wordAt l 11 n)) ns
+spotsAt l ns = map (λ n. (getD (l .words) (n * rowWords + levelWord) (pos 0), wordAt l iWord n, wordAt l jWord n)) ns
 
 -- places of one level
 abbrev on : ℤ → List (ℕ × ℕ) → List (ℤ × ℕ × ℕ)
 on k ps = map (λ p. (k, p .0, p .1)) ps
 
 abbrev usedIn : Lent → ℕ
-usedIn l = inUse (stateOf l .entries)
+usedIn l = inUse (decode l .entries)
 
 -- the numbers, among these, whose rows are free; that are cells
 abbrev freeAmong : Lent → List ℕ → List ℕ
-freeAmong l ns = keep (λ n. eqb (wordAt l 12 n) 8192) ns
+freeAmong l ns = keep (λ n. eqb (wordAt l flagsWord n) freeFlags) ns
 
 abbrev cellsAmong : Lent → List ℕ → List ℕ
-cellsAmong l ns = keep (λ n. eqb (wordAt l 12 n % 2) 1) ns
+cellsAmong l ns = keep (λ n. eqb (wordAt l flagsWord n % 2) 1) ns
 
 -- requests done, refusal, offset
 abbrev pub outcome : Taped → ℕ × ℕ × ℕ

@@ -12,6 +12,8 @@ pub mod Decode
 pub mod Test
 pub mod Refusal
 pub mod Build
+pub mod Carrying
+pub mod Deed
 pub mod Request
 pub mod Tape
 pub mod Scan
@@ -19,6 +21,5 @@ pub mod Holding
 pub mod Lookup
 pub mod Page
 pub mod Call
-pub mod Headers
 pub mod Program
 pub mod Grids

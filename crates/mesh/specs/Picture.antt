@@ -1,4 +1,4 @@
--- The table and the values of a state (01, 'Rows and header').
+-- The table and the values of a state (01, 'Rows and header'), and what is lent.
 -- Assumes nothing.
 use Prim.Native.Nat.{ℕ, _+_, _*_}
 use mathlib.Core.Path.{_≡_}
@@ -100,10 +100,19 @@ linkWord s n w = getD (table s) (n * rowWords + w) (pos 0)
 unfoldable pub amounts : State → List Float
 amounts s = map (λ e. amount (valueOf e)) (s .entries)
 
+-- ---- what is lent
+
+-- what is lent with a capacity: the header, the table and the values
+pub record Lent : Type 0 where
+  pub header : Header
+  pub words : List ℤ
+  pub values : List Float
+
+abbrev pub picture : State → Lent
+picture s = record { header = s .header; words = table s; values = amounts s }
+
 -- "a table is sound if it pictures one mesh under one numbering, with the rules above"
-pub record Sound (h : Header) (t : List ℤ) (v : List Float) : Type 0 where
+pub record Sound (l : Lent) : Type 0 where
   pub state : State
   pub valid : Valid state
-  pub is-header : h ≡ state .header
-  pub is-table : t ≡ table state
-  pub is-values : v ≡ amounts state
+  pub is-picture : l ≡ picture state

@@ -75,6 +75,9 @@ sideWinds = N ∷ E ∷ S ∷ W ∷ []
 
 -- ---- steps
 
+-- Proofs go by the laws of place_laws/proofs/Steps, the one file that unfolds what follows up to `step`; only the reference grids, which are
+-- computed, do so too.
+
 abbrev pub before : ℕ → Option ℕ
 before zero = none
 before (suc n) = some n

@@ -1,20 +1,19 @@
 -- The five requests: what each checks, in order, and what it makes of a state (01, 'Build and requests'; 02, No. 1).
 -- Assumes nothing.
 use Prim.Native.Nat.{ℕ, _+_, _%_}
-use mathlib.Core.Bool.{Bool, true, false, not, cond}
+use mathlib.Core.Bool.{Bool, not, cond}
 use mathlib.Core.Option.{Option, none, Option·map}
-use mathlib.Core.List.{List, [], _∷_, map}
+use mathlib.Core.List.{List, [], _∷_, _++_, map}
 use lib.Dec.{ltb, eqb}
 use lib.ListN.{length, set}
 use lib.Ieee.{Float}
-use Rattle.mesh.specs.Tools.{any, all, keep, count}
-use Rattle.mesh.specs.Place.{Place, Grid, NE, SE, SW, NW, same, base, toNorth, toEast, kid, kids}
-use Rattle.mesh.specs.Mesh.{patch, hasKids}
-use Rattle.mesh.specs.Jump.{coarseBeside, finerBeside}
-use Rattle.mesh.specs.State.{State, Entry, nil, free, used, Cell, Value, blank, measured, carried, isUsed, isCell, isSentenced, cellOf, entry, cells, number, placeAt, freeCount, gridOf, withEntries, nextFree}
-use Rattle.mesh.specs.Valid.{finite}
-use Rattle.mesh.specs.Test.{ofCell}
-use Rattle.mesh.specs.Refusal.{Check, _if_, refusal, behind}
+use Rattle.mesh.specs.Tools.{any, keep}
+use Rattle.mesh.specs.Place.{Place, Grid, NE, SE, SW, NW, same, toNorth, toEast, kid, kids}
+use Rattle.mesh.specs.Mesh.{patch}
+use Rattle.mesh.specs.State.{State, Entry, nil, free, used, Cell, isUsed, cellOf, entry, cells, number, placeAt, freeCount, gridOf, withEntries, nextFree, contents}
+use Rattle.mesh.specs.Carrying.{kidCell, sentencedCell, measuredCell}
+use Rattle.mesh.specs.Deed.{Deed, refined, sentenced, removed, killed, measured, looseDeedChecks, deedChecks}
+use Rattle.mesh.specs.Refusal.{Check, _if_, refusal}
 
 pub data Request : Type 0 where
   refine sentence remove kill : ℕ → Request
@@ -33,81 +32,44 @@ wanted g p =
 unfoldable pub missing : State → Place → List Place
 missing s p = keep (λ q. eqb (number (s .entries) q) 0) (wanted (gridOf s) p)
 
--- how many cells are on level 0
-unfoldable pub groundCells : State → ℕ
-groundCells s = count (λ e. not (ofCell (λ p x. not (eqb (p .depth) (base (gridOf s)))) e)) (s .entries)
+-- the number that a request names, and the request as a deed at the place under it
+abbrev pub numberNamed : Request → ℕ
+numberNamed (refine n) = n
+numberNamed (sentence n) = n
+numberNamed (remove n) = n
+numberNamed (kill n) = n
+numberNamed (setValue n x) = n
 
-abbrev pub onGround : State → ℕ → Bool
-onGround s n = eqb (placeAt (s .entries) n .depth) (base (gridOf s))
+abbrev pub deedOf : List Entry → Request → Deed
+deedOf es (refine n) = refined (placeAt es n)
+deedOf es (sentence n) = sentenced (placeAt es n)
+deedOf es (remove n) = removed (placeAt es n)
+deedOf es (kill n) = killed (placeAt es n)
+deedOf es (setValue n x) = measured (placeAt es n) x
 
-abbrev pub withKids : State → ℕ → Bool
-withKids s n = hasKids (gridOf s) (cells (s .entries)) (placeAt (s .entries) n)
+-- 6: "number 0, above capacity, or free"; 11: "fewer free numbers than needed", which refine alone asks, last. The other refusals are the deed's
+-- (`Deed`), for the cell under the number.
+module _ (s : State) where
+  abbrev pub no6 : ℕ → Check
+  no6 n = 6 if not (isUsed (entry (s .entries) n))
 
-abbrev pub kidsSentenced : State → ℕ → Bool
-kidsSentenced s n = all (λ q. isSentenced (entry (s .entries) (number (s .entries) q))) (kids (placeAt (s .entries) n))
+  abbrev pub no11 : ℕ → Check
+  no11 n = 11 if ltb (freeCount (s .entries)) (length (missing s (placeAt (s .entries) n)))
 
--- The refusals of the requests. 6: "number 0, above capacity, or free"; 7: "patch is no cell"; 8: "cell has kids"; 9: "level is 12";
--- 10: "cell is sentenced"; 11: "fewer free numbers than needed"; 12: "sentence at level 0, or kill above it"; 13: "cell has no kids";
--- 14: "not all four kids are sentenced"; 15: "it is the only level-0 cell"; 16: "value is infinite or not a number"
-module _ (s : State) (n : ℕ) where
-  abbrev pub no6 : Check
-  no6 = 6 if not (isUsed (entry (s .entries) n))
+  abbrev pub lastChecks : Request → List Check
+  lastChecks (refine n) = no11 n ∷ []
+  lastChecks (sentence n) = []
+  lastChecks (remove n) = []
+  lastChecks (kill n) = []
+  lastChecks (setValue n x) = []
 
-  abbrev pub no7 : Check
-  no7 = 7 if not (isCell (entry (s .entries) n))
+  -- the column 'Checks in order' of 01's table: what a request's effect rests on, without No. 1
+  unfoldable pub looseChecks : Request → List Check
+  looseChecks r = no6 (numberNamed r) ∷ looseDeedChecks (gridOf s) (contents (s .entries)) (deedOf (s .entries) r) ++ lastChecks r
 
-  abbrev pub no8 : Check
-  no8 = 8 if withKids s n
-
-  abbrev pub no9 : Check
-  no9 = 9 if eqb (placeAt (s .entries) n .depth) (base (gridOf s) + 12)
-
-  abbrev pub no10 : Check
-  no10 = 10 if isSentenced (entry (s .entries) n)
-
-  abbrev pub no11 : Check
-  no11 = 11 if ltb (freeCount (s .entries)) (length (missing s (placeAt (s .entries) n)))
-
-  abbrev pub no12-sentence : Check
-  no12-sentence = 12 if onGround s n
-
-  abbrev pub no12-kill : Check
-  no12-kill = 12 if not (onGround s n)
-
-  abbrev pub no13 : Check
-  no13 = 13 if not (withKids s n)
-
-  abbrev pub no14 : Check
-  no14 = 14 if not (kidsSentenced s n)
-
-  abbrev pub no15 : Check
-  no15 = 15 if eqb (groundCells s) 1
-
-  -- No. 1, 'No jump of two levels'
-  abbrev pub no21 : Check
-  no21 = 21 if coarseBeside (gridOf s) (cells (s .entries)) (placeAt (s .entries) n)
-
-  abbrev pub no22 : Check
-  no22 = 22 if finerBeside (gridOf s) (cells (s .entries)) (placeAt (s .entries) n)
-
-abbrev pub no16 : Float → Check
-no16 x = 16 if not (finite x)
-
--- the column 'Checks in order' of 01's table: what a request's effect rests on, without No. 1
-unfoldable pub looseChecks : State → Request → List Check
-looseChecks s (refine n) = no6 s n ∷ no7 s n ∷ no8 s n ∷ no9 s n ∷ no10 s n ∷ no11 s n ∷ []
-looseChecks s (sentence n) = no6 s n ∷ no7 s n ∷ no8 s n ∷ no12-sentence s n ∷ []
-looseChecks s (remove n) = no6 s n ∷ no7 s n ∷ no13 s n ∷ no14 s n ∷ []
-looseChecks s (kill n) = no6 s n ∷ no7 s n ∷ no12-kill s n ∷ no8 s n ∷ no15 s n ∷ []
-looseChecks s (setValue n x) = no6 s n ∷ no7 s n ∷ no8 s n ∷ no16 x ∷ []
-
--- what a request is refused by. No. 1: "21 for refine, after 10 and before 11; 22 for remove, after 14"
-unfoldable pub checks : State → Request → List Check
-checks s (refine n) = behind 10 (no21 s n) (looseChecks s (refine n))
-checks s (sentence n) = looseChecks s (sentence n)
-checks s (remove n) = behind 14 (no22 s n) (looseChecks s (remove n))
-checks s (kill n) = looseChecks s (kill n)
-checks s (setValue n x) = looseChecks s (setValue n x)
+  -- what a request is refused by
+  unfoldable pub checks : Request → List Check
+  checks r = no6 (numberNamed r) ∷ deedChecks (gridOf s) (contents (s .entries)) (deedOf (s .entries) r) ++ lastChecks r
 
 -- ---- what the requests make
 
@@ -136,21 +98,6 @@ pruned g c (used q x) = cond (patch g c q) (used q x) free
 
 unfoldable pub prune : Grid → List Entry → List Entry
 prune g es = map (pruned g (cells es)) es
-
--- "kids of a blank cell are blank, otherwise carried"
-abbrev pub inherited : Value → Value
-inherited blank = blank
-inherited (measured x) = carried x
-inherited (carried x) = carried x
-
-abbrev pub kidCell : Cell → Cell
-kidCell x = record { sentenced = false; value = inherited (x .value) }
-
-abbrev pub sentencedCell : Cell → Cell
-sentencedCell x = record { sentenced = true; value = x .value }
-
-abbrev pub measuredCell : Float → Cell → Cell
-measuredCell y x = record { sentenced = x .sentenced; value = measured y }
 
 -- what f makes of the cell under a number
 abbrev pub newCell : State → ℕ → (Cell → Cell) → Option Cell

@@ -9,9 +9,9 @@ use lib.IntN.{ℤ, pos, negsuc}
 use Rattle.mesh.specs.Tools.{any, all, every, orElse, sameList}
 use Rattle.mesh.specs.Place.{Place, Grid, isRing, root, base, parent, kids, toNorth, toEast}
 use Rattle.mesh.specs.Mesh.{on, patch, hasKids, leaf}
-use Rattle.mesh.specs.State.{State, Header, Entry, Cell, Value, blank, measured, carried, amount, isBlank, isNil, placeOf, cellOf, stands, entry, cells, gridOf, capacity}
+use Rattle.mesh.specs.State.{State, Entry, Cell, Value, blank, measured, carried, amount, isBlank, isNil, placeOf, cellOf, stands, entry, cells, gridOf, capacity}
 use Rattle.mesh.specs.Valid.{finite, aboveOf}
-use Rattle.mesh.specs.Picture.{table, amounts}
+use Rattle.mesh.specs.Picture.{table, amounts, Lent}
 use Rattle.mesh.specs.Decode.{decode}
 
 -- ---- equal words, equal bits
@@ -100,7 +100,13 @@ valid s = every (tests s)
 -- ---- a sound table
 
 -- what its fields say is a valid state, and the table and the values are that state's
-unfoldable pub sound : Header → List ℤ → List Float → Bool
-sound h t v =
-    let s = decode h t v in
-    every (valid s ∷ sameList sameInt t (table s) ∷ sameList sameFloat v (amounts s) ∷ [])
+unfoldable pub soundTests : Lent → List Bool
+soundTests l =
+    let s = decode l in
+    valid s ∷
+    sameList sameInt (l .words) (table s) ∷
+    sameList sameFloat (l .values) (amounts s) ∷
+    []
+
+unfoldable pub sound : Lent → Bool
+sound l = every (soundTests l)

@@ -1,6 +1,6 @@
 -- Small functions on lists that the rules are written with.
 -- Assumes nothing.
-use Prim.Native.Nat.{ℕ, suc, _+_, _*_}
+use Prim.Native.Nat.{ℕ, zero, suc, _+_, _*_}
 use mathlib.Core.Bool.{Bool, true, false, _&&_, _||_, cond}
 use mathlib.Core.Option.{Option, none, some}
 use mathlib.Core.List.{List, [], _∷_, _++_}
@@ -24,6 +24,11 @@ module _ {A : Type 0} where
   abbrev pub count : (A → Bool) → List A → ℕ
   count f [] = 0
   count f (x ∷ xs) = cond (f x) 1 0 + count f xs
+
+  -- the first element that passes, if one does
+  abbrev pub find : (A → Bool) → List A → Option A
+  find f [] = none
+  find f (x ∷ xs) = cond (f x) (some x) (find f xs)
 
   -- the index of the first element that passes, counted from n; 0 if none does
   abbrev pub first : (A → Bool) → ℕ → List A → ℕ
@@ -65,3 +70,8 @@ every (b ∷ bs) = b && every bs
 abbrev pub digits : List Bool → ℕ
 digits [] = 0
 digits (b ∷ bs) = cond b 1 0 + 2 * digits bs
+
+-- some number below n passes
+abbrev pub anyBelow : (ℕ → Bool) → ℕ → Bool
+anyBelow f zero = false
+anyBelow f (suc n) = f n || anyBelow f n

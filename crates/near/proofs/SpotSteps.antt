@@ -1,7 +1,7 @@
 -- Steps over a list of kids' places, one after the other.
 -- Assumes nothing.
 use mathlib.Core.Path.{_≡_, refl, sym, ap, _∙_}
-use mathlib.Core.List.{List, [], _∷_, _++_, map}
+use mathlib.Core.List.{List, [], _∷_, _++_}
 use Prim.Native.Nat.{ℕ}
 use lib.ListN.{set}
 use lib.IntN.{ℤ}
@@ -9,7 +9,7 @@ use lib.Ieee.{Float}
 use Rattle.table.specs.Words.{linkOf}
 use Rattle.edit_laws.specs.Steps.{putUnlessNil}
 use Rattle.edit_laws.specs.Anew.{wallRow, pointRow}
-use Rattle.edit_laws.specs.Tables.{Spot, Lending, spot, kidAt, kidSpots, wantedSpots, outsideSpots, eachAt, refreshNear, putCells, putValues, supplied, suppliedAll, dropUntouched, dropAt}
+use Rattle.edit_laws.specs.Tables.{Spot, kidAt, kidSpots, wantedSpots, outsideSpots, eachAt, refreshNear, putCells, putValues, supplied, suppliedAll}
 use Rattle.near.specs.NearSpots.{cornerSpots, sideSpots}
 
 -- ---- one place more
@@ -19,13 +19,9 @@ unfolding eachAt
 each-more cap x xs f t e h = h ∙ ap (eachAt f cap xs) e
 
 module _ (cap d : ℕ) (x : Spot) (xs : List Spot) where
-  pub drop-more : (t : List ℤ) {u r : List ℤ} → u ≡ dropUntouched t cap d (kidAt t cap x) → r ≡ dropAt xs u cap d → r ≡ dropAt (x ∷ xs) t cap d
-  unfolding dropAt
-  drop-more t e h = h ∙ ap (λ z. dropAt xs z cap d) e
-
-  pub supply-more : (a : Lending) {b r : Lending} → b ≡ supplied cap d x a → r ≡ suppliedAll cap d xs b → r ≡ suppliedAll cap d (x ∷ xs) a
+  pub supply-more : (t : List ℤ) {u r : List ℤ} → u ≡ supplied cap d x t → r ≡ suppliedAll cap d xs u → r ≡ suppliedAll cap d (x ∷ xs) t
   unfolding suppliedAll
-  supply-more a e h = h ∙ ap (suppliedAll cap d xs) e
+  supply-more t e h = h ∙ ap (suppliedAll cap d xs) e
 
 module _ (cap f st : ℕ) (x : Spot) where
   pub cell-put : (t : List ℤ) {u r : List ℤ} {k : ℕ} → k ≡ kidAt t cap x → u ≡ putUnlessNil t k 12 f → r ≡ putUnlessNil u k 13 st → r ≡ putCells (x ∷ []) t cap f st
@@ -44,13 +40,9 @@ pub each-none : (f : List ℤ → ℕ → List ℤ) (cap : ℕ) (t : List ℤ) �
 unfolding eachAt
 each-none f cap t = refl
 
-pub drop-none : (t : List ℤ) (cap d : ℕ) → t ≡ dropAt [] t cap d
-unfolding dropAt
-drop-none t cap d = refl
-
-pub supply-none : (cap d : ℕ) (a : Lending) → a ≡ suppliedAll cap d [] a
+pub supply-none : (cap d : ℕ) (t : List ℤ) → t ≡ suppliedAll cap d [] t
 unfolding suppliedAll
-supply-none cap d a = refl
+supply-none cap d t = refl
 
 pub cells-none : (cap f st : ℕ) (t : List ℤ) → t ≡ putCells [] t cap f st
 unfolding putCells
@@ -72,15 +64,10 @@ module _ (cap : ℕ) (f : List ℤ → ℕ → List ℤ) where
   each-both xs ys t e h = h ∙ ap (eachAt f cap ys) e ∙ sym (each-append xs ys t)
 
 module _ (cap d : ℕ) where
-  pub drop-append : (xs ys : List Spot) (t : List ℤ) → dropAt (xs ++ ys) t cap d ≡ dropAt ys (dropAt xs t cap d) cap d
-  unfolding dropAt
-  drop-append [] ys t = refl
-  drop-append (x ∷ xs) ys t = drop-append xs ys (dropUntouched t cap d (kidAt t cap x))
-
-  pub supply-append : (xs ys : List Spot) (r : Lending) → suppliedAll cap d (xs ++ ys) r ≡ suppliedAll cap d ys (suppliedAll cap d xs r)
+  pub supply-append : (xs ys : List Spot) (t : List ℤ) → suppliedAll cap d (xs ++ ys) t ≡ suppliedAll cap d ys (suppliedAll cap d xs t)
   unfolding suppliedAll
-  supply-append [] ys r = refl
-  supply-append (x ∷ xs) ys r = supply-append xs ys (supplied cap d x r)
+  supply-append [] ys t = refl
+  supply-append (x ∷ xs) ys t = supply-append xs ys (supplied cap d x t)
 
 -- ---- the places near a cell
 
@@ -106,10 +93,3 @@ module _ (t : List ℤ) (cap n : ℕ) where
   unfolding refreshNear
   near-refreshed d {a} {north = north} {east} {both} {south} {west} h1 h2 h3 h4 h5 e f g =
       rw (g, f, wanted-is h1 h2 h3, outside-is h4 h5, ← e) (sym (each-append cap (pointRow cap) (kidSpots t cap n ++ cornerSpots north east both) (sideSpots south west) a))
-
--- the nine rows
-pub near-nine : (t : List ℤ) (cap n : ℕ) {north east both a b c d e f g h i : ℕ} → north ≡ linkOf t cap n 5 → east ≡ linkOf t cap n 6 → both ≡ linkOf t cap east 5
-    → a ≡ kidAt t cap (spot n 0 0) → b ≡ kidAt t cap (spot n 1 0) → c ≡ kidAt t cap (spot n 0 1) → d ≡ kidAt t cap (spot n 1 1)
-    → e ≡ kidAt t cap (spot north 0 0) → f ≡ kidAt t cap (spot north 1 0) → g ≡ kidAt t cap (spot east 0 1) → h ≡ kidAt t cap (spot east 0 0) → i ≡ kidAt t cap (spot both 0 0)
-    → (a ∷ b ∷ c ∷ d ∷ e ∷ f ∷ g ∷ h ∷ i ∷ []) ≡ map (kidAt t cap) (wantedSpots t cap n)
-near-nine t cap n x y z α β γ δ ε ζ η θ ι = rw (wanted-is t cap n x y z, α, β, γ, δ, ε, ζ, η, θ, ι)

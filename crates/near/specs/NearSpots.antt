@@ -1,13 +1,9 @@
--- A table with a number below which none is free, and the kids near a cell but its own.
+-- The kids near a cell but its own.
 -- Assumes nothing.
 use Prim.Native.Nat.{ℕ}
 use mathlib.Core.List.{List, [], _∷_}
-use lib.IntN.{ℤ}
-use Rattle.mesh.specs.Winds.{kidL, kidM}
-use Rattle.edit_laws.specs.Tables.{Lending, Spot, spot}
-
-abbrev pub lending : List ℤ → ℕ → Lending
-lending t k = record { words = t; low = k }
+use Rattle.winds.specs.WindTable.{kidL, kidM}
+use Rattle.edit_laws.specs.Tables.{Spot, spot}
 
 -- the kid of the row p in the wind at place w of the table of winds
 abbrev pub kidSpot : ℕ → ℕ → Spot

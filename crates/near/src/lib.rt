@@ -1,3 +1,2 @@
 // The rows near a cell: its kids, and the kids of its neighbours at its corners and sides; what a refinement and a removal write there.
-pub mod rows;
 pub mod spots;

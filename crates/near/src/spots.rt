@@ -7,10 +7,6 @@ ghost use Rattle.edit_laws.specs.Anew.{wallRow, pointRow};
 ghost use Rattle.edit_laws.specs.Tables.{kidAt, kidSpots, eachAt, refreshNear, putCells, putValues};
 ghost use Rattle.near.specs.NearSpots.{kidSpot, cornerSpots, sideSpots};
 ghost use Rattle.table.specs.Plain.{Plain};
-use mesh::NE;
-use mesh::NW;
-use mesh::SE;
-use mesh::SW;
 use patch::anew::point_row;
 use patch::anew::wall_row;
 use patch::links::put_unless_nil;
@@ -22,6 +18,10 @@ use table::words::SOUTH;
 use table::words::STATUS;
 use table::words::WEST;
 use table::writes::put_value;
+use winds::NE;
+use winds::NW;
+use winds::SE;
+use winds::SW;
 
 // The kid of the row p in the wind at place w of the table of winds, or 0.
 pub fn kid(t: &[i32], cap: usize, p: usize, w: usize) -> usize

@@ -5,15 +5,16 @@ use Prim.Native.Nat.{ℕ, _<_}
 use native.Mathlib.Decide.{ℕ-discrete}
 use mathlib.Core.Path.{_≡_, refl, sym, ap, _∙_, subst, fun-ext}
 use mathlib.Core.Logic.{_⊎_, inl, inr}
-use mathlib.Core.Bool.{Bool, true, false, not, cond}
+use mathlib.Core.Bool.{Bool, true, false, not}
 use mathlib.Core.Option.{Option, none, some, Option·none-ne-some}
 use mathlib.Core.List.{List}
 use lib.Dec.{T}
 use Rattle.number_laws.specs.Numbered.{Numbered}
-use Rattle.mesh.specs.Tools.{any, orElse, isSome}
+use Rattle.mesh.specs.Tools.{any, orElse}
 use Rattle.mesh.specs.Place.{Place, Grid, same, base, parent, In}
 use Rattle.mesh.specs.Mesh.{Mesh, leaf}
 use Rattle.mesh.specs.State.{State, Entry, used, Cell, Value, blank, measured, carried, amount, isBlank, cellOf, valueOf, entry, cells, number, numberOf, gridOf, contents}
+use Rattle.mesh.specs.Deed.{Contents, held, put}
 use Rattle.mesh.specs.Valid.{finite, aboveOf, ValueRule, Valid}
 use Rattle.place_laws.proofs.Bools.{no-is, is-yes}
 use Rattle.place_laws.proofs.Kids.{leaf-kidless, is-leaf}
@@ -22,12 +23,8 @@ use Rattle.number_laws.proofs.NumberedPlaces.{valid-numbered, number-pl
 
 -- ---- the rules
 
--- where a cell is held
-abbrev pub held : (Place → Option Cell) → Place → Bool
-held f p = isSome (f p)
-
 -- the value of a place's parent; blank where there is no parent, or no cell there
-abbrev pub valueAbove : (Place → Option Cell) → Place → Value
+abbrev pub valueAbove : Contents → Place → Value
 valueAbove f p = orElse blank (λ x. x .value) (orElse none f (parent p))
 
 -- the rule of a value, under the parent's
@@ -36,11 +33,11 @@ ValueUnder g p a blank = T (isBlank a)
 ValueUnder g p a (measured x) = T (finite x)
 ValueUnder g p a (carried x) = (base g < p .depth) × T (finite x) × T (not (isBlank a)) × (amount a ≡ x)
 
-pub record CellRule (g : Grid) (f : Place → Option Cell) (p : Place) (x : Cell) : Type 0 where
+pub record CellRule (g : Grid) (f : Contents) (p : Place) (x : Cell) : Type 0 where
   pub sentence : T (x .sentenced) → (base g < p .depth) × T (leaf g (held f) p)
   pub value : ValueUnder g p (valueAbove f p) (x .value)
 
-pub record Rules (g : Grid) (f : Place → Option Cell) : Type 0 where
+pub record Rules (g : Grid) (f : Contents) : Type 0 where
   pub mesh : Mesh g (held f)
   pub each : (p : Place) (x : Cell) → f p ≡ some x → CellRule g f p x
 
@@ -100,45 +97,42 @@ valid-rules s v =
 
 -- ---- other contents at some places
 
-abbrev pub changed : (Place → Option Cell) → List Place → Option Cell → Place → Option Cell
-changed f ps x q = cond (any (same q) ps) x (f q)
+module _ (f : Contents) (ps : List Place) (x : Option Cell) where
+  pub put-out : (q : Place) → (In q ps → ⊥) → put ps x f q ≡ f q
+  put-out q i = rw (no-is (any (same q) ps) i)
 
-module _ (f : Place → Option Cell) (ps : List Place) (x : Option Cell) where
-  pub changed-out : (q : Place) → (In q ps → ⊥) → changed f ps x q ≡ f q
-  changed-out q i = rw (no-is (any (same q) ps) i)
-
-  pub changed-cases : (q : Place) → (In q ps × (changed f ps x q ≡ x)) ⊎ (changed f ps x q ≡ f q)
-  changed-cases q = go (any (same q) ps) refl
+  pub put-cases : (q : Place) → (In q ps × (put ps x f q ≡ x)) ⊎ (put ps x f q ≡ f q)
+  put-cases q = go (any (same q) ps) refl
     where
-      go : (b : Bool) → any (same q) ps ≡ b → (In q ps × (changed f ps x q ≡ x)) ⊎ (changed f ps x q ≡ f q)
+      go : (b : Bool) → any (same q) ps ≡ b → (In q ps × (put ps x f q ≡ x)) ⊎ (put ps x f q ≡ f q)
       go true e = inl (is-yes (any (same q) ps) e, rw e)
       go false e = inr (rw e)
 
   -- the rules hold then if there are no new cells, no cell is left under a change, and each change keeps them
-  module _ (g : Grid) (r : Rules g f) (m : Mesh g (held (changed f ps x)))
-      (fewer : (q : Place) → T (held (changed f ps x) q) → T (held f q))
-      (apart : (p q : Place) → In p ps → parent q ≡ some p → T (held (changed f ps x) q) → ⊥)
+  module _ (g : Grid) (r : Rules g f) (m : Mesh g (held (put ps x f)))
+      (fewer : (q : Place) → T (held (put ps x f) q) → T (held f q))
+      (apart : (p q : Place) → In p ps → parent q ≡ some p → T (held (put ps x f) q) → ⊥)
       (own : (q : Place) (y : Cell) → In q ps → x ≡ some y → CellRule g f q y) where
-    same-above : (q : Place) → T (held (changed f ps x) q) → valueAbove (changed f ps x) q ≡ valueAbove f q
+    same-above : (q : Place) → T (held (put ps x f) q) → valueAbove (put ps x f) q ≡ valueAbove f q
     same-above q t = go (parent q) refl
       where
-        go : (o : Option Place) → parent q ≡ o → orElse blank (λ y. y .value) (orElse none (changed f ps x) o) ≡ orElse blank (λ y. y .value) (orElse none f o)
+        go : (o : Option Place) → parent q ≡ o → orElse blank (λ y. y .value) (orElse none (put ps x f) o) ≡ orElse blank (λ y. y .value) (orElse none f o)
         go none e = refl
-        go (some p) e = ap (λ (o : Option Cell). orElse blank (λ y. y .value) o) (changed-out p (λ i. apart p q i e t))
+        go (some p) e = ap (λ (o : Option Cell). orElse blank (λ y. y .value) o) (put-out p (λ i. apart p q i e t))
 
-    rule-kept : (q : Place) (y : Cell) → changed f ps x q ≡ some y → CellRule g f q y → CellRule g (changed f ps x) q y
+    rule-kept : (q : Place) (y : Cell) → put ps x f q ≡ some y → CellRule g f q y → CellRule g (put ps x f) q y
     rule-kept q y e k =
-        let t : T (held (changed f ps x) q) = rw e tt in
+        let t : T (held (put ps x f) q) = rw e tt in
         record {
           sentence = λ w.
               let (h, l) = k .sentence w in
-              (h, is-leaf g (held (changed f ps x)) q t (λ p d b. leaf-kidless g (held f) q l p d (fewer p b)));
+              (h, is-leaf g (held (put ps x f)) q t (λ p d b. leaf-kidless g (held f) q l p d (fewer p b)));
           value = subst (λ (a : Value). ValueUnder g q a (y .value)) (sym (same-above q t)) (k .value);
         }
 
-    pub changed-rules : Rules g (changed f ps x)
-    changed-rules = record { mesh = m; each = λ q y e. rule-kept q y e (go q y e (changed-cases q)) }
+    pub put-rules : Rules g (put ps x f)
+    put-rules = record { mesh = m; each = λ q y e. rule-kept q y e (go q y e (put-cases q)) }
       where
-        go : (q : Place) (y : Cell) → changed f ps x q ≡ some y → (In q ps × (changed f ps x q ≡ x)) ⊎ (changed f ps x q ≡ f q) → CellRule g f q y
+        go : (q : Place) (y : Cell) → put ps x f q ≡ some y → (In q ps × (put ps x f q ≡ x)) ⊎ (put ps x f q ≡ f q) → CellRule g f q y
         go q y e (inl (i, h)) = own q y i (sym h ∙ e)
         go q y e (inr h) = r .each q y (sym h ∙ e)

@@ -8,7 +8,8 @@ use mathlib.Core.Bool.{Bool, true, false, _&&_, cond}
 use mathlib.Core.List.{List, [], _∷_, _++_}
 use lib.Dec.{T, eqb, leb, leb→le}
 use Rattle.mesh.specs.Jump.{coarseBeside, finerBeside}
-use Rattle.mesh.specs.State.{State, cells, placeAt, gridOf}
+use Rattle.mesh.specs.State.{State, placeAt, gridOf, contents}
+use Rattle.mesh.specs.Deed.{held}
 use Rattle.mesh.specs.Refusal.{Check, _if_, refusal, behind}
 use Rattle.mesh.specs.Request.{Request, refine, sentence, remove, kill, setValue, looseChecks, checks}
 use Rattle.place_laws.proofs.Bools.{and-left, and-right}
@@ -63,18 +64,18 @@ behind-passes k j b ((n if false) ∷ cs) z t l e = go (eqb n k) l e (behind-pas
 
 module _ (s : State) where
   -- "21 for refine": it passes where a refinement is not refused, and so do the checks that the effect rests on
-  pub refine-passes : (n : ℕ) → refusal (checks s (refine n)) ≡ 0 → (coarseBeside (gridOf s) (cells (s .entries)) (placeAt (s .entries) n) ≡ false) × (refusal (looseChecks s (refine n)) ≡ 0)
+  pub refine-passes : (n : ℕ) → refusal (checks s (refine n)) ≡ 0 → (coarseBeside (gridOf s) (held (contents (s .entries))) (placeAt (s .entries) n) ≡ false) × (refusal (looseChecks s (refine n)) ≡ 0)
   unfolding looseChecks checks
   refine-passes n ok = behind-passes 10 21 _ (looseChecks s (refine n)) (λ z. omega arith) tt tt ok
 
   -- "22 for remove"
-  pub remove-passes : (n : ℕ) → refusal (checks s (remove n)) ≡ 0 → (finerBeside (gridOf s) (cells (s .entries)) (placeAt (s .entries) n) ≡ false) × (refusal (looseChecks s (remove n)) ≡ 0)
+  pub remove-passes : (n : ℕ) → refusal (checks s (remove n)) ≡ 0 → (finerBeside (gridOf s) (held (contents (s .entries))) (placeAt (s .entries) n) ≡ false) × (refusal (looseChecks s (remove n)) ≡ 0)
   unfolding looseChecks checks
   remove-passes n ok = behind-passes 14 22 _ (looseChecks s (remove n)) (λ z. omega arith) tt tt ok
 
   -- a request that is not refused passes the checks that its effect rests on
   pub loosely : (r : Request) → refusal (checks s r) ≡ 0 → refusal (looseChecks s r) ≡ 0
-  unfolding checks
+  unfolding looseChecks checks
   loosely (refine n) ok = refine-passes n ok .1
   loosely (sentence n) ok = ok
   loosely (remove n) ok = remove-passes n ok .1

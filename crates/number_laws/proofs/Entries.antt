@@ -47,12 +47,6 @@ cell-at p e t =
 pub is-cell-at : (p : Place) (e : Entry) (x : Cell) → e ≡ used p (some x) → T (cellAt p e)
 is-cell-at p e x h = rw h (and-both (same p p) true (same-refl p) tt)
 
-pub cell-used : (e : Entry) → T (isCell e) → (p : Place) × (x : Cell) × (e ≡ used p (some x))
-cell-used nil t = absurd t
-cell-used free t = absurd t
-cell-used (used p none) t = absurd t
-cell-used (used p (some x)) t = (p, x, refl)
-
 pub used-is : (e : Entry) → T (isUsed e) → (p : Place) × (placeOf e ≡ some p)
 used-is nil t = absurd t
 used-is free t = absurd t

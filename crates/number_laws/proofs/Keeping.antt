@@ -14,6 +14,7 @@ use Rattle.mesh.specs.Tools.{any, isSome}
 use Rattle.mesh.specs.Place.{Place, root, same, In}
 use Rattle.mesh.specs.Mesh.{Mesh, patch}
 use Rattle.mesh.specs.State.{State, Entry, free, Cell, placeOf, isNil, stands, entry, cells, number, gridOf, withEntries, contents}
+use Rattle.mesh.specs.Deed.{held, put}
 use Rattle.mesh.specs.Valid.{Valid}
 use Rattle.mesh.specs.Request.{fill, prune}
 use Rattle.place_laws.proofs.Bools.{yes-is, is-yes, and-both}
@@ -23,7 +24,7 @@ use Rattle.number_laws.proofs.Entries.{stands-in, cell-somewhere}
 use Rattle.number_laws.proofs.NumberedPlaces.{valid-numbered, numbered-not-zero, cells-contents}
 use Rattle.number_laws.proofs.Filling.{filled-nil, fill-entry, fill-length, fill-place, fill-number, fill-stands, fill-numbered, fill-contents, fill-cells}
 use Rattle.number_laws.proofs.Pruning.{pruned-nil, prune-entry, prune-length, prune-kept, prune-freed, prune-place, prune-stands, prune-number, prune-numbered, prune-nothing, prune-contents}
-use Rattle.number_laws.proofs.ByPlace.{held, Rules, rules-mesh, rules-sentences, rules-values, cells-held, changed, changed-cases}
+use Rattle.number_laws.proofs.ByPlace.{Rules, rules-mesh, rules-sentences, rules-values, cells-held, put-cases}
 
 -- what a state t is to s, where the cells of s at ps become x
 pub record Kept (s : State) (ps : List Place) (x : Option Cell) (t : State) : Type 0 where
@@ -45,7 +46,7 @@ kept-cells {s} {t} {ps} {x} k y there q = k .cells-is q ∙ go (any (same q) ps)
     go false e = refl
 
 module _ (s : State) (v : Valid s) (ps : List Place) (x : Option Cell) (there : (q : Place) → In q ps → T (cells (s .entries) q))
-    (r : Rules (gridOf s) (changed (contents (s .entries)) ps x)) where
+    (r : Rules (gridOf s) (put ps x (contents (s .entries)))) where
   abbrev between : List Entry
   between = fill ps x (s .entries)
 
@@ -62,19 +63,19 @@ module _ (s : State) (v : Valid s) (ps : List Place) (x : Option Cell) (there : 
   between-numbered : Numbered between
   between-numbered = fill-numbered ps x (s .entries) (valid-numbered v)
 
-  between-contents : contents between ≡ changed (contents (s .entries)) ps x
+  between-contents : contents between ≡ put ps x (contents (s .entries))
   between-contents = fun-ext (fill-contents ps x (s .entries) (valid-numbered v) stands-there)
 
-  between-cells : cells between ≡ held (changed (contents (s .entries)) ps x)
+  between-cells : cells between ≡ held (put ps x (contents (s .entries)))
   between-cells = cells-held between between-numbered ∙ ap held between-contents
 
   between-mesh : Mesh (gridOf s) (cells between)
   between-mesh = rules-mesh (withEntries s between) between-numbered (rw between-contents r)
 
   fewer : (q : Place) → T (cells between q) → T (cells (s .entries) q)
-  fewer q t = go (rw between-cells at t) (changed-cases (contents (s .entries)) ps x q)
+  fewer q t = go (rw between-cells at t) (put-cases (contents (s .entries)) ps x q)
     where
-      go : T (isSome (changed (contents (s .entries)) ps x q)) → (In q ps × (changed (contents (s .entries)) ps x q ≡ x)) ⊎ (changed (contents (s .entries)) ps x q ≡ contents (s .entries) q) → T (cells (s .entries) q)
+      go : T (isSome (put ps x (contents (s .entries)) q)) → (In q ps × (put ps x (contents (s .entries)) q ≡ x)) ⊎ (put ps x (contents (s .entries)) q ≡ contents (s .entries) q) → T (cells (s .entries) q)
       go h (inl (i, e)) = there q i
       go h (inr e) = rw (cells-contents (s .entries) (valid-numbered v) q) (rw e at h)
 
@@ -135,7 +136,7 @@ module _ (s : State) (v : Valid s) (ps : List Place) (x : Option Cell) (there : 
   }
 
   -- where the cells are the same, no place is left without a patch
-  pub kept-filled : ((q : Place) → cells (s .entries) q ≡ held (changed (contents (s .entries)) ps x) q) → Kept s ps x (withEntries s (fill ps x (s .entries)))
+  pub kept-filled : ((q : Place) → cells (s .entries) q ≡ held (put ps x (contents (s .entries))) q) → Kept s ps x (withEntries s (fill ps x (s .entries)))
   kept-filled h = subst (λ (es : List Entry). Kept s ps x (withEntries s es)) (prune-nothing (gridOf s) between patches) kept-pruned
     where
       patches : (n : ℕ) (p : Place) → placeOf (entry between n) ≡ some p → T (patch (gridOf s) (cells between) p)

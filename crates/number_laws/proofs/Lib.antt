@@ -9,10 +9,10 @@ pub mod Building
 pub mod Sizes
 pub mod Giving
 pub mod Turns
+pub mod ByPlace
+pub mod Naming
 pub mod Refining
 pub mod Pruning
-pub mod ByPlace
 pub mod Keeping
-pub mod Naming
 pub mod Marking
 pub mod Taking

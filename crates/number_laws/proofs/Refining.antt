@@ -10,26 +10,28 @@ use mathlib.Core.Option.{Option, none, some, Option·map, Option·some-injective
 use mathlib.Core.List.{List, _∷_, _++_}
 use lib.Dec.{T, eqb}
 use lib.ListN.{length}
-use borrow.Author.Tests.{eq-eqb, eqb-false, ltb-false, not-false}
+use borrow.Author.Tests.{eq-eqb, eqb-false, ltb-false}
 use Rattle.number_laws.specs.Numbered.{Numbered}
 use Rattle.mesh.specs.Tools.{any, count, orElse, isSome}
 use Rattle.mesh.specs.Place.{Place, Grid, NE, same, root, base, kid, kids, parent, In}
 use Rattle.mesh.specs.Mesh.{leaf, patch}
-use Rattle.mesh.specs.State.{State, Header, Entry, used, Cell, Value, blank, measured, carried, placeOf, valueOf, isNil, isUsed, isCell, stands, entry, cells, number, numberOf, placeAt, freeCount, inUse, gridOf, withEntries, nextFree, contents}
+use Rattle.mesh.specs.State.{State, Header, Entry, used, Cell, Value, blank, measured, carried, placeOf, valueOf, isNil, isUsed, stands, entry, cells, number, numberOf, placeAt, freeCount, inUse, gridOf, withEntries, nextFree, contents}
+use Rattle.mesh.specs.Carrying.{inherited, kidCell}
 use Rattle.mesh.specs.Valid.{Valid, ValueRule, aboveOf}
 use Rattle.mesh.specs.Refusal.{refusal}
-use Rattle.mesh.specs.Request.{refine, wanted, missing, looseChecks, give, filled, fill, inherited, kidCell, effect}
+use Rattle.mesh.specs.Request.{refine, wanted, missing, looseChecks, give, filled, fill, effect}
 use Rattle.place_laws.proofs.Bools.{is-yes, no-is}
 use Rattle.place_laws.proofs.Lists.{keep-length, count-map}
 use Rattle.place_laws.proofs.Distinct.{in-length, in-keep}
-use Rattle.place_laws.proofs.Kids.{in-parent, kid-in, parent-depth, kid-has, leaf-cell, leaf-kidless, is-leaf}
+use Rattle.place_laws.proofs.Kids.{in-parent, kid-in, parent-depth, leaf-cell, leaf-kidless, is-leaf}
 use Rattle.place_laws.proofs.Base.{lap-many}
 use Rattle.place_laws.proofs.Wanted.{kid-wanted, wanted-distinct}
 use Rattle.place_laws.proofs.Growing.{grown, grown-old, grown-cases, grown-mesh, patch-grown, grown-patch, middle-new}
-use Rattle.number_laws.proofs.Entries.{cell-used, cell-there, cell-somewhere, in-stands, stands-in}
+use Rattle.number_laws.proofs.Entries.{cell-there, cell-somewhere, in-stands, stands-in}
 use Rattle.number_laws.proofs.NumberedPlaces.{valid-numbered, number-place, entry-contents, cells-contents}
 use Rattle.number_laws.proofs.Filling.{filled-place, filled-nil, fill-entry, fill-length, fill-place, fill-number, fill-numbered, fill-contents}
 use Rattle.number_laws.proofs.Checks.{passes}
+use Rattle.number_laws.proofs.Naming.{named, named-leaf}
 use Rattle.number_laws.proofs.Giving.{Next, Change, stays, taken, lacking, Gave, gave, kept-place, kept-number, gave-contents}
 use Rattle.number_laws.proofs.Turns.{give-turn}
 
@@ -45,23 +47,21 @@ pub record Refinable (s : State) (n : ℕ) (p : Place) (x : Cell) : Type 0 where
 pub refinable : (s : State) → Valid s → (n : ℕ) → refusal (looseChecks s (refine n)) ≡ 0 → (p : Place) × (x : Cell) × Refinable s n p x
 unfolding looseChecks missing
 refinable s v n ok =
-    let (a₁, h₁) = passes 6 _ _ (λ z. omega arith) ok in
-    let (a₂, h₂) = passes 7 _ _ (λ z. omega arith) h₁ in
+    let (d, h₂) = named s v n _ ok in
     let (a₃, h₃) = passes 8 _ _ (λ z. omega arith) h₂ in
     let (a₄, h₄) = passes 9 _ _ (λ z. omega arith) h₃ in
     let (a₅, h₅) = passes 10 _ _ (λ z. omega arith) h₄ in
     let (a₆, h₆) = passes 11 _ _ (λ z. omega arith) h₅ in
-    let (p, x, e) = cell-used (entry (s .entries) n) (is-yes (isCell (entry (s .entries) n)) (not-false (isCell (entry (s .entries) n)) a₂)) in
-    let here = cell-there (s .entries) n p x e in
-    let top = eqb-false (p .depth) (base (gridOf s) + 12) (rw e at a₄) in (
+    let p = placeAt (s .entries) n in
+    let top = eqb-false (p .depth) (base (gridOf s) + 12) a₄ in (
       p,
-      x,
+      d .its,
       record {
-        stood = e;
-        not-sentenced = rw e at a₅;
-        kidless = λ q f t. subst T (rw e at a₃) (kid-has (gridOf s) (cells (s .entries)) p q f t);
-        low = omega (arith, v .mesh .high p here);
-        room = ltb-false _ _ (rw e at a₆);
+        stood = d .is-entry;
+        not-sentenced = rw (d .is-contents) at a₅;
+        kidless = leaf-kidless (gridOf s) (cells (s .entries)) p (named-leaf v d a₃);
+        low = omega (arith, v .mesh .high p (d .is-there));
+        room = ltb-false _ _ a₆;
       },
     )
 

@@ -5,7 +5,7 @@ ghost use Prim.Native.Nat.{_+_, _%_, _^_, _<_, _≤_};
 ghost use lib.Dec.{leb};
 ghost use lib.ListN.{length};
 ghost use Rattle.mesh.specs.Page.{lineFeed, modeWord, headLine, total, footLine};
-ghost use Rattle.mesh.specs.Headers.{headerOf};
+ghost use Rattle.header.specs.Headers.{headerOf};
 ghost use Rattle.mesh.specs.Call.{writing};
 ghost use Rattle.table.specs.Plain.{Sized};
 ghost use Rattle.lines.specs.Puts.{Put};
@@ -13,6 +13,8 @@ ghost use Rattle.page.specs.PageRows.{written};
 ghost use Rattle.lines.specs.LineRows.{Listed};
 ghost use Rattle.page.specs.PageRows.{leavesFrom, bodyOf, pageOf, rowOut};
 use crate::leaves::find_leaves;
+use header::Header;
+use header::is_ring;
 use lines::leaf_lines::lines_size;
 use lines::leaf_lines::lines_sum;
 use lines::leaf_lines::put_lines;
@@ -22,8 +24,6 @@ use lines::numerals::put_byte;
 use lines::numerals::put_decimal;
 use lines::numerals::put_number;
 use lines::numerals::put_text;
-use mesh::header::Header;
-use mesh::header::is_ring;
 
 // No last line is longer.
 const LONGEST_FOOT: usize = 52;

@@ -11,12 +11,12 @@ use lib.Dec.{eqb}
 use lib.ListN.{length, getD, set, length-set}
 use lib.IntN.{ℤ, pos, subℕ}
 use Rattle.mesh.specs.Place.{Wind, NE, N, E, S, W, compass}
-use Rattle.mesh.specs.Winds.{winds, wordOfWind, compassAt}
+use Rattle.mesh.specs.Winds.{winds, wordOfWind}
+use Rattle.winds.specs.WindTable.{compassAt}
 use Rattle.mesh.specs.Picture.{rowWords, flagsWord, iWord, jWord, parentWord}
-use Rattle.mesh.specs.declared.Compass.{Compass}
+use Rattle.winds.specs.declared.Compass.{Compass}
 use Rattle.table.specs.Words.{wordOf, linkOf, depthOf}
-use Rattle.table.specs.Worked.{kidWord}
-use Rattle.table.specs.Sides.{sideBy}
+use Rattle.table.specs.Worked.{kidWord, sideBy}
 use Rattle.table.specs.Writes.{putRow, freeRow}
 use Rattle.table.proofs.Offsets.{side-digits}
 use Rattle.table_laws.proofs.LinkedRows.{kid-word-lt}

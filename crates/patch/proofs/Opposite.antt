@@ -4,8 +4,9 @@ use mathlib.Core.Path.{_≡_, ap, subst, sym, _∙_}
 use Prim.Native.Nat.{ℕ, _+_, _<_}
 use lib.ListN.{getD, List·getD-map}
 use Rattle.mesh.specs.Place.{NE, compass}
-use Rattle.mesh.specs.Winds.{winds, position, wordOfWind, compassOf, compassAt}
-use Rattle.mesh.specs.declared.Compass.{Compass}
+use Rattle.mesh.specs.Winds.{winds, position, wordOfWind}
+use Rattle.winds.specs.WindTable.{compassOf, compassAt}
+use Rattle.winds.specs.declared.Compass.{Compass}
 use Rattle.mesh.proofs.Winds.{rule}
 use Rattle.table.proofs.Offsets.{at}
 use Rattle.table.proofs.PutRows.{getD-any}

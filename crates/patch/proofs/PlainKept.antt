@@ -5,7 +5,7 @@ use mathlib.Core.Logic.{_≢_}
 use mathlib.Core.Bool.{Bool, true, false, cond}
 use mathlib.Core.Option.{none}
 use mathlib.Core.List.{List, [], _∷_}
-use Prim.Native.Nat.{ℕ, _+_, _*_, _≤_, _<_}
+use Prim.Native.Nat.{ℕ, zero, suc, _+_, _*_, _≤_, _<_}
 use native.Mathlib.Omega.{arith}
 use native.Mathlib.Decide.{ℕ-discrete}
 use lib.Dec.{eqb}
@@ -14,11 +14,11 @@ use lib.IntN.{ℤ, pos, subℕ}
 use Rattle.edit_laws.specs.Growing.{Rooted}
 use Rattle.mesh.specs.Place.{Place, Grid, Wind, compass, around}
 use Rattle.mesh.specs.Winds.{wordOfWind}
-use Rattle.mesh.specs.Picture.{rowWords, flagsWord, statusWord, linkWords}
+use Rattle.mesh.specs.Picture.{rowWords, flagsWord, linkWords}
 use Rattle.mesh.specs.State.{Entry, nil, free, used, placeOf, entry}
 use Rattle.table.specs.Words.{code, wordOf, linkOf, depthOf}
-use Rattle.table.specs.Worked.{kidWord}
-use Rattle.table.specs.Sides.{sideBy}
+use Rattle.table.specs.Carried.{putStatus, nothing}
+use Rattle.table.specs.Worked.{kidWord, sideBy}
 use Rattle.table.specs.Writes.{putRow, freeRow}
 use Rattle.table.proofs.LinkRanges.{link-within}
 use Rattle.table_laws.proofs.LinkedRows.{kid-word-lt}
@@ -29,7 +29,6 @@ use Rattle.edit_laws.proofs.Slots.{put-length, put-same, put-other}
 use Rattle.edit_laws.proofs.WrittenWord.{word-other, word-either, wind-word}
 use Rattle.edit_laws.proofs.Linked.{linked-length, number-of, flags-of, word-free, word-nil}
 use Rattle.edit_laws.proofs.Rooted.{number-le}
-use Rattle.edit_laws.proofs.Freeing.{free-link}
 use Rattle.table.specs.Plain.{Sized, Plain}
 use Rattle.patch.specs.LinkBy.{linkBy}
 
@@ -113,6 +112,18 @@ plain-drop {t} {cap = cap} k w p e =
     rw e
     (plain-either p (eqb (linkOf t cap k (wordOfWind w)) 0) (plain-link p _ (wordOfWind (compass w .opposite)) 0 (wind-word (compass w .opposite)) (omega arith)))
 
+free-link : (w : ℕ) → w < 9 → code (getD freeRow w (pos 0)) ≡ 0
+free-link zero h = refl
+free-link (suc zero) h = refl
+free-link (suc (suc zero)) h = refl
+free-link (suc (suc (suc zero))) h = refl
+free-link (suc (suc (suc (suc zero)))) h = refl
+free-link (suc (suc (suc (suc (suc zero))))) h = refl
+free-link (suc (suc (suc (suc (suc (suc zero)))))) h = refl
+free-link (suc (suc (suc (suc (suc (suc (suc zero))))))) h = refl
+free-link (suc (suc (suc (suc (suc (suc (suc (suc zero)))))))) h = refl
+free-link (suc (suc (suc (suc (suc (suc (suc (suc (suc w))))))))) h = let no : ⊥ = omega arith in absurd no
+
 -- its row is free
 pub plain-freed : {t u : List ℤ} {cap : ℕ} (k : ℕ) → Plain t cap → u ≡ putRow t k freeRow → k * rowWords + rowWords ≤ length t → Plain u cap
 unfolding wordOf
@@ -131,7 +142,7 @@ plain-freed {t} {cap = cap} k p e fits =
     flag m h (no e) = rw (put-other t freeRow k refl fits m 12 (omega arith) e) (p .flags m h)
 
 -- a cell that is killed
-pub plain-killed : {t u v : List ℤ} {cap : ℕ} (n : ℕ) → Plain t cap → u ≡ putWord t n flagsWord 0 → v ≡ putWord u n statusWord 0 → Plain v cap
+pub plain-killed : {t u v : List ℤ} {cap : ℕ} (n : ℕ) → Plain t cap → u ≡ putWord t n flagsWord 0 → v ≡ putStatus u n nothing → Plain v cap
 plain-killed n p e h = rw h (plain-else (plain-put n 0 p e (omega arith)) n 13 (pos 0) (omega arith) (λ e. omega arith) (omega arith))
 
 -- ---- a linked table, and a picture

@@ -3,13 +3,10 @@
 use Prim.Native.Nat.{ℕ}
 use mathlib.Core.List.{List}
 use lib.IntN.{ℤ}
-use Rattle.mesh.specs.Place.{Wind, compass}
-use Rattle.mesh.specs.Winds.{wordOfWind}
-use Rattle.table.specs.Sides.{sideBy}
-use Rattle.edit_laws.specs.Steps.{putWord, putUnlessNil}
+use Rattle.mesh.specs.Place.{Wind}
+use Rattle.table.specs.Worked.{sideBy}
+use Rattle.edit_laws.specs.Steps.{nameEach}
 
 -- the row k, a kid of the row p whose digits are l and m
 unfoldable pub linkBy : List ℤ → ℕ → ℕ → ℕ → ℕ → ℕ → Wind → List ℤ
-linkBy t cap p l m k w =
-    let x = sideBy t cap p l m w in
-    putUnlessNil (putWord t k (wordOfWind w) x) x (wordOfWind (compass w .opposite)) k
+linkBy t cap p l m k w = nameEach t k w (sideBy t cap p l m w)

@@ -6,14 +6,10 @@ ghost use Rattle.mesh.specs.Place.{NE};
 ghost use Rattle.mesh.specs.Winds.{winds};
 ghost use Rattle.mesh.specs.Picture.{rowWords};
 ghost use Rattle.table.specs.Plain.{Plain};
+ghost use Rattle.table.specs.Worked.{touchedIn};
 ghost use Rattle.edit_laws.specs.Steps.{putUnlessNil, placeIn, linkIn, dropSide, takeOut};
-ghost use Rattle.edit_laws.specs.Tables.{touchedRow};
 ghost use Rattle.patch.specs.LinkBy.{linkBy};
 ghost use Rattle.patch.specs.Small.{Small};
-use mesh::E;
-use mesh::N;
-use mesh::S;
-use mesh::W;
 use table::flag_bits::COMPLETE;
 use table::plain;
 use table::plain::flag;
@@ -30,6 +26,10 @@ use table::worked::side_by;
 use table::writes::clear_row;
 use table::writes::put;
 use table::writes::put_level;
+use winds::E;
+use winds::N;
+use winds::S;
+use winds::W;
 
 // Writes x as the word w of the row n, unless n is 0.
 pub fn put_unless_nil(t: &mut [i32], n: usize, w: usize, x: u32)
@@ -48,7 +48,7 @@ fn link_side(t: &mut [i32], cap: usize, p: usize, l: u32, m: u32, k: usize, w: u
     ensures { λ _. ⌜ (now (t .exit) ≡ linkBy (now (t .entry)) cap p l m k (getD winds w NE)) × Plain (now (t .exit)) cap ⌝ }
 {
     let x = side_by(t, cap, p, l, m, w);
-    let c = mesh::wind(w);
+    let c = winds::wind(w);
     let o = c.opposite;
     put(t, k, w + 1, x as u32);
     put_unless_nil(t, x, o + 1, k as u32);
@@ -88,7 +88,7 @@ fn drop_side(t: &mut [i32], cap: usize, k: usize, w: usize)
     ensures { λ _. ⌜ (now (t .exit) ≡ dropSide (now (t .entry)) cap k (getD winds w NE)) × Plain (now (t .exit)) cap ⌝ }
 {
     let x = link(t, cap, k, w + 1);
-    let c = mesh::wind(w);
+    let c = winds::wind(w);
     let o = c.opposite;
     put_unless_nil(t, x, o + 1, 0);
 }
@@ -109,9 +109,9 @@ pub fn take_out(t: &mut [i32], cap: usize, k: usize)
 }
 
 // Whether a cell touches the patch of the row n.
-pub fn touched_row(t: &[i32], cap: usize, d: u32, n: usize) -> bool
+pub fn touched_row(t: &[i32], cap: usize, n: usize) -> bool
     requires { ⌜ Plain (now t) cap × (n ≤ cap) ⌝ }
-    ensures { λ r. ⌜ r ≡ touchedRow (now (t .entry)) cap d n ⌝ }
+    ensures { λ r. ⌜ r ≡ touchedIn (now (t .entry)) cap n ⌝ }
 {
     let west = link(t, cap, n, WEST);
     let south = link(t, cap, n, SOUTH);

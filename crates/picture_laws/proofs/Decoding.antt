@@ -19,7 +19,7 @@ use Rattle.mesh.specs.Place.{Place, Grid, around, base, level}
 use Rattle.mesh.specs.Mesh.{derived, flags}
 use Rattle.mesh.specs.State.{State, Entry, nil, free, used, Cell, Value, blank, measured, carried, status, amount, placeOf, cellOf, isNil, isCell, isSentenced, valueOf, entry, cells, gridOf}
 use Rattle.mesh.specs.Valid.{Valid}
-use Rattle.mesh.specs.Picture.{rowWords, fields, rowOf, table, amounts}
+use Rattle.mesh.specs.Picture.{rowWords, fields, rowOf, table, amounts, picture}
 use Rattle.mesh.specs.Decode.{digitsOf, valueFrom, flag, placeFrom, entryFrom, entriesFrom, decode}
 use Rattle.place_laws.proofs.Places.{place-path}
 use Rattle.number_laws.proofs.Entries.{place-used}
@@ -117,10 +117,10 @@ module _ (s : State) (v : Valid s) where
       rw (drop-at (r e) (flat (map r es)) rowWords (row-length (gridOf s) (s .entries) e), others, first)
 
   -- decoding the picture of a valid state gives it back
-  pub decode-back : decode (s .header) (table s) (amounts s) ≡ s
+  pub decode-back : decode (picture s) ≡ s
   unfolding decode table amounts
   decode-back = λ i. record { header = s .header; entries = all-back (s .entries) refl i }
 
 -- so a picture has one valid state at most
-pub picture-one : (s t : State) → Valid s → Valid t → s .header ≡ t .header → table s ≡ table t → amounts s ≡ amounts t → s ≡ t
-picture-one s t v w h a b = sym (decode-back s v) ∙ rw (a, b, h) (decode-back t w)
+pub picture-one : (s t : State) → Valid s → Valid t → picture s ≡ picture t → s ≡ t
+picture-one s t v w e = sym (decode-back s v) ∙ ap decode e ∙ decode-back t w

@@ -18,7 +18,8 @@ use Rattle.mesh.specs.Valid.{Valid}
 use Rattle.mesh.specs.Picture.{fields, rowOf, linkWord}
 use Rattle.mesh.proofs.Winds.{rule}
 use Rattle.place_laws.proofs.Lists.{any-at, any-hit, any-map}
-use Rattle.place_laws.proofs.Places.{same-is, step-back}
+use Rattle.place_laws.proofs.Steps.{step-back}
+use Rattle.place_laws.proofs.Places.{same-is}
 use Rattle.place_laws.proofs.Kids.{parent-kid, parent-in}
 use Rattle.place_laws.proofs.SideDigits.{opposite-aside}
 use Rattle.number_laws.proofs.Entries.{in-stands}

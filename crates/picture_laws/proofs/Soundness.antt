@@ -1,30 +1,29 @@
--- A header, a table and values are sound exactly if they pass the test: the state that they picture, if any, is the decoded one.
+-- What is lent is sound exactly if it passes the test: the state that it pictures, if any, is the decoded one.
 -- Assumes nothing.
 use Prim.Native.Nat.{ℕ}
-use mathlib.Core.Path.{_≡_, refl, sym}
+use mathlib.Core.Path.{_≡_, refl, sym, ap, _∙_, subst}
 use mathlib.Core.Option.{none, some}
-use mathlib.Core.List.{List, [], _∷_}
 use lib.Dec.{T}
-use lib.IntN.{ℤ, pos}
-use lib.Ieee.{Float}
+use lib.IntN.{pos}
 use lib.ListN.{getD}
 use Rattle.mesh.specs.Tools.{sameList}
 use Rattle.mesh.specs.Place.{Place}
-use Rattle.mesh.specs.State.{State, Header, Entry, nil, free, used, Value, blank, measured, carried, plusZero, amount, valueOf, entry}
+use Rattle.mesh.specs.State.{State, Entry, nil, free, used, Value, blank, measured, carried, plusZero, amount, valueOf, entry}
 use Rattle.mesh.specs.Valid.{Valid, ValueRule, finite}
-use Rattle.mesh.specs.Picture.{table, amounts, Sound}
+use Rattle.mesh.specs.Picture.{table, amounts, Lent, picture, Sound}
 use Rattle.mesh.specs.Decode.{decode}
-use Rattle.mesh.specs.Test.{sameInt, sameFloat, valid, sound}
+use Rattle.mesh.specs.Test.{sameInt, sameFloat, soundTests, sound}
 use Rattle.place_laws.proofs.Lists.{every-at, at-every}
 use Rattle.picture_laws.proofs.Rows.{amounts-at}
+use Rattle.picture_laws.proofs.Parts.{parts-picture}
 use Rattle.picture_laws.proofs.Decoding.{decode-back}
 use Rattle.picture_laws.proofs.Equal.{int-is, int-refl, float-is, float-refl, list-is, list-refl}
 use Rattle.picture_laws.proofs.Testing.{valid-test, test-valid}
 
 -- ---- the picture of a valid state
 
-pub picture-sound : {s : State} → Valid s → Sound (s .header) (table s) (amounts s)
-picture-sound {s} v = record { state = s; valid = v; is-header = refl; is-table = refl; is-values = refl }
+pub picture-sound : {s : State} → Valid s → Sound (picture s)
+picture-sound {s} v = record { state = s; valid = v; is-picture = refl }
 
 module _ (s : State) (v : Valid s) where
   pub finite-amount : (n : ℕ) → T (finite (amount (valueOf (entry (s .entries) n))))
@@ -44,30 +43,29 @@ module _ (s : State) (v : Valid s) where
   same-amounts : T (sameList sameFloat (amounts s) (amounts s))
   same-amounts = list-refl sameFloat plusZero (amounts s) (λ k. float-refl (getD (amounts s) k plusZero) (rw (amounts-at s k) (finite-amount k)))
 
-module _ (h : Header) (t : List ℤ) (v : List Float) where
+module _ {l : Lent} where
   -- the state of what is sound is the decoded one
-  pub sound-state : (o : Sound h t v) → o .state ≡ decode h t v
-  sound-state o = sym (rw (o .is-header, o .is-table, o .is-values) (decode-back (o .state) (o .valid)))
+  pub sound-state : (o : Sound l) → o .state ≡ decode l
+  sound-state o = sym (decode-back (o .state) (o .valid)) ∙ ap decode (sym (o .is-picture))
 
-  pub sound-test : Sound h t v → T (sound h t v)
-  unfolding sound
+  pub sound-valid : Sound l → Valid (decode l)
+  sound-valid o = subst Valid (sound-state o) (o .valid)
+
+  pub sound-test : Sound l → T (sound l)
+  unfolding sound soundTests
   sound-test o =
       let s = o .state in
-      let e : o .state ≡ decode h t v = sound-state o in
-      let a : T (sameList sameInt t (table s)) = rw (o .is-table) (list-refl sameInt (pos 0) (table s) (λ k. int-refl (getD (table s) k (pos 0)))) in
-      let b : T (sameList sameFloat v (amounts s)) = rw (o .is-values) (same-amounts s (o .valid)) in
-      at-every (valid (decode h t v) ∷ sameList sameInt t (table (decode h t v)) ∷ sameList sameFloat v (amounts (decode h t v)) ∷ [])
-      (rw (← e) (valid-test s (o .valid)), (rw (← e) a, (rw (← e) b, tt)))
+      let back : decode (picture s) ≡ s = decode-back s (o .valid) in
+      let same : T (sameList sameInt (table s) (table s)) = list-refl sameInt (pos 0) (table s) (λ k. int-refl (getD (table s) k (pos 0))) in
+      rw (o .is-picture) (at-every (soundTests (picture s)) (rw back (valid-test s (o .valid)), (rw back same, (rw back (same-amounts s (o .valid)), tt))))
 
-  pub test-sound : T (sound h t v) → Sound h t v
-  unfolding sound decode
+  pub test-sound : T (sound l) → Sound l
+  unfolding sound soundTests decode
   test-sound x =
-      let s = decode h t v in
-      let nth = every-at (valid s ∷ sameList sameInt t (table s) ∷ sameList sameFloat v (amounts s) ∷ []) x in
+      let s = decode l in
+      let nth = every-at (soundTests l) x in
       record {
         state = s;
         valid = test-valid s (nth 0);
-        is-header = refl;
-        is-table = list-is sameInt int-is t (table s) (nth 1);
-        is-values = list-is sameFloat float-is v (amounts s) (nth 2);
+        is-picture = parts-picture s refl (list-is sameInt int-is (l .words) (table s) (nth 1)) (list-is sameFloat float-is (l .values) (amounts s) (nth 2));
       }

@@ -10,15 +10,16 @@ use mathlib.Core.Bool.{Bool, true, false, _&&_, _||_}
 use mathlib.Core.Option.{some}
 use lib.Dec.{T, ltb, ltb→lt}
 use borrow.Author.Tests.{eq-eqb, le-ltb, ltb-false}
-use Rattle.mesh.specs.Place.{Place, Grid, isRing, root, base, lap, toNorth, toEast, parent}
+use Rattle.mesh.specs.Place.{Place, Grid, isRing, root, base, lap, toEast, parent}
 use Rattle.mesh.specs.Seam.{opened}
 use Rattle.mesh.specs.Mesh.{Mesh, patch}
 use Rattle.mesh.specs.Call.{outside, misfit, Rectangle}
 use Rattle.mesh.proofs.Depth.{LeastPower, ground-power}
 use Rattle.place_laws.proofs.Bools.{is-yes, yes-is, no-is, and-left, and-right, neither}
 use Rattle.place_laws.proofs.Ranges.{within-outside, outside-within}
-use Rattle.place_laws.proofs.Laps.{Below, after-near, after-within, lap-ghost, lap-open, lap-ring}
 use Rattle.place_laws.proofs.Places.{place-path}
+use Rattle.place_laws.proofs.Steps.{lap-ghost, lap-open, lap-ring, north-i, north-j, east-i, east-j, east-depth}
+use Rattle.place_laws.proofs.Laps.{Below, after-near, after-within}
 use Rattle.place_laws.proofs.Kids.{up, parent-up, up-is, up-depth, parent-depth}
 use Rattle.place_laws.proofs.Near.{Corner, c-here, c-east, c-north, c-both, corner-depth, touched-corner}
 use Rattle.place_laws.proofs.Tree.{patch-touched, ghost-kid, cell-patch, cell-up, patch-up}
@@ -85,19 +86,17 @@ module _ (g : Grid) (in-range : Rectangle g) where
 
 -- a corner of a cell lies at most one step on
 pub corner-near : {g : Grid} {r q : Place} → Corner g r q → (q .i ≤ suc (r .i)) × (q .j ≤ suc (r .j))
-unfolding toNorth toEast
 corner-near c-here = (omega arith, omega arith)
-corner-near c-east = (omega arith, omega arith)
-corner-near {g} {r} c-north = (omega arith, after-near (lap g (r .depth)) (r .j))
-corner-near {g} {r} c-both = (omega arith, after-near (lap g (r .depth)) (r .j))
+corner-near {g} {r} c-east = rw (east-i g r, east-j g r) (omega arith, omega arith)
+corner-near {g} {r} c-north = rw (north-i g r, north-j g r) (omega arith, after-near (lap g (r .depth)) (r .j))
+corner-near {g} {r} c-both = rw (north-i g (toEast g r), north-j g (toEast g r), east-depth g r, east-i g r, east-j g r) (omega arith, after-near (lap g (r .depth)) (r .j))
 
 -- and in a ring within its rows
 pub corner-within : {g : Grid} {r q : Place} → Corner g r q → r .j < lap g (r .depth) → q .j < lap g (r .depth)
-unfolding toNorth toEast
 corner-within c-here h = h
-corner-within c-east h = h
-corner-within {g} {r} c-north h = after-within (lap g (r .depth)) (r .j) h
-corner-within {g} {r} c-both h = after-within (lap g (r .depth)) (r .j) h
+corner-within {g} {r} c-east h = rw (east-j g r) h
+corner-within {g} {r} c-north h = rw (north-j g r) (after-within (lap g (r .depth)) (r .j) h)
+corner-within {g} {r} c-both h = rw (north-j g (toEast g r), east-depth g r, east-j g r) (after-within (lap g (r .depth)) (r .j) h)
 
 -- "halve the indices, rounding down"
 pub halved : (q p : Place) → parent q ≡ some p → (p .i ≡ q .i / 2) × (p .j ≡ q .j / 2)

@@ -5,17 +5,18 @@ use Prim.Native.Nat.{ℕ, zero, suc, _+_, _-_, _*_, _/_, _^_, _≤_, _<_}
 use native.Mathlib.Nat.{pow-succ', mul-assoc, mul-le-mul-right}
 use native.Mathlib.Omega.{arith}
 use native.Mathlib.Decide.{decLt}
-use mathlib.Core.Path.{_≡_, refl, sym, _∙_}
+use mathlib.Core.Path.{_≡_, refl, sym, ap, _∙_}
+use mathlib.Core.Logic.{_≢_}
 use mathlib.Core.Bool.{Bool, true, false, _&&_, cond}
 use lib.Dec.{T, leb, leb→le, le→leb}
 use Rattle.mesh.specs.Call.{Rectangle}
-use Rattle.mesh.specs.Place.{Place, Grid, at, base, lap, jAfter, toNorth, toEast, SW, kid, isRing}
+use Rattle.mesh.specs.Place.{Place, Grid, at, base, lap, toNorth, SW, kid, isRing}
 use Rattle.mesh.specs.Seam.{lastJ}
 use Rattle.mesh.specs.Mesh.{patch}
 use Rattle.mesh.specs.Build.{full}
 use Rattle.place_laws.proofs.Bools.{bool-ext, and-both, and-left, and-right}
-use Rattle.place_laws.proofs.Laps.{after-on, lap-open}
 use Rattle.place_laws.proofs.Places.{place-path}
+use Rattle.place_laws.proofs.Steps.{lap-open, north-on, east-on}
 use Rattle.place_laws.proofs.Kids.{parent-depth, parent-kid, kid-depth}
 use Rattle.place_laws.proofs.Near.{Corner, c-here, c-east, c-north, c-both, corner-cast}
 use Rattle.place_laws.proofs.Tree.{corner-patch, ghost-kid, kid-ghost}
@@ -55,18 +56,12 @@ module _ (g : Grid) (in-range : Rectangle g) where
 
   -- a place of level 0 is a corner of a cell: of its own, or of the last one where it lies on the edge
   touching : (p : Place) → p .depth ≡ base g → p .i ≤ g .columns → p .j ≤ lastJ g → T (patch g (full g) p)
-  unfolding toNorth toEast
   touching p e x y = go (decLt (p .i) (g .columns)) (decLt (p .j) (g .rows))
     where
       -- after the last row of cells there is one more in an open grid alone, where it lies north of them
       edge : (b : Bool) → p .j ≤ cond b (g .rows - 1) (g .rows) → (p .j < g .rows → ⊥) → isRing g ≡ b → (lap g (base g) ≡ 0) × (p .j ≡ g .rows)
       edge true h l o = absurd (l (omega arith))
       edge false h l o = (lap-open g (base g) o, omega (arith, l))
-
-      on : (p .j < g .rows → ⊥) → (jAfter (lap g (base g)) (p .j - 1) ≡ p .j) × (p .j - 1 < g .rows)
-      on l =
-          let (z, s) = edge (isRing g) y l refl in
-          (after-on (lap g (base g)) (p .j - 1) (λ k. omega arith) ∙ omega arith, omega arith)
 
       -- so many steps back
       back : ℕ → ℕ → Place
@@ -75,11 +70,22 @@ module _ (g : Grid) (in-range : Rectangle g) where
       by : (a b : ℕ) → Corner g (back a b) p → p .i - a < g .columns → p .j - b < g .rows → T (patch g (full g) p)
       by a b k i j = corner-patch g (full g) (omega arith) k (cell-full g (back a b) refl i j)
 
+      here : (i j : ℕ) → i ≡ p .i → j ≡ p .j → at (base g) i j ≡ p
+      here i j a b = place-path (at (base g) i j) p (sym e) a b
+
+      on : (p .j < g .rows → ⊥) → (suc (p .j - 1) ≢ lap g (base g)) × (suc (p .j - 1) ≡ p .j) × (p .j - 1 < g .rows)
+      on l = let (z, s) = edge (isRing g) y l refl in (λ k. omega arith, omega arith, omega arith)
+
       go : Dec (p .i < g .columns) → Dec (p .j < g .rows) → T (patch g (full g) p)
-      go (yes a) (yes b) = by 0 0 (corner-cast (place-path (back 0 0) p (sym e) (omega arith) (omega arith)) c-here) (omega arith) (omega arith)
-      go (no a) (yes b) = by 1 0 (corner-cast (place-path (toEast g (back 1 0)) p (sym e) (omega arith) (omega arith)) c-east) (omega arith) (omega arith)
-      go (yes a) (no b) = by 0 1 (corner-cast (place-path (toNorth g (back 0 1)) p (sym e) (omega arith) (on b .0)) c-north) (omega arith) (on b .1)
-      go (no a) (no b) = by 1 1 (corner-cast (place-path (toNorth g (toEast g (back 1 1))) p (sym e) (omega arith) (on b .0)) c-both) (omega arith) (on b .1)
+      go (yes a) (yes b) = by 0 0 (corner-cast (here (p .i - 0) (p .j - 0) (omega arith) (omega arith)) c-here) (omega arith) (omega arith)
+      go (no a) (yes b) = by 1 0 (corner-cast (east-on g (base g) (p .i - 1) (p .j - 0) ∙ here (suc (p .i - 1)) (p .j - 0) (omega arith) (omega arith)) c-east) (omega arith) (omega arith)
+      go (yes a) (no b) =
+          let (k, l, m) = on b in
+          by 0 1 (corner-cast (north-on g (base g) (p .i - 0) (p .j - 1) k ∙ here (p .i - 0) (suc (p .j - 1)) (omega arith) l) c-north) (omega arith) m
+      go (no a) (no b) =
+          let (k, l, m) = on b in
+          let f = ap (toNorth g) (east-on g (base g) (p .i - 1) (p .j - 1)) ∙ north-on g (base g) (suc (p .i - 1)) (p .j - 1) k in
+          by 1 1 (corner-cast (f ∙ here (suc (p .i - 1)) (suc (p .j - 1)) (omega arith) l) c-both) (omega arith) m
 
   stands : (n : ℕ) (p : Place) → p .depth + n ≡ base g → p .i * 2 ^ n ≤ g .columns → p .j * 2 ^ n ≤ lastJ g → T (patch g (full g) p)
   unfolding kid

@@ -3,60 +3,28 @@
 -- Assumes nothing.
 use Prim.Native.Nat.{_<_}
 use native.Mathlib.Omega.{arith}
-use mathlib.Core.Path.{_≡_, refl, sym, ap, _∙_}
+use mathlib.Core.Path.{_≡_, refl, sym, _∙_}
 use mathlib.Core.Bool.{Bool, true, false, _&&_, or-false}
-use mathlib.Core.Option.{Option, none, some, Option·map, Option·none-ne-some, Option·some-injective}
+use mathlib.Core.Option.{Option, none, some, Option·none-ne-some, Option·some-injective}
 use mathlib.Core.List.{List, [], _∷_}
 use lib.Dec.{T}
 use Rattle.mesh.specs.Tools.{any}
-use Rattle.mesh.specs.Place.{Place, Grid, same, base, home, step, then, toNorth, toEast, toSouth, toWest, Wind, SW, N, E, S, W, In}
+use Rattle.mesh.specs.Place.{Place, Grid, same, base, home, step, then, toNorth, toEast, Wind, SW, N, E, S, W, In}
 use Rattle.mesh.specs.Mesh.{Mesh, Wall, absent, isWall, isBoundary, isGreen, wallOf, on, inArea, wallH, wallV, ends, sides, derived}
 use Rattle.place_laws.proofs.Bools.{no-is}
-use Rattle.place_laws.proofs.Places.{south-north, west-east, north-south, east-west, east-north, west-of-north, step-back}
-use Rattle.place_laws.proofs.Near.{Corner, c-here, c-east, c-north, c-both, corner-cast}
+use Rattle.place_laws.proofs.Steps.{north-south, east-west, step-north, step-east, southwest, southwest-by-south}
+use Rattle.place_laws.proofs.Near.{Corner, c-here, south-corner, west-corner, southwest-corner}
 use Rattle.place_laws.proofs.SideDigits.{aside, step-depth}
 use Rattle.place_laws.proofs.Walls.{wall}
 use Rattle.place_laws.proofs.Growing.{grown}
 
--- ---- the place south-west, by either way
-
-south-of-west : (g : Grid) (q : Place) → then (step g S) (step g W q) ≡ step g SW q
-unfolding step
-south-of-west g q = refl
-
-west-of-south : (g : Grid) (q : Place) → then (step g W) (step g S q) ≡ step g SW q
-unfolding step
-west-of-south g q = go (toSouth g q) refl
-  where
-    back : (o : Option Place) → o ≡ then (toSouth g) (Option·map (toNorth g) o)
-    back none = refl
-    back (some r) = sym (north-south g r)
-
-    -- north and then east leads as far as east and then north
-    round : (m s : Place) → toWest g q ≡ some m → toSouth g m ≡ some s → toSouth g q ≡ some (toEast g s)
-    round m s e f =
-        let k : toNorth g (toEast g s) ≡ q = east-north g s ∙ ap (toEast g) (south-north g m s f) ∙ west-east g q m e in
-        rw (← k) (north-south g (toEast g s))
-
-    inner : toSouth g q ≡ none → (m : Place) → toWest g q ≡ some m → (o : Option Place) → toSouth g m ≡ o → none ≡ o
-    inner z m e none f = refl
-    inner z m e (some s) f = absurd (Option·none-ne-some _ (sym z ∙ round m s e f))
-
-    outer : toSouth g q ≡ none → (o : Option Place) → toWest g q ≡ o → none ≡ then (toSouth g) o
-    outer z none e = refl
-    outer z (some m) e = inner z m e (toSouth g m) refl
-
-    go : (o : Option Place) → toSouth g q ≡ o → then (toWest g) o ≡ then (toSouth g) (toWest g q)
-    go none e = outer e (toWest g q) refl
-    go (some r) e = back (toWest g r) ∙ ap (then (toSouth g)) (sym (west-of-north g r) ∙ ap (toWest g) (south-north g q r e))
+-- ---- there and back
 
 south-of-north : (g : Grid) (q : Place) → then (step g S) (step g N q) ≡ some q
-unfolding step
-south-of-north g q = north-south g q
+south-of-north g q = rw (step-north g q) (north-south g q)
 
 west-of-east : (g : Grid) (q : Place) → then (step g W) (step g E q) ≡ some q
-unfolding step
-west-of-east g q = east-west g q
+west-of-east g q = rw (step-east g q) (east-west g q)
 
 -- ---- two sets of cells
 
@@ -114,8 +82,8 @@ module _ (g : Grid) (c d : Place → Bool) where
       derived-walls q (here .0)
       (wallH-same (some q) here south)
       (wallV-same (some q) here west)
-      (wallH-same (step g W q) west (rw (south-of-west g q) corner))
-      (wallV-same (step g S q) south (rw (west-of-south g q) corner))
+      (wallH-same (step g W q) west (rw (← southwest g q) corner))
+      (wallV-same (step g S q) south (rw (← southwest-by-south g q) corner))
       (λ t. (
         wallH-same (step g N q) (beyond t .0) (rw (south-of-north g q) here),
         wallV-same (step g E q) (beyond t .1) (rw (west-of-east g q) here),
@@ -133,20 +101,18 @@ module _ (g : Grid) (c d : Place → Bool) where
 
   -- the walls of the place itself are made of three of these
   pub walls-frame : (q : Place) → ((r : Place) → Corner g r q → AgreeAt r) → (wallH g c (some q) ≡ wallH g d (some q)) × (wallV g c (some q) ≡ wallV g d (some q))
-  unfolding step
   walls-frame q touch = (
-    wallH-same (some q) (touch q c-here) (agree-at (step g S q) (λ r e. touch r (corner-cast (south-north g q r e) c-north))),
-    wallV-same (some q) (touch q c-here) (agree-at (step g W q) (λ r e. touch r (corner-cast (west-east g q r e) c-east))),
+    wallH-same (some q) (touch q c-here) (agree-at (step g S q) (λ r e. touch r (south-corner e))),
+    wallV-same (some q) (touch q c-here) (agree-at (step g W q) (λ r e. touch r (west-corner e))),
   )
 
   pub derived-frame : (q : Place) → ((r : Place) → Corner g r q → AgreeAt r) → (T (c q) → AgreeAt (toNorth g q) × AgreeAt (toEast g q)) → derived g c q ≡ derived g d q
-  unfolding step
   derived-frame q touch beyond =
       derived-same q (touch q c-here)
-      (agree-at (step g W q) (λ r e. touch r (corner-cast (west-east g q r e) c-east)))
-      (agree-at (step g S q) (λ r e. touch r (corner-cast (south-north g q r e) c-north)))
-      (agree-at (step g SW q) (λ r e. touch r (corner-cast (Option·some-injective _ _ (step-back g SW q r e)) c-both)))
-      beyond
+      (agree-at (step g W q) (λ r e. touch r (west-corner e)))
+      (agree-at (step g S q) (λ r e. touch r (south-corner e)))
+      (agree-at (step g SW q) (λ r e. touch r (southwest-corner e)))
+      (λ t. rw (step-north g q, step-east g q) (beyond t))
 
   -- with the same level-0 cells the area is the same
   pub area-same : ((r : Place) → r .depth ≡ base g → c r ≡ d r) → (r : Place) → c (home g r) ≡ d (home g r)

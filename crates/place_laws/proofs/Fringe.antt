@@ -1,20 +1,20 @@
 -- A place gets kids or loses them: the flags that change stand at the corners of the kids, the nine places that a refinement wants, and at the
 -- cells beside the kids to the south and to the west, which are at most four.
 -- Assumes nothing.
-use Prim.Native.Nat.{_+_, _/_, _%_, _≤_}
+use Prim.Native.Nat.{_≤_}
 use native.Mathlib.Omega.{arith}
-use mathlib.Core.Path.{_≡_, refl, sym, ap, _∙_}
+use mathlib.Core.Path.{_≡_, refl, sym, _∙_}
 use mathlib.Core.Logic.{_⊎_, inl, inr}
-use mathlib.Core.Bool.{Bool, _&&_, cond}
+use mathlib.Core.Bool.{Bool}
 use mathlib.Core.Option.{some, Option·map}
 use lib.Dec.{T}
-use Rattle.mesh.specs.Place.{Place, Grid, base, step, toNorth, toEast, toSouth, toWest, kid, kids, parent, compass, Wind, NE, SE, SW, NW, S, W, In}
+use Rattle.mesh.specs.Place.{Place, Grid, base, toNorth, toEast, kid, kids, parent, Wind, NE, SE, SW, NW, S, W, In, step}
 use Rattle.mesh.specs.Mesh.{wallH, wallV, derived}
 use Rattle.mesh.specs.Request.{wanted}
-use Rattle.place_laws.proofs.Laps.{smooth-above}
-use Rattle.place_laws.proofs.Places.{south-north, west-east, north-south, east-west}
-use Rattle.place_laws.proofs.Kids.{parent-kid, kid-parent, parent-in, parent-depth, up-kid, kid-depth}
-use Rattle.place_laws.proofs.SideDigits.{kidBy, kid-by, kid-by-digits, aside, within, step-digits}
+use Rattle.place_laws.proofs.Steps.{south-north, west-east, north-south, east-west}
+use Rattle.place_laws.proofs.Laps.{Smooth, smooth-above}
+use Rattle.place_laws.proofs.Kids.{parent-kid, kid-parent, parent-in, parent-depth, kid-depth}
+use Rattle.place_laws.proofs.SideDigits.{kidBy, step-kid}
 use Rattle.place_laws.proofs.Near.{Corner, c-here}
 use Rattle.place_laws.proofs.Wanted.{north-sw, north-se, east-sw, east-nw, north-once, east-once, each-in, corner-wanted}
 use Rattle.place_laws.proofs.Frames.{AgreeAt, walls-frame, derived-frame, area-same}
@@ -23,10 +23,10 @@ use Rattle.place_laws.proofs.Frames.{AgreeAt, walls-frame, derived-fram
 
 -- q lies one step south or west of a kid of p, outside p
 pub data Fringe (g : Grid) (p q : Place) : Type 0 where
-  south-of-sw : toSouth g (kid SW p) ≡ some q → Fringe g p q
-  south-of-se : toSouth g (kid SE p) ≡ some q → Fringe g p q
-  west-of-sw : toWest g (kid SW p) ≡ some q → Fringe g p q
-  west-of-nw : toWest g (kid NW p) ≡ some q → Fringe g p q
+  south-of-sw : step g S (kid SW p) ≡ some q → Fringe g p q
+  south-of-se : step g S (kid SE p) ≡ some q → Fringe g p q
+  west-of-sw : step g W (kid SW p) ≡ some q → Fringe g p q
+  west-of-nw : step g W (kid NW p) ≡ some q → Fringe g p q
 
 module _ (g : Grid) (p q : Place) where
   -- one step north or one step east of it lies a kid of p
@@ -62,31 +62,24 @@ module _ (g : Grid) (p q : Place) where
 
 -- they are kids of the places south and west of p
 module _ (g : Grid) (p : Place) (low : base g ≤ p .depth) where
-  beside-kid : (w v : Wind) → T (aside w) → compass v .east / 2 ≤ 1 → compass v .north / 2 ≤ 1
-      → step g w (kid v p)
-      ≡ Option·map (kidBy ((compass v .east / 2 + compass w .east + 1) % 2) ((compass v .north / 2 + compass w .north + 1) % 2))
-      (cond (within (compass v .east / 2 + compass w .east) && within (compass v .north / 2 + compass w .north)) (some p) (step g w p))
-  beside-kid w v t a b =
-      let (x, y) = kid-by-digits (compass v .east / 2) (compass v .north / 2) p a b in
-      let e : kid v p .i % 2 ≡ compass v .east / 2 = ap (λ (r : Place). r .i % 2) (kid-by v p) ∙ x in
-      let f : kid v p .j % 2 ≡ compass v .north / 2 = ap (λ (r : Place). r .j % 2) (kid-by v p) ∙ y in
-      step-digits g w t (kid v p) (omega (arith, kid-depth v p)) (smooth-above g w (kid v p) (omega (arith, kid-depth v p))) ∙ rw (e, f, up-kid v p)
+  above : (w v : Wind) → Smooth g w (kid v p)
+  above w v = smooth-above g w (kid v p) (omega (arith, kid-depth v p))
 
-  pub fringe-south-sw : toSouth g (kid SW p) ≡ Option·map (kid NW) (toSouth g p)
-  unfolding step kid kidBy
-  fringe-south-sw = beside-kid S SW tt (omega arith) (omega arith)
+  pub fringe-south-sw : step g S (kid SW p) ≡ Option·map (kid NW) (step g S p)
+  unfolding kid kidBy
+  fringe-south-sw = step-kid g S SW tt p (above S SW)
 
-  pub fringe-south-se : toSouth g (kid SE p) ≡ Option·map (kid NE) (toSouth g p)
-  unfolding step kid kidBy
-  fringe-south-se = beside-kid S SE tt (omega arith) (omega arith)
+  pub fringe-south-se : step g S (kid SE p) ≡ Option·map (kid NE) (step g S p)
+  unfolding kid kidBy
+  fringe-south-se = step-kid g S SE tt p (above S SE)
 
-  pub fringe-west-sw : toWest g (kid SW p) ≡ Option·map (kid SE) (toWest g p)
-  unfolding step kid kidBy
-  fringe-west-sw = beside-kid W SW tt (omega arith) (omega arith)
+  pub fringe-west-sw : step g W (kid SW p) ≡ Option·map (kid SE) (step g W p)
+  unfolding kid kidBy
+  fringe-west-sw = step-kid g W SW tt p (above W SW)
 
-  pub fringe-west-nw : toWest g (kid NW p) ≡ Option·map (kid NE) (toWest g p)
-  unfolding step kid kidBy
-  fringe-west-nw = beside-kid W NW tt (omega arith) (omega arith)
+  pub fringe-west-nw : step g W (kid NW p) ≡ Option·map (kid NE) (step g W p)
+  unfolding kid kidBy
+  fringe-west-nw = step-kid g W NW tt p (above W NW)
 
 -- ---- what changes
 

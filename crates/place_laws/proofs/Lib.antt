@@ -1,10 +1,12 @@
 -- The laws of the geometry, bottom up.
 pub mod Bools
-pub mod Ranges
 pub mod Lists
-pub mod Laps
+pub mod Ranges
 pub mod Places
+pub mod Steps
+pub mod Laps
 pub mod Counting
+pub mod Ground
 pub mod Distinct
 pub mod Kids
 pub mod SideDigits

@@ -1,19 +1,20 @@
 -- The cells that touch a point, and the points that a cell touches; both go up the tree.
 -- Assumes nothing.
-use Prim.Native.Nat.{ℕ, suc, pred, _*_, _/_, _%_, _<_}
+use Prim.Native.Nat.{_<_}
 use native.Mathlib.Omega.{arith}
-use native.Mathlib.Decide.{decLt}
 use mathlib.Core.Path.{_≡_, refl, sym, ap, _∙_}
 use mathlib.Core.Logic.{_⊎_, inl, inr}
-use mathlib.Core.Bool.{Bool, _||_}
-use mathlib.Core.Option.{Option, none, some}
+use mathlib.Core.Bool.{Bool, true, false, _||_, cond}
+use mathlib.Core.Option.{Option, none, some, Option·some-injective}
 use lib.Dec.{T}
-use Rattle.mesh.specs.Place.{Place, Grid, at, base, toNorth, toEast, toSouth, toWest, then, step, lap, jAfter, SW, N, S, W}
+use Rattle.mesh.specs.Place.{Place, Grid, base, toNorth, toEast, step, SW, N, E, S, W}
 use Rattle.mesh.specs.Mesh.{on, touched}
 use Rattle.place_laws.proofs.Bools.{or-left, or-right, or-cases}
-use Rattle.place_laws.proofs.Places.{then-some, south-north, west-east, north-south, east-west, east-north, west-of-north}
+use Rattle.place_laws.proofs.Places.{then-some}
+use Rattle.place_laws.proofs.Steps.{north-depth, east-depth, south-north, west-east, north-south, east-west, east-north, west-of-north, step-north, step-east, southwest}
+use Rattle.place_laws.proofs.Laps.{Smooth, smooth-above}
 use Rattle.place_laws.proofs.Kids.{up}
-use Rattle.place_laws.proofs.Laps.{Smooth, smooth-above, Paired, paired, after-even, after-odd}
+use Rattle.place_laws.proofs.SideDigits.{stays, step-up}
 
 -- ---- the four points of a cell
 
@@ -28,44 +29,41 @@ pub corner-cast : {g : Grid} {r p q : Place} → p ≡ q → Corner g r p → Co
 corner-cast e c = rw (← e) c
 
 pub corner-depth : {g : Grid} {r q : Place} → Corner g r q → q .depth ≡ r .depth
-unfolding toNorth toEast
 corner-depth c-here = refl
-corner-depth c-east = refl
-corner-depth c-north = refl
-corner-depth c-both = refl
+corner-depth {g} {r} c-east = east-depth g r
+corner-depth {g} {r} c-north = north-depth g r
+corner-depth {g} {r} c-both = north-depth g (toEast g r) ∙ east-depth g r
+
+-- p is a corner of the cells south, west and south-west of it
+module _ {g : Grid} {p r : Place} where
+  pub south-corner : step g S p ≡ some r → Corner g r p
+  south-corner e = corner-cast (south-north g p r e) c-north
+
+  pub west-corner : step g W p ≡ some r → Corner g r p
+  west-corner e = corner-cast (west-east g p r e) c-east
+
+  pub southwest-corner : step g SW p ≡ some r → Corner g r p
+  southwest-corner e =
+      let (m, a, b) = then-some (step g S) (step g W p) r (sym (southwest g p) ∙ e) in
+      corner-cast (east-north g r ∙ ap (toEast g) (south-north g m r b) ∙ west-east g p m a) c-both
 
 -- ---- halving keeps a step or undoes it
 
-halves : (n : ℕ) → (suc n / 2 ≡ n / 2) ⊎ (suc n / 2 ≡ suc (n / 2))
-halves n = go (decLt (n % 2) 1)
-  where
-    go : Dec (n % 2 < 1) → (suc n / 2 ≡ n / 2) ⊎ (suc n / 2 ≡ suc (n / 2))
-    go (yes h) = inl (omega arith)
-    go (no h) = inr (omega arith)
+kept-or-undone : (b : Bool) {x y z : Place} → some x ≡ cond b (some y) (some z) → (x ≡ y) ⊎ (x ≡ z)
+kept-or-undone true e = inl (Option·some-injective _ _ e)
+kept-or-undone false e = inr (Option·some-injective _ _ e)
 
 -- north, unless the seam of level 0 is crossed
-pub north-up : (g : Grid) (p : Place) → 0 < p .depth → Smooth g N p → (up (toNorth g p) ≡ up p) ⊎ (up (toNorth g p) ≡ toNorth g (up p))
-unfolding toNorth up
-north-up g p l s = go (lap g (p .depth)) (lap g (pred (p .depth))) (paired g N p l s) (decLt (p .j % 2) 1)
-  where
-    go : (n m : ℕ) → Paired N n m (p .j) → Dec (p .j % 2 < 1)
-        → (at (pred (p .depth)) (p .i / 2) (jAfter n (p .j) / 2) ≡ up p) ⊎ (at (pred (p .depth)) (p .i / 2) (jAfter n (p .j) / 2) ≡ at (pred (p .depth)) (p .i / 2) (jAfter m (p .j / 2)))
-    go n m k (yes h) = let e : suc (p .j) / 2 ≡ p .j / 2 = omega arith in inl (rw (after-even (p .j) k (omega arith), e))
-    go n m k (no h) = let e : 2 * jAfter m (p .j / 2) / 2 ≡ jAfter m (p .j / 2) = omega arith in inr (rw (after-odd (p .j) k (omega arith), e))
+north-up : (g : Grid) (p : Place) → 0 < p .depth → Smooth g N p → (up (toNorth g p) ≡ up p) ⊎ (up (toNorth g p) ≡ toNorth g (up p))
+north-up g p l s = kept-or-undone (stays N p) (rw (step-north g p, step-north g (up p)) at (step-up g N tt p l s))
 
-pub east-up : (g : Grid) (p : Place) → (up (toEast g p) ≡ up p) ⊎ (up (toEast g p) ≡ toEast g (up p))
-unfolding toEast up
-east-up g p = go (halves (p .i))
-  where
-    go : (suc (p .i) / 2 ≡ p .i / 2) ⊎ (suc (p .i) / 2 ≡ suc (p .i / 2)) → (up (toEast g p) ≡ up p) ⊎ (up (toEast g p) ≡ toEast g (up p))
-    go (inl h) = inl (rw h)
-    go (inr h) = inr (rw h)
+east-up : (g : Grid) (p : Place) → 0 < p .depth → (up (toEast g p) ≡ up p) ⊎ (up (toEast g p) ≡ toEast g (up p))
+east-up g p l = kept-or-undone (stays E p) (rw (step-east g p, step-east g (up p)) at (step-up g E tt p l (λ _. refl)))
 
 -- the parent's place of a corner is a corner of the cell's parent's place
 pub corner-up : {g : Grid} {r q : Place} → base g < r .depth → Corner g r q → Corner g (up r) (up q)
-unfolding toEast
 corner-up l c-here = c-here
-corner-up {g} {r} l c-east = go (east-up g r)
+corner-up {g} {r} l c-east = go (east-up g r (omega arith))
   where
     go : (up (toEast g r) ≡ up r) ⊎ (up (toEast g r) ≡ toEast g (up r)) → Corner g (up r) (up (toEast g r))
     go (inl h) = corner-cast (sym h) c-here
@@ -75,7 +73,7 @@ corner-up {g} {r} l c-north = go (north-up g r (omega arith) (smooth-above g N r
     go : (up (toNorth g r) ≡ up r) ⊎ (up (toNorth g r) ≡ toNorth g (up r)) → Corner g (up r) (up (toNorth g r))
     go (inl h) = corner-cast (sym h) c-here
     go (inr h) = corner-cast (sym h) c-north
-corner-up {g} {r} l c-both = go (east-up g r) (north-up g (toEast g r) (omega arith) (smooth-above g N (toEast g r) l))
+corner-up {g} {r} l c-both = let d = east-depth g r in go (east-up g r (omega arith)) (north-up g (toEast g r) (omega arith) (smooth-above g N (toEast g r) (omega arith)))
   where
     go : (up (toEast g r) ≡ up r) ⊎ (up (toEast g r) ≡ toEast g (up r)) → (up (toNorth g (toEast g r)) ≡ up (toEast g r)) ⊎ (up (toNorth g (toEast g r)) ≡ toNorth g (up (toEast g r))) → Corner g (up r) (up (toNorth g (toEast g r)))
     go (inl h) (inl k) = corner-cast (sym (k ∙ h)) c-here
@@ -94,20 +92,15 @@ module _ (g : Grid) (c : Place → Bool) where
   on-is o q e t = rw e t
 
   pub touched-corner : (p : Place) → T (touched g c p) → (r : Place) × Corner g r p × T (c r)
-  unfolding touched step
+  unfolding touched
   touched-corner p t = one (or-cases (c p) (on g c (step g W p) || (on g c (step g S p) || on g c (step g SW p))) t)
     where
-      both : (r : Place) → then (toSouth g) (toWest g p) ≡ some r → toNorth g (toEast g r) ≡ p
-      both r e =
-          let (m, a, b) = then-some (toSouth g) (toWest g p) r e in
-          east-north g r ∙ ap (toEast g) (south-north g m r b) ∙ west-east g p m a
-
       three : T (on g c (step g S p)) ⊎ T (on g c (step g SW p)) → (r : Place) × Corner g r p × T (c r)
-      three (inl a) = let (r, e, b) = on-at (toSouth g p) a in (r, corner-cast (south-north g p r e) c-north, b)
-      three (inr a) = let (r, e, b) = on-at (then (toSouth g) (toWest g p)) a in (r, corner-cast (both r e) c-both, b)
+      three (inl a) = let (r, e, b) = on-at (step g S p) a in (r, south-corner e, b)
+      three (inr a) = let (r, e, b) = on-at (step g SW p) a in (r, southwest-corner e, b)
 
       two : T (on g c (step g W p)) ⊎ T (on g c (step g S p) || on g c (step g SW p)) → (r : Place) × Corner g r p × T (c r)
-      two (inl a) = let (r, e, b) = on-at (toWest g p) a in (r, corner-cast (west-east g p r e) c-east, b)
+      two (inl a) = let (r, e, b) = on-at (step g W p) a in (r, west-corner e, b)
       two (inr a) = three (or-cases (on g c (step g S p)) (on g c (step g SW p)) a)
 
       one : T (c p) ⊎ T (on g c (step g W p) || (on g c (step g S p) || on g c (step g SW p))) → (r : Place) × Corner g r p × T (c r)
@@ -115,7 +108,7 @@ module _ (g : Grid) (c : Place → Bool) where
       one (inr a) = two (or-cases (on g c (step g W p)) (on g c (step g S p) || on g c (step g SW p)) a)
 
   pub corner-touched : {p r : Place} → Corner g r p → T (c r) → T (touched g c p)
-  unfolding touched step
+  unfolding touched
   corner-touched {p} {r} c-here t = or-left (c p) (on g c (step g W p) || (on g c (step g S p) || on g c (step g SW p))) t
   corner-touched {p} {r} c-east t =
       or-right (c p) (on g c (step g W p) || (on g c (step g S p) || on g c (step g SW p)))
@@ -128,4 +121,4 @@ module _ (g : Grid) (c : Place → Bool) where
       or-right (c p) (on g c (step g W p) || (on g c (step g S p) || on g c (step g SW p)))
       (or-right (on g c (step g W p)) (on g c (step g S p) || on g c (step g SW p))
       (or-right (on g c (step g S p)) (on g c (step g SW p))
-      (on-is (step g SW p) r (rw (west-of-north g (toEast g r), east-west g r) (north-south g r)) t)))
+      (on-is (step g SW p) r (rw (southwest g p, west-of-north g (toEast g r), east-west g r) (north-south g r)) t)))

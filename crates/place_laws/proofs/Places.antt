@@ -1,16 +1,15 @@
--- Places: equality is the test, membership in a list of places, and steps go back.
+-- Places: equality is the test, and membership in a list of places.
 -- Assumes nothing.
 use Prim.Native.Nat.{ℕ, zero, suc}
-use mathlib.Core.Path.{_≡_, refl, sym, ap, _∙_, subst}
+use mathlib.Core.Path.{_≡_, refl, sym, ap, subst}
 use mathlib.Core.Logic.{_⊎_, inl, inr}
 use mathlib.Core.Bool.{Bool, _&&_}
 use mathlib.Core.Option.{Option, none, some, Option·map, Option·none-ne-some, Option·some-injective}
 use mathlib.Core.List.{List, [], _∷_}
 use lib.Dec.{T, eqb, eqb→eq, eqb-refl}
 use Rattle.mesh.specs.Tools.{any, all}
-use Rattle.mesh.specs.Place.{Place, Grid, at, same, before, lap, jAfter, jBefore, toNorth, toEast, toSouth, toWest, then, step, compass, Wind, NE, SE, SW, NW, N, E, S, W, In}
+use Rattle.mesh.specs.Place.{Place, same, before, then, In}
 use Rattle.place_laws.proofs.Bools.{yes-is, and-both, and-left, and-right, or-left, or-right, or-cases}
-use Rattle.place_laws.proofs.Laps.{after-before, before-after}
 
 pub place-path : (p q : Place) → p .depth ≡ q .depth → p .i ≡ q .i → p .j ≡ q .j → p ≡ q
 place-path p q a b c = λ i. record { depth = a i; i = b i; j = c i }
@@ -82,7 +81,7 @@ module _ (f : Place → Bool) where
   in-all [] h = tt
   in-all (p ∷ ps) h = and-both (f p) (all f ps) (h p (in-here p p ps refl)) (in-all ps (λ q i. h q (in-there q p ps i)))
 
--- ---- a step, and the step back
+-- ---- what may be missing
 
 pub before-is : (n j : ℕ) → before n ≡ some j → n ≡ suc j
 before-is zero j e = absurd (Option·none-ne-some _ e)
@@ -95,51 +94,3 @@ mapped f q (some a) e = (a, refl, Option·some-injective _ _ e)
 pub then-some : (f : Place → Option Place) (o : Option Place) (q : Place) → then f o ≡ some q → (m : Place) × (o ≡ some m) × (f m ≡ some q)
 then-some f none q e = absurd (Option·none-ne-some _ e)
 then-some f (some m) q e = (m, refl, e)
-
--- south and west lead back, and so do north and east
-pub south-north : (g : Grid) (p q : Place) → toSouth g p ≡ some q → toNorth g q ≡ p
-unfolding toSouth toNorth
-south-north g p q e =
-    let (j, b, f) = mapped (λ j. at (p .depth) (p .i) j) q (jBefore (lap g (p .depth)) (p .j)) e in
-    ap (toNorth g) (sym f) ∙ place-path (at (p .depth) (p .i) (jAfter (lap g (p .depth)) j)) p refl refl (before-after (lap g (p .depth)) (p .j) j b)
-
-pub west-east : (g : Grid) (p q : Place) → toWest g p ≡ some q → toEast g q ≡ p
-unfolding toWest toEast
-west-east g p q e = let (i, b, f) = mapped (λ i. at (p .depth) i (p .j)) q (before (p .i)) e in rw (← f, ← before-is (p .i) i b)
-
-pub north-south : (g : Grid) (p : Place) → toSouth g (toNorth g p) ≡ some p
-unfolding toSouth toNorth
-north-south g p = ap (Option·map (λ j. at (p .depth) (p .i) j)) (after-before (lap g (p .depth)) (p .j))
-
-pub east-west : (g : Grid) (p : Place) → toWest g (toEast g p) ≡ some p
-unfolding toWest toEast
-east-west g p = refl
-
--- a step along one side and a step along the other can change places
-pub east-north : (g : Grid) (p : Place) → toNorth g (toEast g p) ≡ toEast g (toNorth g p)
-unfolding toNorth toEast
-east-north g p = refl
-
-pub west-of-north : (g : Grid) (p : Place) → toWest g (toNorth g p) ≡ Option·map (toNorth g) (toWest g p)
-unfolding toNorth toWest
-west-of-north g p = go (before (p .i))
-  where
-    go : (o : Option ℕ) → Option·map (λ i. at (p .depth) i (jAfter (lap g (p .depth)) (p .j))) o ≡ Option·map (toNorth g) (Option·map (λ i. at (p .depth) i (p .j)) o)
-    go none = refl
-    go (some i) = refl
-
--- the opposite wind leads back
-pub step-back : (g : Grid) (w : Wind) (p q : Place) → step g w p ≡ some q → step g (compass w .opposite) q ≡ some p
-unfolding step
-step-back g N p q e = rw (← Option·some-injective _ _ e) (north-south g p)
-step-back g E p q e = rw (← Option·some-injective _ _ e) (east-west g p)
-step-back g S p q e = ap some (south-north g p q e)
-step-back g W p q e = ap some (west-east g p q e)
-step-back g NE p q e = rw (← Option·some-injective _ _ e) (rw (west-of-north g (toEast g p), east-west g p) (north-south g p))
-step-back g SE p q e = sym (west-of-north g q) ∙ rw (south-north g (toEast g p) q e) (east-west g p)
-step-back g SW p q e =
-    let (m, a, b) = then-some (toSouth g) (toWest g p) q e in
-    rw (east-north g q, south-north g m q b, west-east g p m a)
-step-back g NW p q e =
-    let (m, a, b) = mapped (toNorth g) q (toWest g p) e in
-    rw (← b, ← east-north g m) (north-south g (toEast g m) ∙ ap some (west-east g p m a))

@@ -8,11 +8,11 @@ use mathlib.Core.Logic.{_⊎_, inl, inr}
 use mathlib.Core.Bool.{Bool, true, false, not, _&&_, cond}
 use mathlib.Core.Option.{some, Option·map, Option·some-injective}
 use lib.Dec.{T, eqb}
-use Rattle.mesh.specs.Place.{Place, Grid, base, home, step, toNorth, toEast, toSouth, toWest, Wind, NE, SE, SW, NW, N, E, S, W}
+use Rattle.mesh.specs.Place.{Place, Grid, base, home, step, toNorth, toEast, Wind, NE, SE, SW, NW, N, E, S, W}
 use Rattle.mesh.specs.Mesh.{derived}
 use Rattle.place_laws.proofs.Bools.{and-both, and-left, and-right}
+use Rattle.place_laws.proofs.Steps.{north-depth, north-i, east-depth, south-north, west-east, north-south, east-west, step-north, step-east, step-back}
 use Rattle.place_laws.proofs.Laps.{smooth-above}
-use Rattle.place_laws.proofs.Places.{south-north, west-east, north-south, east-west, step-back}
 use Rattle.place_laws.proofs.Kids.{up, parent-up, up-depth}
 use Rattle.place_laws.proofs.SideDigits.{aside, stays, within-still, digit, step-up, step-depth}
 use Rattle.place_laws.proofs.Near.{Corner, c-here, c-east, c-north, c-both, corner-depth}
@@ -69,32 +69,31 @@ module _ (g : Grid) where
   Under r q k = (t : Place) × (j : Corner g (up r) t) × (up q ≡ t) × T (chosen (facing j) q) × ((l m : ℕ) → T (facing k l m) → T (facing j l m))
 
   corner-under : {r q : Place} → base g < r .depth → (k : Corner g r q) → Under r q k
-  unfolding step toNorth toEast
   corner-under {r} h c-here = (up r, c-here, refl, tt, λ l m t. tt)
-  corner-under {r} h c-east = go (by-side W tt (toEast g r) r h (east-west g r))
+  corner-under {r} h c-east = go (by-side W tt (toEast g r) r (rw (east-depth g r) h) (east-west g r))
     where
       go : Beside W (toEast g r) r → Under r (toEast g r) c-east
       go (inl e) = (up r, c-here, e, tt, λ l m t. tt)
       go (inr (t, e)) = (toEast g (up r), c-east, sym (west-east g (up (toEast g r)) (up r) e), t, λ l m t. t)
-  corner-under {r} h c-north = go (by-side S tt (toNorth g r) r h (north-south g r))
+  corner-under {r} h c-north = go (by-side S tt (toNorth g r) r (rw (north-depth g r) h) (north-south g r))
     where
       go : Beside S (toNorth g r) r → Under r (toNorth g r) c-north
       go (inl e) = (up r, c-here, e, tt, λ l m t. tt)
       go (inr (t, e)) = (toNorth g (up r), c-north, sym (south-north g (up (toNorth g r)) (up r) e), t, λ l m t. t)
-  corner-under {r} h c-both = go (by-side W tt s r h (east-west g r)) (by-side S tt (toNorth g s) s h (north-south g s))
+  corner-under {r} h c-both = go (by-side W tt s r (rw (east-depth g r) h) (east-west g r)) (by-side S tt (toNorth g s) s (rw (north-depth g s, east-depth g r) h) (north-south g s))
     where
       s : Place
       s = toEast g r
 
       go : Beside W s r → Beside S (toNorth g s) s → Under r (toNorth g s) c-both
       go (inl e) (inl f) = (up r, c-here, f ∙ e, tt, λ l m t. tt)
-      go (inr (t, e)) (inl f) = (toEast g (up r), c-east, f ∙ sym (west-east g (up s) (up r) e), t, λ l m u. and-left (eqb l 0) (eqb m 0) u)
+      go (inr (t, e)) (inl f) = (toEast g (up r), c-east, f ∙ sym (west-east g (up s) (up r) e), rw (north-i g s) t, λ l m u. and-left (eqb l 0) (eqb m 0) u)
       go (inl e) (inr (u, f)) = (toNorth g (up r), c-north, sym (south-north g (up (toNorth g s)) (up s) f) ∙ ap (toNorth g) e, u, λ l m t. and-right (eqb l 0) (eqb m 0) t)
       go (inr (t, e)) (inr (u, f)) = (
         toNorth g (toEast g (up r)),
         c-both,
         sym (south-north g (up (toNorth g s)) (up s) f) ∙ ap (toNorth g) (sym (west-east g (up s) (up r) e)),
-        and-both (chosen (edge W) s) (chosen (edge S) (toNorth g s)) t u,
+        and-both (chosen (edge W) (toNorth g s)) (chosen (edge S) (toNorth g s)) (rw (north-i g s) t) u,
         λ l m v. v,
       )
 
@@ -146,8 +145,8 @@ pub data Shadow (g : Grid) (c : Place → Bool) (p q : Place) : Type 0 where
   -- under p, E p, N p and NE p
   s-corner : {t : Place} (k : Corner g p t) → Along (facing k) t q → Shadow g c p q
   -- cells under S p and W p
-  s-south : {t : Place} → toSouth g p ≡ some t → Along (edge N) t q → T (c q) → Shadow g c p q
-  s-west : {t : Place} → toWest g p ≡ some t → Along (edge E) t q → T (c q) → Shadow g c p q
+  s-south : {t : Place} → step g S p ≡ some t → Along (edge N) t q → T (c q) → Shadow g c p q
+  s-west : {t : Place} → step g W p ≡ some t → Along (edge E) t q → T (c q) → Shadow g c p q
 
 -- the sets differ at p alone
 module _ (g : Grid) (c d : Place → Bool) (p : Place) (ground : p .depth ≡ base g) (else : (r : Place) → (r ≡ p → ⊥) → c r ≡ d r) where
@@ -155,13 +154,12 @@ module _ (g : Grid) (c d : Place → Bool) (p : Place) (ground : p .depth ≡ ba
   agree r h = (else r (λ e. h (ap (home g) e ∙ home-ground g p ground)), else (home g r) h)
 
   pub shadow-same : (q : Place) → base g ≤ q .depth → (Shadow g c p q → ⊥) → derived g c q ≡ derived g d q
-  unfolding step
   shadow-same q h out =
       derived-frame g c d q
       (λ r k. agree r (λ e. let (x, j, a) = corner-along g p (omega (arith, corner-depth k)) e k in out (s-corner j a)))
       (λ t. (
-        agree (toNorth g q) (λ e. north t (step-along g p N tt q (toNorth g q) h refl e)),
-        agree (toEast g q) (λ e. east t (step-along g p E tt q (toEast g q) h refl e)),
+        agree (toNorth g q) (λ e. north t (step-along g p N tt q (toNorth g q) h (step-north g q) e)),
+        agree (toEast g q) (λ e. east t (step-along g p E tt q (toEast g q) h (step-east g q) e)),
       ))
     where
       here : home g q ≡ p → ⊥

@@ -3,17 +3,20 @@
 -- Assumes nothing.
 use Prim.Native.Nat.{ℕ, zero, suc, pred, _+_, _*_, _/_, _%_, _≤_, _<_}
 use native.Mathlib.Omega.{arith}
-use mathlib.Core.Path.{_≡_, refl, ap, _∙_}
-use mathlib.Core.Logic.{_≢_}
+use native.Mathlib.Decide.{ℕ-discrete}
+use mathlib.Core.Path.{_≡_, refl, sym, ap, _∙_}
+use mathlib.Core.Logic.{_≢_, inl, inr}
 use mathlib.Core.Bool.{Bool, true, _&&_, cond}
 use mathlib.Core.Option.{Option, none, some, Option·map, Option·some-injective}
 use mathlib.Core.List.{List, [], _∷_}
 use lib.Dec.{T, leb}
-use Rattle.mesh.specs.Place.{Place, Grid, at, before, lap, jAfter, jBefore, toNorth, toEast, toSouth, toWest, then, step, kid, parent, compass, sideWinds, Wind, NE, SE, SW, NW, N, E, S, W}
+use Rattle.mesh.specs.Place.{Place, Grid, at, lap, toNorth, toEast, step, kid, parent, compass, sideWinds, Wind, NE, SE, SW, NW, N, E, S, W}
 use Rattle.mesh.specs.Winds.{_of_}
-use Rattle.place_laws.proofs.Laps.{Smooth, Paired, paired, after-other, after-even, after-odd, before-odd, before-even}
-use Rattle.place_laws.proofs.Places.{place-path, mapped, south-north, west-east}
-use Rattle.place_laws.proofs.Kids.{up, up-is, parent-depth}
+use Rattle.mesh.proofs.Winds.{rule}
+use Rattle.place_laws.proofs.Places.{place-path}
+use Rattle.place_laws.proofs.Steps.{north-depth, north-j, east-depth, east-i, north-on, north-anew, south-on, south-anew, south-end, east-on, west-on, west-end, south-north, west-east, step-north, step-east}
+use Rattle.place_laws.proofs.Laps.{Smooth, NorthPaired, SouthPaired, north-paired, south-paired, after-other}
+use Rattle.place_laws.proofs.Kids.{up, up-is, parent-depth, kid-depth, up-kid}
 
 -- ---- a kid by its digits
 
@@ -111,45 +114,90 @@ module _ (g : Grid) where
   abbrev ByDigits : Wind → Place → Type 0
   ByDigits w p = step g w p ≡ Option·map (kidBy ((iMoved w p + 1) % 2) ((jMoved w p + 1) % 2)) (cond (stays w p) (some (up p)) (step g w (up p)))
 
-  north-digits : (d i j : ℕ) → 0 < d → Paired N (lap g d) (lap g (pred d)) j → ByDigits N (at d i j)
-  unfolding step toNorth up
-  north-digits d i j h k =
-      digit j (λ e. rw (within-still i, e, after-even j k e) (is-kid d i (suc j) (i / 2) (j / 2) ((i % 2 + 1 + 1) % 2) 1 h (omega arith) (omega arith)))
-      (λ e. rw (within-still i, e)
-      (is-kid d i (jAfter (lap g d) j) (i / 2) (jAfter (lap g (pred d)) (j / 2)) ((i % 2 + 1 + 1) % 2) 0 h (omega arith) (omega (arith, after-odd j k e))))
-
   east-digits : (d i j : ℕ) → 0 < d → ByDigits E (at d i j)
-  unfolding step toEast up
+  unfolding up
   east-digits d i j h =
-      digit i (λ e. rw (within-still j, e) (is-kid d (suc i) j (i / 2) (j / 2) 1 ((j % 2 + 1 + 1) % 2) h (omega arith) (omega arith)))
-      (λ e. rw (within-still j, e) (is-kid d (suc i) j (suc (i / 2)) (j / 2) 0 ((j % 2 + 1 + 1) % 2) h (omega arith) (omega arith)))
-
-  south-digits : (d i j : ℕ) → 0 < d → Paired S (lap g d) (lap g (pred d)) j → ByDigits S (at d i j)
-  unfolding step toSouth up
-  south-digits d i j h k = digit j (λ e. rw (within-still i, e, before-even j k e) (out (jBefore (lap g (pred d)) (j / 2)))) (λ e. within-pair j e k)
-    where
-      out : (o : Option ℕ) → Option·map (λ y. at d i y) (Option·map (λ y. 2 * y + 1) o) ≡ Option·map (kidBy ((i % 2 + 1 + 1) % 2) 1) (Option·map (λ y. at (pred d) (i / 2) y) o)
-      out none = refl
-      out (some y) = is-kid d i (2 * y + 1) (i / 2) y ((i % 2 + 1 + 1) % 2) 1 h (omega arith) refl
-
-      within-pair : (j : ℕ) → j % 2 ≡ 1 → Paired S (lap g d) (lap g (pred d)) j → ByDigits S (at d i j)
-      within-pair zero e k = absurd (omega arith)
-      within-pair (suc j) e k = rw (within-still i, e, before-odd j k e) (is-kid d i j (i / 2) (suc j / 2) ((i % 2 + 1 + 1) % 2) 0 h (omega arith) (omega arith))
+      rw (within-still j, step-east g (at d i j), east-on g d i j, step-east g (at (pred d) (i / 2) (j / 2)), east-on g (pred d) (i / 2) (j / 2))
+      (digit i (λ e. rw e (is-kid d (suc i) j (i / 2) (j / 2) 1 ((j % 2 + 1 + 1) % 2) h (omega arith) (omega arith)))
+      (λ e. rw e (is-kid d (suc i) j (suc (i / 2)) (j / 2) 0 ((j % 2 + 1 + 1) % 2) h (omega arith) (omega arith))))
 
   west-digits : (d i j : ℕ) → 0 < d → ByDigits W (at d i j)
-  unfolding step toWest up
-  west-digits d zero j h = refl
+  unfolding up
+  west-digits d zero j h = rw (west-end g d 0 j, west-end g (pred d) 0 (j / 2))
   west-digits d (suc i) j h =
-      digit (suc i) (λ e.
+      rw (within-still j, west-on g d i j)
+      (digit (suc i) (λ e.
       let k : suc i / 2 ≡ suc (i / 2) = omega arith in
-      rw (within-still j, e, k) (is-kid d i j (i / 2) (j / 2) 1 ((j % 2 + 1 + 1) % 2) h (omega arith) (omega arith)))
-      (λ e. rw (within-still j, e) (is-kid d i j (suc i / 2) (j / 2) 0 ((j % 2 + 1 + 1) % 2) h (omega arith) (omega arith)))
+      rw (e, k, west-on g (pred d) (i / 2) (j / 2)) (is-kid d i j (i / 2) (j / 2) 1 ((j % 2 + 1 + 1) % 2) h (omega arith) (omega arith)))
+      (λ e. rw e (is-kid d i j (suc i / 2) (j / 2) 0 ((j % 2 + 1 + 1) % 2) h (omega arith) (omega arith))))
+
+  module _ (d i : ℕ) (h : 0 < d) where
+    abbrev l : ℕ
+    l = (i % 2 + 1 + 1) % 2
+
+    abbrev NorthClear : ℕ → Type 0
+    NorthClear j = NorthPaired (lap g d) (lap g (pred d)) j
+
+    abbrev SouthClear : ℕ → Type 0
+    SouthClear j = SouthPaired (lap g d) (lap g (pred d)) j
+
+    -- from an even row to the odd one of the same pair, and from the odd one to the next pair
+    north-digits : (j : ℕ) → NorthClear j → ByDigits N (at d i j)
+    unfolding up
+    north-digits j c =
+        rw (within-still i, step-north g (at d i j), step-north g (at (pred d) (i / 2) (j / 2)))
+        (digit j (λ e. rw (e, north-on g d i j (among e c)) (is-kid d i (suc j) (i / 2) (j / 2) l 1 h (omega arith) (omega arith)))
+        (λ e. rw e (out e c (ℕ-discrete (suc j) (lap g d)))))
+      where
+        among : j % 2 ≡ 0 → NorthClear j → suc j ≢ lap g d
+        among e (inl y) z = omega arith
+        among e (inr (_, y)) z = y z
+
+        on : j % 2 ≡ 1 → NorthClear j → suc j ≢ lap g d → suc (j / 2) ≢ lap g (pred d)
+        on e (inl y) z k = z (omega arith)
+        on e (inr (y, _)) z k = omega arith
+
+        out : j % 2 ≡ 1 → NorthClear j → Dec (suc j ≡ lap g d) → some (toNorth g (at d i j)) ≡ some (kidBy l 0 (toNorth g (at (pred d) (i / 2) (j / 2))))
+        out e (inl y) (yes z) = rw (north-anew g d i j z, north-anew g (pred d) (i / 2) (j / 2) (omega arith)) (is-kid d i 0 (i / 2) 0 l 0 h (omega arith) (omega arith))
+        out e (inr (_, y)) (yes z) = absurd (y z)
+        out e y (no z) = rw (north-on g d i j z, north-on g (pred d) (i / 2) (j / 2) (on e y z)) (is-kid d i (suc j) (i / 2) (suc (j / 2)) l 0 h (omega arith) (omega arith))
+
+    -- from the first row to the last one, if there is one
+    south-first : (m : ℕ) → lap g (pred d) ≡ m → lap g d ≡ 2 * m → ByDigits S (at d i 0)
+    unfolding up
+    south-first zero f c = rw (within-still i, south-end g d i 0 (sym c), south-end g (pred d) (i / 2) 0 (sym f))
+    south-first (suc m) f c =
+        rw (within-still i, south-anew g d i (2 * m + 1) (omega arith), south-anew g (pred d) (i / 2) m (sym f))
+        (is-kid d i (2 * m + 1) (i / 2) m l 1 h (omega arith) refl)
+
+    -- from an odd row to the even one of the same pair, and from the even one to the pair before
+    south-digits : (j : ℕ) → SouthClear j → ByDigits S (at d i j)
+    unfolding up
+    south-digits zero (inl c) = south-first (lap g (pred d)) refl c
+    south-digits zero (inr (_, c, _)) = absurd (omega arith)
+    south-digits (suc j) c =
+        rw (within-still i)
+        (digit (suc j) (λ e. let s : suc j / 2 ≡ suc (j / 2) = omega arith in rw (e, s) (out e c (ℕ-discrete (suc j) (lap g d))))
+        (λ e. rw (e, south-on g d i j (among e c)) (is-kid d i j (i / 2) (suc j / 2) l 0 h (omega arith) (omega arith))))
+      where
+        among : suc j % 2 ≡ 1 → SouthClear (suc j) → suc j ≢ lap g d
+        among e (inl y) z = omega arith
+        among e (inr (_, _, y)) z = y z
+
+        on : suc j % 2 ≡ 0 → SouthClear (suc j) → suc j ≢ lap g d → suc (j / 2) ≢ lap g (pred d)
+        on e (inl y) z k = z (omega arith)
+        on e (inr (y, _, _)) z k = omega arith
+
+        out : suc j % 2 ≡ 0 → SouthClear (suc j) → Dec (suc j ≡ lap g d) → step g S (at d i (suc j)) ≡ Option·map (kidBy l 1) (step g S (at (pred d) (i / 2) (suc (j / 2))))
+        out e (inl y) (yes z) = rw (south-end g d i (suc j) z, south-end g (pred d) (i / 2) (suc (j / 2)) (omega arith))
+        out e (inr (_, _, y)) (yes z) = absurd (y z)
+        out e y (no z) = rw (south-on g d i j z, south-on g (pred d) (i / 2) (j / 2) (on e y z)) (is-kid d i j (i / 2) (j / 2) l 1 h (omega arith) (omega arith))
 
   pub step-digits : (w : Wind) → T (aside w) → (p : Place) → 0 < p .depth → Smooth g w p
       → step g w p ≡ Option·map (kidBy ((iMoved w p + 1) % 2) ((jMoved w p + 1) % 2)) (cond (stays w p) (some (up p)) (step g w (up p)))
-  step-digits N t p h s = north-digits (p .depth) (p .i) (p .j) h (paired g N p h s)
+  step-digits N t p h s = north-digits (p .depth) (p .i) h (p .j) (north-paired g p h s)
   step-digits E t p h s = east-digits (p .depth) (p .i) (p .j) h
-  step-digits S t p h s = south-digits (p .depth) (p .i) (p .j) h (paired g S p h s)
+  step-digits S t p h s = south-digits (p .depth) (p .i) h (p .j) (south-paired g p h s)
   step-digits W t p h s = west-digits (p .depth) (p .i) (p .j) h
   step-digits NE t p h s = absurd t
   step-digits SE t p h s = absurd t
@@ -165,11 +213,10 @@ module _ (g : Grid) where
       back l m a b (some q) = ap some (up-is (kidBy l m q) q (kid-by-parent l m q a b))
 
   pub step-depth : (w : Wind) → T (aside w) → (p q : Place) → step g w p ≡ some q → q .depth ≡ p .depth
-  unfolding step toNorth toEast toSouth toWest
-  step-depth N t p q e = rw (← Option·some-injective _ _ e)
-  step-depth E t p q e = rw (← Option·some-injective _ _ e)
-  step-depth S t p q e = let (j, b, f) = mapped (λ j. at (p .depth) (p .i) j) q (jBefore (lap g (p .depth)) (p .j)) e in rw (← f)
-  step-depth W t p q e = let (i, b, f) = mapped (λ i. at (p .depth) i (p .j)) q (before (p .i)) e in rw (← f)
+  step-depth N t p q e = rw (← Option·some-injective _ _ (sym (step-north g p) ∙ e)) (north-depth g p)
+  step-depth E t p q e = rw (← Option·some-injective _ _ (sym (step-east g p) ∙ e)) (east-depth g p)
+  step-depth S t p q e = rw (← south-north g p q e) (sym (north-depth g q))
+  step-depth W t p q e = rw (← west-east g p q e) (sym (east-depth g q))
   step-depth NE t p q e = absurd t
   step-depth SE t p q e = absurd t
   step-depth SW t p q e = absurd t
@@ -177,17 +224,31 @@ module _ (g : Grid) where
 
   -- a step leads elsewhere, unless the level has one row alone and goes round
   pub step-other : (w : Wind) → T (aside w) → (p : Place) → lap g (p .depth) ≢ 1 → step g w p ≡ some p → ⊥
-  unfolding step toNorth toEast toSouth toWest
-  step-other N t p one e = after-other (lap g (p .depth)) (p .j) one (ap (λ (x : Place). x .j) (Option·some-injective _ _ e))
-  step-other E t p one e = let h : suc (p .i) ≡ p .i = ap (λ (x : Place). x .i) (Option·some-injective _ _ e) in omega arith
-  step-other S t p one e = after-other (lap g (p .depth)) (p .j) one (ap (λ (x : Place). x .j) (south-north g p p e))
-  step-other W t p one e = let h : suc (p .i) ≡ p .i = ap (λ (x : Place). x .i) (west-east g p p e) in omega arith
-  step-other NE t p one e = absurd t
-  step-other SE t p one e = absurd t
-  step-other SW t p one e = absurd t
-  step-other NW t p one e = absurd t
+  step-other w t p one = by w t
+    where
+      north : toNorth g p ≢ p
+      north e = after-other (lap g (p .depth)) (p .j) one (sym (north-j g p) ∙ ap (λ (x : Place). x .j) e)
 
-  -- a step to a corner is one to each side
-  pub southwest : (p : Place) → step g SW p ≡ then (step g S) (step g W p)
-  unfolding step
-  southwest p = refl
+      east : toEast g p ≢ p
+      east e = omega (arith, east-i g p, ap (λ (x : Place). x .i) e)
+
+      by : (w : Wind) → T (aside w) → step g w p ≡ some p → ⊥
+      by N t e = north (Option·some-injective _ _ (sym (step-north g p) ∙ e))
+      by E t e = east (Option·some-injective _ _ (sym (step-east g p) ∙ e))
+      by S t e = north (south-north g p p e)
+      by W t e = east (west-east g p p e)
+      by NE t e = absurd t
+      by SE t e = absurd t
+      by SW t e = absurd t
+      by NW t e = absurd t
+
+  -- of a kid, whose digits its wind says
+  pub step-kid : (w v : Wind) → T (aside w) → (p : Place) → Smooth g w (kid v p)
+      → step g w (kid v p)
+      ≡ Option·map (kidBy ((compass v .east / 2 + compass w .east + 1) % 2) ((compass v .north / 2 + compass w .north + 1) % 2))
+      (cond (within (compass v .east / 2 + compass w .east) && within (compass v .north / 2 + compass w .north)) (some p) (step g w p))
+  step-kid w v t p s =
+      let (x, y) = kid-by-digits (compass v .east / 2) (compass v .north / 2) p (omega (arith, rule v .east-back)) (omega (arith, rule v .north-back)) in
+      let e : kid v p .i % 2 ≡ compass v .east / 2 = ap (λ (r : Place). r .i % 2) (kid-by v p) ∙ x in
+      let f : kid v p .j % 2 ≡ compass v .north / 2 = ap (λ (r : Place). r .j % 2) (kid-by v p) ∙ y in
+      step-digits w t (kid v p) (omega (arith, kid-depth v p)) s ∙ rw (e, f, up-kid v p)

@@ -1,90 +1,76 @@
 -- The nine places that a refinement wants are the corners of the kids, each once.
 -- Assumes nothing.
-use Prim.Native.Nat.{ℕ, suc, _+_, _-_, _*_, _/_, _≤_, _<_}
+use Prim.Native.Nat.{ℕ, suc, _+_, _-_, _*_, _≤_, _<_}
 use native.Mathlib.Omega.{arith}
 use mathlib.Core.Path.{_≡_, refl, sym, ap, _∙_, subst}
 use mathlib.Core.Logic.{_⊎_, inl, inr}
 use mathlib.Core.Bool.{Bool, true, false, not, _&&_, cond}
-use mathlib.Core.Option.{some, Option·some-injective}
+use mathlib.Core.Option.{some, Option·map, Option·some-injective}
 use mathlib.Core.List.{List, [], _∷_, map}
 use lib.Dec.{T, T-not, eqb, eqb→eq, eqb-refl, lit<}
 use lib.ListN.{getD}
 use Rattle.mesh.specs.Tools.{any}
-use Rattle.mesh.specs.Place.{Place, Grid, same, root, base, lap, jAfter, toNorth, toEast, toSouth, toWest, kid, kids, parent, Wind, NE, SE, SW, NW, N, In, Distinct}
+use Rattle.mesh.specs.Place.{Place, Grid, same, root, base, lap, jAfter, toNorth, toEast, kid, kids, parent, Wind, NE, SE, SW, NW, N, E, In, Distinct, step, S, W}
 use Rattle.mesh.specs.Request.{wanted}
 use Rattle.place_laws.proofs.Bools.{yes-is, no-is, and-left, and-right}
 use Rattle.place_laws.proofs.Lists.{any-at, any-map}
-use Rattle.place_laws.proofs.Laps.{Paired, lap-next, after-even, after-odd, after-other}
-use Rattle.place_laws.proofs.Places.{in-cases, in-any, is-same, north-south, east-west}
-use Rattle.place_laws.proofs.Kids.{parent-in, parent-kid, kid-parent}
+use Rattle.place_laws.proofs.Places.{in-cases, in-any, is-same}
+use Rattle.place_laws.proofs.Steps.{north-depth, north-i, north-j, east-depth, east-i, east-j, north-south, east-west, step-north, step-east}
+use Rattle.place_laws.proofs.Laps.{Smooth, smooth-above, after-other}
+use Rattle.place_laws.proofs.Kids.{parent-in, parent-kid, kid-parent, kid-depth}
+use Rattle.place_laws.proofs.SideDigits.{kidBy, step-kid}
 use Rattle.place_laws.proofs.Near.{Corner, c-here, c-east, c-north, c-both, corner-cast}
 
 -- ---- steps among kids
 
--- from an even index to the odd one of the same pair, and on to the next pair
-to-odd : (n : ℕ) → suc (2 * n + 0) ≡ 2 * n + 1
-to-odd n = omega arith
-
-to-next : (n : ℕ) → suc (2 * n + 1) ≡ 2 * suc n + 0
-to-next n = omega arith
-
 -- from level 0 up
 module _ (g : Grid) (p : Place) (low : base g ≤ p .depth) where
-  -- a level above level 0 has two rows for each of the one below
-  kid-rows : (j : ℕ) → Paired N (lap g (suc (p .depth))) (lap g (p .depth)) j
-  kid-rows j = inl (lap-next g (p .depth) low)
-
-  odd-row : jAfter (lap g (suc (p .depth))) (2 * p .j + 0) ≡ 2 * p .j + 1
-  odd-row = after-even (2 * p .j + 0) (kid-rows (2 * p .j + 0)) (omega arith) ∙ to-odd (p .j)
-
-  next-row : jAfter (lap g (suc (p .depth))) (2 * p .j + 1) ≡ 2 * jAfter (lap g (p .depth)) (p .j) + 0
-  next-row =
-      let e : (2 * p .j + 1) / 2 ≡ p .j = omega arith in
-      rw e at (after-odd (2 * p .j + 1) (kid-rows (2 * p .j + 1)) (omega arith)) ∙ omega arith
+  above : (v : Wind) → Smooth g N (kid v p)
+  above v = smooth-above g N (kid v p) (omega (arith, kid-depth v p))
 
   -- one step within the four
   pub north-sw : toNorth g (kid SW p) ≡ kid NW p
-  unfolding toNorth kid
-  north-sw = rw odd-row
+  unfolding kid kidBy
+  north-sw = Option·some-injective _ _ (sym (step-north g (kid SW p)) ∙ step-kid g N SW tt p (above SW))
 
   pub north-se : toNorth g (kid SE p) ≡ kid NE p
-  unfolding toNorth kid
-  north-se = rw odd-row
+  unfolding kid kidBy
+  north-se = Option·some-injective _ _ (sym (step-north g (kid SE p)) ∙ step-kid g N SE tt p (above SE))
 
   -- and out of them
   pub north-nw : toNorth g (kid NW p) ≡ kid SW (toNorth g p)
-  unfolding toNorth kid
-  north-nw = rw next-row
+  unfolding kid kidBy
+  north-nw = Option·some-injective _ _ (sym (step-north g (kid NW p)) ∙ step-kid g N NW tt p (above NW) ∙ ap (Option·map (kid SW)) (step-north g p))
 
   pub north-ne : toNorth g (kid NE p) ≡ kid SE (toNorth g p)
-  unfolding toNorth kid
-  north-ne = rw next-row
+  unfolding kid kidBy
+  north-ne = Option·some-injective _ _ (sym (step-north g (kid NE p)) ∙ step-kid g N NE tt p (above NE) ∙ ap (Option·map (kid SE)) (step-north g p))
 
 module _ (g : Grid) (p : Place) where
   -- one step within the four
   pub east-sw : toEast g (kid SW p) ≡ kid SE p
-  unfolding toEast kid
-  east-sw = rw (to-odd (p .i))
+  unfolding kid kidBy
+  east-sw = Option·some-injective _ _ (sym (step-east g (kid SW p)) ∙ step-kid g E SW tt p (λ _. refl))
 
   pub east-nw : toEast g (kid NW p) ≡ kid NE p
-  unfolding toEast kid
-  east-nw = rw (to-odd (p .i))
+  unfolding kid kidBy
+  east-nw = Option·some-injective _ _ (sym (step-east g (kid NW p)) ∙ step-kid g E NW tt p (λ _. refl))
 
   -- and out of them
   pub east-se : toEast g (kid SE p) ≡ kid SW (toEast g p)
-  unfolding toEast kid
-  east-se = rw (to-next (p .i))
+  unfolding kid kidBy
+  east-se = Option·some-injective _ _ (sym (step-east g (kid SE p)) ∙ step-kid g E SE tt p (λ _. refl) ∙ ap (Option·map (kid SW)) (step-east g p))
 
   pub east-ne : toEast g (kid NE p) ≡ kid NW (toEast g p)
-  unfolding toEast kid
-  east-ne = rw (to-next (p .i))
+  unfolding kid kidBy
+  east-ne = Option·some-injective _ _ (sym (step-east g (kid NE p)) ∙ step-kid g E NE tt p (λ _. refl) ∙ ap (Option·map (kid NW)) (step-east g p))
 
 -- one place alone leads to a place by a step east, and one by a step north
 pub east-once : (g : Grid) (p q : Place) → toEast g p ≡ toEast g q → p ≡ q
-east-once g p q e = Option·some-injective _ _ (sym (east-west g p) ∙ ap (toWest g) e ∙ east-west g q)
+east-once g p q e = Option·some-injective _ _ (sym (east-west g p) ∙ ap (step g W) e ∙ east-west g q)
 
 pub north-once : (g : Grid) (p q : Place) → toNorth g p ≡ toNorth g q → p ≡ q
-north-once g p q e = Option·some-injective _ _ (sym (north-south g p) ∙ ap (toSouth g) e ∙ north-south g q)
+north-once g p q e = Option·some-injective _ _ (sym (north-south g p) ∙ ap (step g S) e ∙ north-south g q)
 
 -- the point in the middle of p is a corner of the kids alone
 pub middle-kid : (g : Grid) (r p : Place) → base g ≤ p .depth → Corner g r (kid NE p) → parent r ≡ some p
@@ -123,14 +109,16 @@ module _ (g : Grid) (p : Place) where
   kid-wanted = each-in (λ q. In q (wanted g p)) (kids p) (nth 3 _ (lit< tt) refl, (nth 1 _ (lit< tt) refl, (nth 0 _ (lit< tt) refl, (nth 2 _ (lit< tt) refl, tt))))
 
   pub wanted-depth : (q : Place) → In q (wanted g p) → q .depth ≡ suc (p .depth)
-  unfolding wanted kid toNorth toEast
-  wanted-depth = each-in (λ q. q .depth ≡ suc (p .depth)) (wanted g p) (refl, (refl, (refl, (refl, (refl, (refl, (refl, (refl, (refl, tt)))))))))
+  unfolding wanted kid
+  wanted-depth =
+      let n : suc (toNorth g p .depth) ≡ suc (p .depth) = ap suc (north-depth g p) in
+      let e : suc (toEast g p .depth) ≡ suc (p .depth) = ap suc (east-depth g p) in
+      each-in (λ q. q .depth ≡ suc (p .depth)) (wanted g p) (refl, (refl, (refl, (refl, (n, (n, (e, (e, (ap suc (north-depth g (toEast g p)) ∙ e, tt)))))))))
 
 module _ (g : Grid) (p : Place) (low : base g ≤ p .depth) where
   -- the place east is as deep
   low-east : base g ≤ toEast g p .depth
-  unfolding toEast
-  low-east = low
+  low-east = rw (east-depth g p) low
 
   far : toNorth g (toEast g (kid NE p)) ≡ kid SW (toNorth g (toEast g p))
   far = ap (toNorth g) (east-ne g p) ∙ north-nw g (toEast g p) low-east
@@ -234,8 +222,8 @@ row-next n m f =
 
 -- counted along the rows from the south-west, unless the level has one row alone and goes round
 pub wanted-distinct : (g : Grid) (p : Place) → (lap g (p .depth) ≡ 1 → ⊥) → Distinct (wanted g p)
-unfolding wanted kid toNorth toEast
+unfolding wanted kid
 wanted-distinct g p one =
     let x = jAfter (lap g (p .depth)) (p .j) in
     numbers-distinct (λ q. q .i - 2 * p .i + 3 * rowOf (p .j) (q .j)) (wanted g p)
-    (simp (at-even, at-odd, at-next, row-even (p .j), row-odd (p .j), row-next (p .j) x (after-other (lap g (p .depth)) (p .j) one)) tt)
+    (simp (north-i, north-j, east-depth, east-i, east-j, at-even, at-odd, at-next, row-even (p .j), row-odd (p .j), row-next (p .j) x (after-other (lap g (p .depth)) (p .j) one)) tt)

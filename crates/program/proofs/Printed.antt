@@ -8,24 +8,23 @@ use mathlib.Core.Logic.{_≢_}
 use mathlib.Core.List.{List, [], _∷_}
 use lib.ListN.{length, take, drop, length-drop}
 use lib.Seq.{take-all}
-use lib.IntN.{ℤ}
-use lib.Ieee.{Float}
 use Rattle.mesh.specs.State.{State, capacity}
 use Rattle.mesh.specs.Valid.{Valid}
-use Rattle.mesh.specs.Picture.{rowWords}
+use Rattle.mesh.specs.Picture.{rowWords, Lent, picture}
 use Rattle.mesh.specs.Refusal.{refusal}
 use Rattle.mesh.specs.Scan.{no18}
 use Rattle.mesh.specs.Page.{page, pageChecks}
 use Rattle.mesh.specs.Call as Call
-use Rattle.mesh.specs.Call.{Lent, picture, stateOf, lentChecks, buildChecks, buildCall, tapeCall, wrote, pageCall, writing}
+use Rattle.mesh.specs.Decode.{decode}
+use Rattle.mesh.specs.Call.{checkCall, buildChecks, buildCall, tapeCall, wrote, pageCall, writing}
 use Rattle.mesh.specs.Program.{gridIn, refusedLine, headChecks, tapePage, program, programCall, gridChecks, inputChecks}
-use Rattle.mesh.specs.Headers.{lentOf}
-use Rattle.mesh.specs.declared.header.Header.{Header}
 use Rattle.number_laws.proofs.Checks.{past, kept}
+use Rattle.picture_laws.proofs.Decoding.{decode-back}
+use Rattle.picture_laws.proofs.Accepted.{picture-accepted}
 use Rattle.checker.proofs.Checking.{sized}
 use Rattle.demand_laws.proofs.Prefixes.{run-offset}
 use Rattle.demand_laws.proofs.Refusals.{unless-accepted, unless-refused, unless-names}
-use Rattle.demand_laws.proofs.PicturedCalls.{picture-state, picture-accepted, tape-runs}
+use Rattle.demand_laws.proofs.PicturedCalls.{tape-runs}
 use Rattle.call_laws.proofs.Called.{checks-after}
 use Rattle.grid.specs.declared.Built.{Built}
 use Rattle.grid.specs.declared.Taped.{Taped}
@@ -37,9 +36,9 @@ use Rattle.program.proofs.PrintedTape.{started, ran, started-valid, ran
 pub page-prints : (s : State) → Valid s → (cap : ℕ) → capacity s ≡ cap → (out : List ℕ) → pageCall cap (picture s) out ≡ writing (page s) out
 unfolding pageCall pageChecks
 page-prints s v cap c out =
-    let ok : refusal (lentChecks cap (picture s)) ≡ 0 = ap (λ (n : ℕ). refusal (lentChecks n (picture s))) (sym c) ∙ picture-accepted s v in
-    ap (λ (r : ℕ). wrote r (page (stateOf (picture s))) out) (checks-after cap (picture s) ok (no18 (length out) (page (stateOf (picture s))) ∷ []))
-    ∙ ap (λ (t : State). writing (page t) out) (picture-state s v)
+    let ok : checkCall cap (picture s) ≡ 0 = ap (λ (n : ℕ). checkCall n (picture s)) (sym c) ∙ picture-accepted s v in
+    ap (λ (r : ℕ). wrote r (page (decode (picture s))) out) (checks-after cap (picture s) ok (no18 (length out) (page (decode (picture s))) ∷ []))
+    ∙ ap (λ (t : State). writing (page t) out) (decode-back s v)
 
 module _ (input : List ℕ) where
   -- ---- the program, branch by branch
@@ -62,11 +61,10 @@ module _ (input : List ℕ) where
 
     -- ---- the build
 
-    module _ {h h₁ : Header} {t t₁ : List ℤ} {v v₁ : List Float} {b : Built} (size : length t ≡ rowWords * 1001) (places : length v ≡ 1001)
-        (built-as : Builds h t v 1000 (gridIn input .columns) (gridIn input .rows) 0 h₁ t₁ v₁ b) where
-      checks-same : refusal (buildChecks 1000 (lentOf h t v) (gridIn input)) ≡ refusal (headChecks input)
+    module _ {l l₁ : Lent} {b : Built} (built-as : Builds l 1000 (gridIn input .columns) (gridIn input .rows) 0 l₁ b) (size : length (l .words) ≡ rowWords * 1001) (places : length (l .values) ≡ 1001) where
+      checks-same : refusal (buildChecks 1000 l (gridIn input)) ≡ refusal (headChecks input)
       unfolding buildChecks gridChecks
-      checks-same = sized 1000 (lentOf h t v) (gridChecks input) size places (omega arith) (omega arith) ∙ sym after-head
+      checks-same = sized 1000 l (gridChecks input) (record { words = size; values = places; low = omega arith; high = omega arith }) ∙ sym after-head
 
       build-why : b .refusal ≡ refusal (headChecks input)
       unfolding buildCall
@@ -79,7 +77,7 @@ module _ (input : List ℕ) where
         passed : refusal (headChecks input) ≡ 0
         passed = sym build-why ∙ none
 
-        started-lent : lentOf h₁ t₁ v₁ ≡ picture (started input)
+        started-lent : l₁ ≡ picture (started input)
         unfolding buildCall
         started-lent = ap (λ (r : Call.Built). r .lent) (built-as .is ∙ unless-accepted _ _ _ (checks-same ∙ passed))
 
@@ -89,13 +87,13 @@ module _ (input : List ℕ) where
 
         -- ---- the tape
 
-        module _ {h₂ : Header} {t₂ : List ℤ} {v₂ : List Float} {r : Taped} (taped-as : Tapes h₁ t₁ v₁ 1000 (take (length input - 3) (drop 3 input)) h₂ t₂ v₂ r) where
-          taped : tapedOf r h₂ t₂ v₂ ≡ record { done = ran input .done; refusal = ran input .refusal; offset = ran input .offset; lent = picture (ran input .state) }
+        module _ {l₂ : Lent} {r : Taped} (taped-as : Tapes l₁ 1000 (take (length input - 3) (drop 3 input)) l₂ r) where
+          taped : tapedOf r l₂ ≡ record { done = ran input .done; refusal = ran input .refusal; offset = ran input .offset; lent = picture (ran input .state) }
           taped =
               let (v, c) = started-valid input passed in
               let rest : take (length input - 3) (drop 3 input) ≡ drop 3 input = take-all (length input - 3) (drop 3 input) (omega (arith, length-drop 3 input)) in
               taped-as .is
-              ∙ ap (λ (bytes : List ℕ). tapeCall 1000 (lentOf h₁ t₁ v₁) bytes) rest
+              ∙ ap (λ (bytes : List ℕ). tapeCall 1000 l₁ bytes) rest
               ∙ ap (λ (l : Lent). tapeCall 1000 l (drop 3 input)) started-lent
               ∙ tape-runs (started input) v 1000 c (drop 3 input)
 
@@ -112,7 +110,7 @@ module _ (input : List ℕ) where
           unfolding tapePage
           tape-refused some = rw (same-why, same-offset) (sym (program-ran ∙ unless-refused _ _ (ran input .refusal) (λ z. some (same-why ∙ z))))
 
-          pub tape-printed : r .refusal ≡ 0 → (out : List ℕ) {w : Call.Wrote} → w ≡ pageCall 1000 (lentOf h₂ t₂ v₂) out → w ≡ programCall input out
+          pub tape-printed : r .refusal ≡ 0 → (out : List ℕ) {w : Call.Wrote} → w ≡ pageCall 1000 l₂ out → w ≡ programCall input out
           unfolding tapePage
           tape-printed calm out e =
               let (v, c) = ran-valid input passed in

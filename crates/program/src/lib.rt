@@ -9,13 +9,13 @@ ghost use Rattle.mesh.specs.Call.{writing};
 ghost use Rattle.lines.specs.Puts.{Put};
 ghost use Rattle.grid.specs.Calls.{wroteOf};
 use grid::Wrote;
+use header::OPEN;
+use header::fresh;
 use lines::numerals::digits;
 use lines::numerals::put_byte;
 use lines::numerals::put_decimal;
 use lines::numerals::put_number;
 use lines::numerals::put_text;
-use mesh::header::OPEN;
-use mesh::header::fresh;
 use table::words::ROW_WORDS;
 
 const CAPACITY: u32 = 1000;

@@ -20,7 +20,7 @@ use Rattle.mesh.specs.Winds.{wordOfWind}
 use Rattle.mesh.specs.Picture.{parentWord, neWord, seWord, swWord, nwWord, northWord, eastWord, southWord, westWord, levelWord, iWord, jWord, flagsWord, freeFlags, linkWords}
 use Rattle.table.specs.Plain.{Sized}
 use Rattle.table.specs.Words.{wordOf, linkOf, depthOf}
-use Rattle.table.specs.Worked.{kidWord, sideOf, downTo, sideIn}
+use Rattle.table.specs.Worked.{kidWord, sideBy, sideOf, downTo, sideIn}
 use Rattle.table.proofs.LinkRanges.{link-within, link-word}
 use Rattle.place_laws.proofs.Bools.{and-left, and-right, is-yes, yes-is}
 use Rattle.place_laws.proofs.SideDigits.{aside}
@@ -144,7 +144,7 @@ module _ {g : Grid} {cap : ℕ} {t : List ℤ} {v : List Float} (ok : Tested g c
       go n false = link-within t cap _ _
 
   side-within : (n : ℕ) (w : Wind) → sideIn g t cap n w ≤ cap
-  unfolding sideIn sideOf
+  unfolding sideIn sideOf sideBy
   side-within n w = go (crosses g w (at (depthOf t (base g) n) (wordOf t n iWord) (wordOf t n jWord))) (step g w (at (depthOf t (base g) n) (wordOf t n iWord) (wordOf t n jWord)))
     where
       go : (b : Bool) (o : Option Place) → cond b (orElse 0 (λ q. downTo t cap (q .depth) (q .i) (q .j)) o) (sideOf t cap n w) ≤ cap

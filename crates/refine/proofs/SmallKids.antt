@@ -1,32 +1,22 @@
 -- A new patch doubles the bound of indices and depths at most, since only its own row's are written, from its parent's.
 -- Assumes nothing.
 use mathlib.Core.Path.{_≡_, sym, subst, _∙_}
-use mathlib.Core.Bool.{Bool, true, false, cond}
 use mathlib.Core.List.{List}
-use Prim.Native.Nat.{ℕ, _+_, _-_, _*_, _≤_, _<_}
+use Prim.Native.Nat.{ℕ, _+_, _*_, _≤_, _<_}
 use native.Mathlib.Omega.{arith}
-use lib.Dec.{eqb}
 use lib.ListN.{set}
 use lib.IntN.{ℤ, pos, subℕ}
-use Rattle.mesh.specs.Place.{Wind, N, E, S, W, compass}
-use Rattle.mesh.specs.Winds.{wordOfWind}
+use Rattle.mesh.specs.Place.{N, E, S, W}
 use Rattle.mesh.specs.Picture.{rowWords}
 use Rattle.table.specs.Words.{code, wordOf, depthFrom, depthOf}
-use Rattle.table.specs.Worked.{kidWord, sideOf}
+use Rattle.table.specs.Worked.{kidWord}
 use Rattle.table.proofs.LinkRanges.{depth-back, level-of}
 use Rattle.table_laws.proofs.LinkedRows.{kid-word-lt}
-use Rattle.edit_laws.specs.Steps.{putWord, linkSide, placeIn, linkIn}
-use Rattle.free.specs.Free.{freeFrom}
-use Rattle.edit_laws.specs.Tables.{Lending, spot, kidAt, kidSpots, supplied, suppliedAll}
-use Rattle.edit_laws.proofs.WrittenWord.{word-other, word-either, Keeps, keeps-put, keeps-unless, keeps-then, wind-word}
-use Rattle.patch.specs.Small.{Small, AllSmall}
-use Rattle.near.specs.NearSpots.{lending}
+use Rattle.edit_laws.specs.Steps.{putWord, placeIn, linkIn}
+use Rattle.edit_laws.proofs.WrittenWord.{word-other, word-either, Keeps, keeps-put, keeps-then, keeps-side}
+use Rattle.patch.specs.Small.{Small, AllSmall, Doubled}
 
 -- ---- links
-
-keeps-side : (t : List ℤ) (cap k : ℕ) (w : Wind) → Keeps t (linkSide t cap k w)
-unfolding linkSide
-keeps-side t cap k w = keeps-then (keeps-put t k (wordOfWind w) (sideOf t cap k w) (wind-word w)) (keeps-unless _ (sideOf t cap k w) (wordOfWind (compass w .opposite)) k (wind-word (compass w .opposite)))
 
 keeps-small : {b d n : ℕ} {t u : List ℤ} → Keeps t u → Small b t d n → Small b u d n
 unfolding depthOf
@@ -115,25 +105,9 @@ small-more h s = record { i = omega (arith, s .i); j = omega (arith, s .j); leve
 pub all-more : (b e : ℕ) (t : List ℤ) (cap d : ℕ) → AllSmall b t cap d → b ≤ e → AllSmall e t cap d
 all-more b e t cap d s h n l = small-more h (s n l)
 
-module _ (b cap d p l m : ℕ) (ph : p ≤ cap) (lh : l < 2) (mh : m < 2) (bh : b ≤ 1073741824) where
-  small-supplied : (r : Lending) → AllSmall b (r .words) cap d → AllSmall (2 * b) (supplied cap d (spot p l m) r .words) cap d
-  unfolding supplied
-  small-supplied r s = go (eqb (kidAt (r .words) cap (spot p l m)) 0)
-    where
-      go : (x : Bool) → AllSmall (2 * b) (cond x (record { words = linkIn (r .words) cap d p l m (freeFrom (r .words) (cap + 1 - r .low) (r .low)); low = freeFrom (r .words) (cap + 1 - r .low) (r .low) + 1 }) r .words) cap d
-      go true = λ n h. small-linked b (r .words) d p l m _ lh mh bh (s p ph) cap n (s n h)
-      go false = λ n h. small-more (omega arith) (s n h)
+-- nothing is larger
+pub doubled-same : (t : List ℤ) (cap d : ℕ) → Doubled t t cap d
+doubled-same t cap d b h s n l = small-more (omega arith) (s n l)
 
--- after one more kid
-pub small-after : (b : ℕ) (t : List ℤ) (cap d p l m low : ℕ) {u : List ℤ} {k : ℕ} → AllSmall b t cap d → lending u k ≡ supplied cap d (spot p l m) (lending t low) → p ≤ cap → l < 2 → m < 2 → b ≤ 1073741824 → AllSmall (2 * b) u cap d
-small-after b t cap d p l m low s e ph lh mh bh = subst (λ r. AllSmall (2 * b) (r .words) cap d) (sym e) (small-supplied b cap d p l m ph lh mh bh (lending t low) s)
-
--- after the four kids
-pub small-kids : (t : List ℤ) (cap d n low : ℕ) {u : List ℤ} {k : ℕ} → AllSmall 1048576 t cap d → lending u k ≡ suppliedAll cap d (kidSpots t cap n) (lending t low) → n ≤ cap → AllSmall 16777216 u cap d
-unfolding suppliedAll
-small-kids t cap d n low s e h =
-    subst (λ r. AllSmall 16777216 (r .words) cap d) (sym e)
-    (small-supplied 8388608 cap d n 1 1 h (omega arith) (omega arith) (omega arith) _
-    (small-supplied 4194304 cap d n 0 1 h (omega arith) (omega arith) (omega arith) _
-    (small-supplied 2097152 cap d n 1 0 h (omega arith) (omega arith) (omega arith) _
-    (small-supplied 1048576 cap d n 0 0 h (omega arith) (omega arith) (omega arith) (lending t low) s))))
+pub doubled-new : {t u : List ℤ} (cap d p l m k : ℕ) → p ≤ cap → l < 2 → m < 2 → u ≡ linkIn t cap d p l m k → Doubled t u cap d
+doubled-new {t} cap d p l m k ph lh mh e b bh s n h = rw e (small-linked b t d p l m k lh mh bh (s p ph) cap n (s n h))

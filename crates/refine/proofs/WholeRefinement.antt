@@ -10,26 +10,19 @@ use lib.ListN.{getD}
 use lib.Ieee.{Float}
 use Rattle.mesh.specs.State.{plusZero}
 use Rattle.table.specs.Words.{wordOf, linkOf}
-use Rattle.edit_laws.specs.Tables.{kidSpots, wantedSpots, suppliedAll, putCells, putValues, refreshNear, kidStatus, refineTable, refineValues}
-use Rattle.near.specs.NearSpots.{lending, cornerSpots}
+use Rattle.edit_laws.specs.Tables.{kidSpots, suppliedAll, suppliedNear, putCells, putValues, refreshNear, kidStatus, refineTable, refineValues}
+use Rattle.near.specs.NearSpots.{cornerSpots}
 use Rattle.near.proofs.SpotSteps.{wanted-is, supply-append}
 
-module _ (t : List ℤ) (cap d n low : ℕ) where
-  pub refined : {north east both w st a b : ℕ} {t₁ t₂ t₃ t₄ : List ℤ} →
-      north ≡ linkOf t cap n 5 →
-      east ≡ linkOf t cap n 6 →
-      both ≡ linkOf t cap east 5 →
-      w ≡ wordOf t n 13 →
-      st ≡ kidStatus w →
-      lending t₁ a ≡ suppliedAll cap d (kidSpots t cap n) (lending t low) →
-      lending t₂ b ≡ suppliedAll cap d (cornerSpots north east both) (lending t₁ a) →
-      t₃ ≡ putCells (kidSpots t₂ cap n) t₂ cap 1 st →
-      t₄ ≡ refreshNear t₃ cap d n →
-      t₄ ≡ refineTable cap d n (lending t low) .words
+module _ (t : List ℤ) (cap d n : ℕ) {north east both : ℕ} {t₁ t₂ : List ℤ}
+    (h1 : north ≡ linkOf t cap n 5) (h2 : east ≡ linkOf t cap n 6) (h3 : both ≡ linkOf t cap east 5)
+    (h4 : t₁ ≡ suppliedAll cap d (kidSpots t cap n) t) (h5 : t₂ ≡ suppliedAll cap d (cornerSpots north east both) t₁) where
+  pub all-supplied : t₂ ≡ suppliedNear t cap d n
+  all-supplied = h5 ∙ ap (suppliedAll cap d (cornerSpots north east both)) h4 ∙ sym (supply-append cap d (kidSpots t cap n) (cornerSpots north east both) t) ∙ sym (ap (λ xs. suppliedAll cap d xs t) (wanted-is t cap n h1 h2 h3))
+
+  pub refined : {w st : ℕ} {t₃ t₄ : List ℤ} → w ≡ wordOf t n 13 → st ≡ kidStatus w → t₃ ≡ putCells (kidSpots t₂ cap n) t₂ cap 1 st → t₄ ≡ refreshNear t₃ cap d n → t₄ ≡ refineTable t cap d n
   unfolding refineTable
-  refined {north} {east} {both} {b = b} {t₂ = t₂} h1 h2 h3 h4 h5 h6 h7 h8 h9 =
-      let all : suppliedAll cap d (wantedSpots t cap n) (lending t low) ≡ lending t₂ b = ap (λ xs. suppliedAll cap d xs (lending t low)) (wanted-is t cap n h1 h2 h3) ∙ supply-append cap d (kidSpots t cap n) (cornerSpots north east both) (lending t low) ∙ ap (suppliedAll cap d (cornerSpots north east both)) (sym h6) ∙ sym h7 in
-      rw (all, ← h4, ← h5, ← h8, h9)
+  refined h6 h7 h8 h9 = rw (← all-supplied, ← h6, ← h7, ← h8, h9)
 
 module _ (t : List ℤ) (cap n : ℕ) (v : List Float) where
   pub values-blank : {w : ℕ} → w ≡ wordOf t n 13 → w ≡ 0 → v ≡ refineValues t cap n v

@@ -6,7 +6,7 @@ use mathlib.Core.Path.{_≡_, refl, sym, _∙_}
 use mathlib.Core.Logic.{_≢_}
 use mathlib.Core.Bool.{Bool, true, false, not, _&&_, _||_, cond, or-false, or-assoc}
 use mathlib.Core.List.{List, [], _∷_}
-use lib.Dec.{eqb, leb}
+use lib.Dec.{eqb, ltb}
 use lib.IntN.{ℤ, pos}
 use lib.ListN.{set}
 use borrow.Author.Tests.{not-false, ne-eqb}
@@ -16,7 +16,7 @@ use Rattle.mesh.specs.Refusal.{Check, _if_, refusal}
 use Rattle.table.specs.Words.{wordOf, linkOf, flagOf, taken}
 use Rattle.table.proofs.Taken.{taken-within}
 use Rattle.number_laws.proofs.Checks.{passes}
-use Rattle.free.specs.Free.{Counted}
+use Rattle.free.specs.Free.{freeTotal}
 use Rattle.refusals.specs.OneRow.{sentenceTable}
 use Rattle.refusals.specs.Decide.{parental, kidsSentenced, lacking, besideKid, finerRound, otherUnder, row6, row7, row11, row21}
 
@@ -146,9 +146,9 @@ pub refused : (cs : List Check) (k : ℕ) → Refused cs k → k ≡ refusal cs
 refused cs k f = f .is
 
 -- the two checks that a refinement ends with, by the count of the free numbers
-pub room : (t : List ℤ) (cap n spare lacks r : ℕ) (green : Bool) → Counted cap t spare → green ≡ flagOf t 10 n → lacks ≤ 9 → lacks ≡ lacking t cap n
-    → r ≡ refusal ((21 if green) ∷ (11 if not (leb lacks spare)) ∷ []) → Refused (row21 t cap n ∷ row11 t cap n ∷ []) r
-room t cap n spare lacks r green c e few is h = record { is = h ∙ rw (e, ← c .counts lacks few, is) }
+pub room : (t : List ℤ) (cap n spare lacks r : ℕ) (green : Bool) → spare ≡ freeTotal t → green ≡ flagOf t 10 n → lacks ≡ lacking t cap n
+    → r ≡ refusal ((21 if green) ∷ (11 if ltb spare lacks) ∷ []) → Refused (row21 t cap n ∷ row11 t cap n ∷ []) r
+room t cap n spare lacks r green c e is h = record { is = h ∙ rw (e, c, is) }
 
 -- a request that is not refused names one of the numbers 1 to the capacity
 pub accepted-within : (t : List ℤ) (cap n : ℕ) (cs : List Check) → refusal (row6 t cap n ∷ cs) ≡ 0 → (1 ≤ n) × (n ≤ cap)

@@ -7,14 +7,15 @@ use mathlib.Core.List.{List, [], _∷_, map}
 use lib.Dec.{T, eqb, lit≤}
 use lib.ListN.{length}
 use Rattle.mesh.specs.Tools.{count}
-use Rattle.mesh.specs.Place.{Place, Grid, N, E, toNorth, toEast, step, kid}
-use Rattle.mesh.specs.State.{State, Entry, placeOf, entry, cells, number, gridOf, capacity}
+use Rattle.mesh.specs.Place.{Place, Grid, N, E, toNorth, toEast, kid}
+use Rattle.mesh.specs.State.{State, Entry, placeOf, entry, cells, number, numberOf, gridOf, capacity}
 use Rattle.mesh.specs.Valid.{Valid}
 use Rattle.mesh.specs.Picture.{table}
 use Rattle.mesh.specs.Request.{wanted, missing}
 use Rattle.table.specs.Words.{linkOf}
 use Rattle.table.specs.Worked.{kidWord}
 use Rattle.place_laws.proofs.Lists.{count-map}
+use Rattle.place_laws.proofs.Steps.{step-north, step-east}
 use Rattle.place_laws.proofs.SideDigits.{kidBy}
 use Rattle.place_laws.proofs.Near.{c-east}
 use Rattle.place_laws.proofs.Tree.{corner-patch}
@@ -40,11 +41,11 @@ module _ (s : State) (v : Valid s) (n : ℕ) (p : Place) (h : placeOf (entry (s 
   east-there = patch-numbered s v (toEast g p) (corner-patch g (cells es) (v .mesh .low p here) c-east here)
 
   wanted-rows : wantedRows (table s) (capacity s) n ≡ map (number es) (wanted g p)
-  unfolding wanted kid kidBy step
+  unfolding wanted kid kidBy
   wanted-rows =
-      let north : row n 5 ≡ number es (toNorth g p) = link-side s v n p h N tt in
-      let east : row n 6 ≡ number es (toEast g p) = link-side s v n p h E tt in
-      let far : row (row n 6) 5 ≡ number es (toNorth g (toEast g p)) = ap (λ (k : ℕ). row k 5) east ∙ link-side s v (number es (toEast g p)) (toEast g p) east-there N tt in
+      let north : row n 5 ≡ number es (toNorth g p) = link-side s v n p h N tt ∙ ap (numberOf es) (step-north g p) in
+      let east : row n 6 ≡ number es (toEast g p) = link-side s v n p h E tt ∙ ap (numberOf es) (step-east g p) in
+      let far : row (row n 6) 5 ≡ number es (toNorth g (toEast g p)) = ap (λ (k : ℕ). row k 5) east ∙ link-side s v (number es (toEast g p)) (toEast g p) east-there N tt ∙ ap (numberOf es) (step-north g (toEast g p)) in
       λ i. link-kid-of s v n p h 0 0 (lit≤ tt) (lit≤ tt) i
       ∷ link-kid-of s v n p h 1 0 (lit≤ tt) (lit≤ tt) i
       ∷ link-kid-of s v n p h 0 1 (lit≤ tt) (lit≤ tt) i

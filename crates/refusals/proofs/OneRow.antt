@@ -20,10 +20,12 @@ use Rattle.mesh.specs.Place.{Place, Grid, same, around, In}
 use Rattle.mesh.specs.Mesh.{derived, flags}
 use Rattle.mesh.specs.State.{State, Entry, nil, free, used, Cell, plusZero, amount, valueOf, placeOf, cellOf, isSentenced, entry, cells, number, placeAt, gridOf, withEntries}
 use Rattle.mesh.specs.Valid.{Valid}
-use Rattle.mesh.specs.Picture.{rowWords, fields, rowOf, table, amounts}
+use Rattle.mesh.specs.Picture.{rowWords, statusWord, fields, rowOf, table, amounts}
 use Rattle.mesh.specs.Refusal.{refusal}
-use Rattle.mesh.specs.Request.{sentence, setValue, looseChecks, effect, fill, filled, newCell, sentencedCell, measuredCell, no8, no12-sentence, no16}
+use Rattle.mesh.specs.Carrying.{sentencedCell, measuredCell}
+use Rattle.mesh.specs.Request.{sentence, setValue, looseChecks, effect, fill, filled, newCell}
 use Rattle.table.specs.Words.{wordOf, flagOf}
+use Rattle.table.specs.Carried.{putStatus, putAmount, measuredAs}
 use Rattle.place_laws.proofs.Bools.{yes-is, is-yes, no-is}
 use Rattle.place_laws.proofs.Lists.{map-set}
 use Rattle.place_laws.proofs.Places.{in-one, same-refl}
@@ -33,7 +35,7 @@ use Rattle.number_laws.proofs.Filling.{fill-entry, fill-length, fill-number, fi
 use Rattle.number_laws.proofs.Naming.{Named, named, named-in}
 use Rattle.picture_laws.proofs.Rows.{map-even, row-length, set-flat, amounts-at}
 use Rattle.table_laws.proofs.Pictured.{word-flags, sentenced-flag}
-use Rattle.refusals.specs.OneRow.{sentenceTable, measureTable}
+use Rattle.refusals.specs.OneRow.{sentenceTable}
 
 -- ---- binary digits
 
@@ -163,7 +165,7 @@ module _ (s : State) (v : Valid s) (n : ℕ) where
   module _ (ok : refusal (looseChecks s (sentence n)) ≡ 0) where
     sentence-named : Named s n
     unfolding looseChecks
-    sentence-named = named s v n (no8 s n ∷ no12-sentence s n ∷ []) ok .0
+    sentence-named = named s v n _ ok .0
 
     pub sentence-table : sentenceTable (table s) n ≡ table (effect s (sentence n))
     unfolding sentenceTable effect rowOf around fields
@@ -186,16 +188,16 @@ module _ (s : State) (v : Valid s) (n : ℕ) where
   module _ (x : Float) (ok : refusal (looseChecks s (setValue n x)) ≡ 0) where
     set-named : Named s n
     unfolding looseChecks
-    set-named = named s v n (no8 s n ∷ no16 x ∷ []) ok .0
+    set-named = named s v n _ ok .0
 
-    pub set-table : measureTable (table s) n ≡ table (effect s (setValue n x))
-    unfolding measureTable effect rowOf around fields
+    pub set-table : putStatus (table s) n (measuredAs x) ≡ table (effect s (setValue n x))
+    unfolding effect rowOf around fields
     set-table =
         let d = set-named in
         rw (its-new d (measuredCell x))
-        (new-word s v n d (measuredCell x (d .its)) 13 (pos 1) (lit< tt) refl)
+        (new-word s v n d (measuredCell x (d .its)) statusWord (pos 1) (lit< tt) refl)
 
-    pub set-amounts : set (amounts s) n x ≡ amounts (effect s (setValue n x))
+    pub set-amounts : putAmount (amounts s) n (measuredAs x) ≡ amounts (effect s (setValue n x))
     unfolding effect
     set-amounts =
         let d = set-named in

@@ -9,28 +9,24 @@ use mathlib.Core.Option.{some, Option·some-injective}
 use mathlib.Core.List.{List, [], _∷_}
 use lib.Dec.{T, T-not, eqb, lit≤}
 use lib.IntN.{ℤ}
-use lib.ListN.{set, length-set}
-use lib.Seq.{getD-set-other}
-use borrow.Author.Tests.{eq-eqb, ne-eqb, not-true}
+use borrow.Author.Tests.{eq-eqb, ne-eqb}
 use Rattle.mesh.specs.Tools.{any}
-use Rattle.mesh.specs.Place.{Place, Grid, root, base, kid, kids}
+use Rattle.mesh.specs.Place.{Place, Grid, same, root, base, kid, kids}
 use Rattle.mesh.specs.Mesh.{patch}
-use Rattle.mesh.specs.State.{State, Entry, nil, used, Cell, placeOf, entry, cells, number, placeAt, gridOf, capacity}
+use Rattle.mesh.specs.State.{State, Entry, placeOf, entry, cells, number, placeAt, gridOf, capacity, contents}
 use Rattle.mesh.specs.Valid.{Valid}
 use Rattle.mesh.specs.Picture.{table}
-use Rattle.mesh.specs.Request.{groundCells}
+use Rattle.mesh.specs.Deed.{held, anyGround}
 use Rattle.table.specs.Words.{linkOf, flagOf}
-use Rattle.place_laws.proofs.Bools.{bool-ext, yes-is, is-yes, is-no, and-both, and-left, and-right}
-use Rattle.place_laws.proofs.Lists.{any-at, count-set}
+use Rattle.place_laws.proofs.Bools.{bool-ext, is-yes, is-no, and-both, and-left, and-right}
 use Rattle.place_laws.proofs.SideDigits.{kidBy}
 use Rattle.place_laws.proofs.Kids.{up, up-depth, parent-up, parent-depth, any-kid, kid-any}
 use Rattle.place_laws.proofs.Tree.{cell-patch, patch-up}
 use Rattle.place_laws.proofs.Base.{depth-zero-root}
-use Rattle.place_laws.proofs.Counting.{count-some}
-use Rattle.number_laws.proofs.Entries.{in-list, cell-somewhere}
+use Rattle.place_laws.proofs.Ground.{other-ground, ground-other}
 use Rattle.number_laws.proofs.NumberedPlaces.{valid-numbered, number-place, place-number, numbered-not-zero}
+use Rattle.number_laws.proofs.ByPlace.{cells-held}
 use Rattle.number_laws.proofs.Naming.{Named}
-use Rattle.number_laws.proofs.Taking.{grounded, another-ground}
 use Rattle.table_laws.proofs.LinkedRows.{patch-numbered, link-kid-of}
 use Rattle.table_laws.proofs.FlaggedRows.{cell-of}
 use Rattle.refusals.specs.Decide.{otherUnder}
@@ -135,22 +131,17 @@ module _ (s : State) (v : Valid s) where
 
     -- ---- another than n, where n is one
 
-    module _ (d : Named s n) (low : placeAt es n .depth ≡ base g) where
-      -- two entries are counted twice
-      two : Other → groundCells s ≢ 1
-      unfolding groundCells
-      two (k, q, h, e, a, other) one =
-          let ground : (m : ℕ) (r : Place) (x : Cell) → entry es m ≡ used r (some x) → r .depth ≡ base g → T (grounded g (entry es m)) = λ m r x f l. rw (f, eq-eqb (r .depth) (base g) l) tt in
-          let (m, x, f) = cell-somewhere es q a in
-          let same : m ≡ k = v .once m k q (ap placeOf f) h in
-          let first = count-set (grounded g) nil es n nil (in-list es n (placeAt es n) (ap placeOf (d .is-entry))) (ground n (placeAt es n) (d .its) (d .is-entry) low) refl in
-          let second = count-some (grounded g) (set es n nil) (any-at (grounded g) nil (set es n nil) k (rw length-set (in-list es k q h)) (rw (getD-set-other es n k nil nil other) (rw same at (ground m q x f e)))) in
-          omega arith
+    module _ (d : Named s n) where
+      apart : (k : ℕ) (q : Place) → placeOf (entry es k) ≡ some q → k ≢ n → q ≡ placeAt es n → ⊥
+      apart k q h other z = other (v .once k n (placeAt es n) (h ∙ ap some z) (ap placeOf (d .is-entry)))
 
-      pub other-row : otherUnder t (capacity s) n (base g) 1 ≡ not (eqb (groundCells s) 1)
+      pub other-row : otherUnder t (capacity s) n (base g) 1 ≡ anyGround g (λ q. held (contents es) q && not (same q (placeAt es n)))
       other-row =
-          bool-ext (otherUnder t (capacity s) n (base g) 1) (not (eqb (groundCells s) 1))
-          (λ u. is-no (eqb (groundCells s) 1) (ne-eqb _ _ (two (found (base g) 1 root (v .first-root) (omega arith) u))))
+          bool-ext (otherUnder t (capacity s) n (base g) 1) (anyGround g (λ q. held (contents es) q && not (same q (placeAt es n))))
           (λ u.
-          let (q, e, a, other) = another-ground s v n d low (not-true (eqb (groundCells s) 1) (yes-is (not (eqb (groundCells s) 1)) u)) in
-          reached q a e (λ z. other (Option·some-injective _ _ (sym (number-place es q (numbered-not-zero es (valid-numbered v) q (v .every q (cell-patch g c (v .mesh) q a)))) ∙ ap (λ (k : ℕ). placeOf (entry es k)) z ∙ ap placeOf (d .is-entry)))))
+          let (k, q, h, e, a, other) = found (base g) 1 root (v .first-root) (omega arith) u in
+          ground-other g (held (contents es)) (placeAt es n) q e (v .mesh .inside q a e) (rw (cells-held es (valid-numbered v)) at a) (apart k q h other))
+          (λ u.
+          let (q, e, a, other) = other-ground g (held (contents es)) (placeAt es n) u in
+          let b : T (c q) = rw (cells-held es (valid-numbered v)) a in
+          reached q b e (λ z. other (Option·some-injective _ _ (sym (number-place es q (numbered-not-zero es (valid-numbered v) q (v .every q (cell-patch g c (v .mesh) q b)))) ∙ ap (λ (k : ℕ). placeOf (entry es k)) z ∙ ap placeOf (d .is-entry)))))

@@ -4,7 +4,7 @@
 use Prim.Native.Nat.{ℕ, zero, suc, _+_}
 use mathlib.Core.Bool.{Bool, not, _&&_}
 use mathlib.Core.List.{List, [], _∷_}
-use lib.Dec.{eqb}
+use lib.Dec.{eqb, ltb}
 use lib.IntN.{ℤ}
 use lib.Ieee.{Float}
 use Rattle.mesh.specs.Tools.{any, every, count}
@@ -13,7 +13,7 @@ use Rattle.mesh.specs.Refusal.{Check, _if_, refusal}
 use Rattle.mesh.specs.Picture.{eastWord, neWord, northWord, nwWord, seWord, swWord}
 use Rattle.mesh.specs.Mesh.{completeBit, grnCellBit, sentencedBit}
 use Rattle.table.specs.Words.{linkOf, flagOf, taken, depthOf}
-use Rattle.free.specs.Free.{enough}
+use Rattle.free.specs.Free.{freeTotal}
 
 module _ (t : List ℤ) (cap : ℕ) where
   -- a cell has kids exactly if its NE kid word is not 0: the point in its middle is a corner of its kids alone
@@ -59,7 +59,7 @@ module _ (t : List ℤ) (cap : ℕ) where
   -- whether a cell other than n lies so many levels under the row m: the walk ends at the first one
   unfoldable pub otherUnder : ℕ → ℕ → ℕ → Bool
   otherUnder n zero m = not (eqb m 0) && (flagOf t completeBit m && not (eqb m n))
-  otherUnder n (suc l) m = not (eqb m 0) && any (λ w. otherUnder n l (linkOf t cap m w)) (3 ∷ 2 ∷ 4 ∷ 1 ∷ [])
+  otherUnder n (suc l) m = not (eqb m 0) && any (λ w. otherUnder n l (linkOf t cap m w)) (swWord ∷ seWord ∷ nwWord ∷ neWord ∷ [])
 
   -- ---- the refusals, with level 0 at depth d
 
@@ -77,7 +77,7 @@ module _ (t : List ℤ) (cap : ℕ) where
     row10 = 10 if flagOf t sentencedBit n
 
     abbrev pub row11 : Check
-    row11 = 11 if not (enough t cap (lacking n))
+    row11 = 11 if ltb (freeTotal t) (lacking n)
 
     abbrev pub row13 : Check
     row13 = 13 if not (parental n)

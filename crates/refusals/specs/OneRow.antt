@@ -1,6 +1,6 @@
--- The two requests that change one row alone, on the words of a table.
+-- A sentence on the words of a table.
 -- Assumes nothing.
-use Prim.Native.Nat.{ℕ, _+_, _*_}
+use Prim.Native.Nat.{ℕ, _+_, _*_, _^_}
 use mathlib.Core.Bool.{cond}
 use mathlib.Core.List.{List}
 use lib.ListN.{set}
@@ -9,10 +9,6 @@ use Rattle.mesh.specs.Picture.{rowWords, flagsWord}
 use Rattle.mesh.specs.Mesh.{sentencedBit}
 use Rattle.table.specs.Words.{wordOf, flagOf}
 
--- the row n has the flag of bit 12, Sentenced
+-- the row n has the flag Sentenced
 unfoldable pub sentenceTable : List ℤ → ℕ → List ℤ
-sentenceTable t n = set t (n * rowWords + 12) (pos (wordOf t n flagsWord + cond (flagOf t sentencedBit n) 0 4096))
-
--- "set value, status 1"
-unfoldable pub measureTable : List ℤ → ℕ → List ℤ
-measureTable t n = set t (n * rowWords + 13) (pos 1)
+sentenceTable t n = set t (n * rowWords + flagsWord) (pos (wordOf t n flagsWord + cond (flagOf t sentencedBit n) 0 (2 ^ sentencedBit)))

@@ -64,7 +64,7 @@ fn lacks(t: &[i32], cap: usize, n: usize, w: usize) -> usize
 // How many of the nine patches that a refinement of the cell n wants are missing.
 pub fn lack_count(t: &[i32], cap: usize, n: usize) -> usize
     requires { ⌜ Plain (now t) cap × (n ≤ cap) ⌝ }
-    ensures { λ r. ⌜ (r ≤ 9) × (r ≡ lacking (now (t .entry)) cap n) ⌝ }
+    ensures { λ r. ⌜ r ≡ lacking (now (t .entry)) cap n ⌝ }
 {
     let north = table::plain::link(t, cap, n, NORTH);
     let east = table::plain::link(t, cap, n, EAST);

@@ -2,17 +2,18 @@
 ghost use mathlib.Core.Path.{_≡_};
 ghost use mathlib.Core.Bool.{cond};
 ghost use Prim.Native.Nat.{_+_, _*_, _<_, _≤_};
-ghost use lib.ListN.{length, set};
+ghost use lib.ListN.{length};
 ghost use Rattle.mesh.specs.Picture.{rowWords, flagsWord};
 ghost use Rattle.table.specs.Words.{wordOf};
-ghost use Rattle.refusals.specs.OneRow.{sentenceTable, measureTable};
+ghost use Rattle.table.specs.Carried.{putStatus, putAmount, measuredAs};
+ghost use Rattle.refusals.specs.OneRow.{sentenceTable};
+use table::carried::measured;
+use table::carried::put_carried;
 use table::flag_bits::SENTENCED;
 use table::words::FLAGS;
-use table::words::STATUS;
 use table::words::flag;
 use table::words::word;
 use table::writes::put;
-use table::writes::put_value;
 
 // What the flag Sentenced adds to the flags of a row that has it or not.
 fn sentence_weight(sentenced: bool) -> u32
@@ -33,8 +34,7 @@ pub fn sentence_at(t: &mut [i32], n: usize)
 // Sets the value of the cell n, with status 1, measured.
 pub fn set_at(t: &mut [i32], v: &mut [f64], n: usize, x: f64)
     requires { ⌜ (n * rowWords + rowWords ≤ length (now t)) × (n < length (now v)) ⌝ }
-    ensures { λ _. ⌜ (now (t .exit) ≡ measureTable (now (t .entry)) n) × (now (v .exit) ≡ set (now (v .entry)) n x) ⌝ }
+    ensures { λ _. ⌜ (now (t .exit) ≡ putStatus (now (t .entry)) n (measuredAs x)) × (now (v .exit) ≡ putAmount (now (v .entry)) n (measuredAs x)) ⌝ }
 {
-    put(t, n, STATUS, 1);
-    put_value(v, n, x);
+    put_carried(t, v, n, measured(x));
 }

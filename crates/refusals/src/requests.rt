@@ -1,11 +1,10 @@
 // The refusal of each kind of request, 0 for none, by the checks of 01 and of 02, No. 1, in their order; d is the depth of level 0.
 ghost use mathlib.Core.Path.{_≡_};
-ghost use mathlib.Core.Bool.{not};
 ghost use mathlib.Core.List.{[], _∷_};
 ghost use Prim.Native.Nat.{_≤_};
 ghost use Rattle.mesh.specs.Refusal.{_if_, refusal};
 ghost use Rattle.table.specs.Plain.{Plain, Sized};
-ghost use Rattle.free.specs.Free.{Counted};
+ghost use Rattle.free.specs.Free.{freeTotal};
 ghost use Rattle.refusals.specs.Decide.{row6, row7, refineRefusal, sentenceRefusal, removeRefusal, killRefusal, setRefusal};
 use crate::asks::finer_round;
 use crate::asks::has_kids;
@@ -31,19 +30,19 @@ fn cell_refusal(t: &[i32], cap: usize, n: usize) -> u32
     if flag(t, COMPLETE, n) { 0 } else { 7 }
 }
 
-// The two checks that a refinement ends with: a wall of the cell is green, since a coarser leaf lies beside it; and there are numbers enough.
-fn room_refusal(green: bool, enough: bool) -> u32
-    ensures { λ r. ⌜ r ≡ refusal ((21 if green) ∷ (11 if not enough) ∷ []) ⌝ }
+// The two checks that a refinement ends with: a wall of the cell is green, since a coarser leaf lies beside it; and the table is too full.
+fn room_refusal(green: bool, full: bool) -> u32
+    ensures { λ r. ⌜ r ≡ refusal ((21 if green) ∷ (11 if full) ∷ []) ⌝ }
 {
     if green {
         return 21;
     }
-    if enough { 0 } else { 11 }
+    if full { 11 } else { 0 }
 }
 
-// With the count of the free numbers, up to nine.
+// With the count of the free numbers.
 pub fn refine_refusal(t: &[i32], cap: usize, d: u32, n: usize, spare: usize) -> u32
-    requires { ⌜ Plain (now t) cap × (d ≤ 32) × Counted cap (now t) spare ⌝ }
+    requires { ⌜ Plain (now t) cap × (d ≤ 32) × (spare ≡ freeTotal (now t)) ⌝ }
     ensures { λ r. ⌜ r ≡ refineRefusal (now (t .entry)) cap d n ⌝ }
 {
     let r = cell_refusal(t, cap, n);
@@ -61,7 +60,7 @@ pub fn refine_refusal(t: &[i32], cap: usize, d: u32, n: usize, spare: usize) -> 
     }
     room_refusal(
         table::plain::flag(t, cap, GRN_CELL, n),
-        lack_count(t, cap, n) <= spare,
+        spare < lack_count(t, cap, n),
     )
 }
 

@@ -2,80 +2,99 @@
 ghost use mathlib.Core.Path.{_≡_};
 ghost use Prim.Native.Nat.{_<_, _≤_};
 ghost use lib.ListN.{length};
-ghost use Rattle.edit_laws.specs.Tables.{kidSpots, dropUntouched, dropAt, removeTable, removeValues};
+ghost use Rattle.edit_laws.specs.Tables.{kidSpots, eachAt, dropUntouched, emptied, droppedNear, removeTable, removeValues};
 ghost use Rattle.near.specs.NearSpots.{cornerSpots};
 ghost use Rattle.table.specs.Plain.{Plain};
-use mesh::NE;
-use mesh::NW;
-use mesh::SE;
-use mesh::SW;
+ghost use Rattle.table.specs.Words.{freeAt};
+ghost use Rattle.free.specs.FreeMap.{Mapped};
+use free::map::Spare;
 use near::spots::kid;
 use near::spots::put_cells;
 use near::spots::put_values;
 use near::spots::refresh_near;
-use patch::links::take_out;
+use patch::freed::free_row;
 use patch::links::touched_row;
 use table::plain::link;
 use table::words::EAST;
 use table::words::NORTH;
+use winds::NE;
+use winds::NW;
+use winds::SE;
+use winds::SW;
 
 // A patch from level 0 up that no cell touches goes.
-fn drop_untouched(t: &mut [i32], cap: usize, d: u32, n: usize)
-    requires { ⌜ Plain (now t) cap × (n ≤ cap) ⌝ }
-    ensures { λ _. ⌜ (now (t .exit) ≡ dropUntouched (now (t .entry)) cap d n) × Plain (now (t .exit)) cap ⌝ }
+fn drop_untouched(t: &mut [i32], cap: usize, map: &mut [u64; 64], s: Spare, n: usize) -> Spare
+    requires { ⌜ Plain (now t) cap × (n ≤ cap) × Mapped (freeAt (now t)) (now map) (s .top) (s .count) ⌝ }
+    ensures { λ r. ⌜ (now (t .exit) ≡ dropUntouched cap (now (t .entry)) n) × Plain (now (t .exit)) cap × Mapped (freeAt (now (t .exit))) (now (map .exit)) (r .top) (r .count) ⌝ }
 {
     if n == 0 {
-        return;
+        return s;
     }
-    if touched_row(t, cap, d, n) {
-        return;
+    if touched_row(t, cap, n) {
+        return s;
     }
-    take_out(t, cap, n);
+    free_row(t, cap, map, s, n)
 }
 
 // Kid by kid: the compiler does not unfold one function for both calls at each of nine places.
-fn drop_kids(t: &mut [i32], cap: usize, d: u32, n: usize)
-    requires { ⌜ Plain (now t) cap × (n ≤ cap) ⌝ }
-    ensures { λ _. ⌜ (now (t .exit) ≡ dropAt (kidSpots (now (t .entry)) cap n) (now (t .entry)) cap d) × Plain (now (t .exit)) cap ⌝ }
+fn drop_kids(t: &mut [i32], cap: usize, map: &mut [u64; 64], s: Spare, n: usize) -> Spare
+    requires { ⌜ Plain (now t) cap × (n ≤ cap) × Mapped (freeAt (now t)) (now map) (s .top) (s .count) ⌝ }
+    ensures { λ r. ⌜ (now (t .exit) ≡ eachAt (dropUntouched cap) cap (kidSpots (now (t .entry)) cap n) (now (t .entry))) × Plain (now (t .exit)) cap × Mapped (freeAt (now (t .exit))) (now (map .exit)) (r .top) (r .count) ⌝ }
 {
     let sw = kid(t, cap, n, SW);
-    drop_untouched(t, cap, d, sw);
+    let a = drop_untouched(t, cap, map, s, sw);
     let se = kid(t, cap, n, SE);
-    drop_untouched(t, cap, d, se);
+    let b = drop_untouched(t, cap, map, a, se);
     let nw = kid(t, cap, n, NW);
-    drop_untouched(t, cap, d, nw);
+    let c = drop_untouched(t, cap, map, b, nw);
     let ne = kid(t, cap, n, NE);
-    drop_untouched(t, cap, d, ne);
+    drop_untouched(t, cap, map, c, ne)
 }
 
-fn drop_corners(t: &mut [i32], cap: usize, d: u32, north: usize, east: usize, both: usize)
-    requires { ⌜ Plain (now t) cap × (north ≤ cap) × (east ≤ cap) × (both ≤ cap) ⌝ }
-    ensures { λ _. ⌜ (now (t .exit) ≡ dropAt (cornerSpots north east both) (now (t .entry)) cap d) × Plain (now (t .exit)) cap ⌝ }
+fn drop_corners(
+    t: &mut [i32],
+    cap: usize,
+    map: &mut [u64; 64],
+    s: Spare,
+    north: usize,
+    east: usize,
+    both: usize,
+) -> Spare
+    requires { ⌜ Plain (now t) cap × (north ≤ cap) × (east ≤ cap) × (both ≤ cap) × Mapped (freeAt (now t)) (now map) (s .top) (s .count) ⌝ }
+    ensures { λ r. ⌜ (now (t .exit) ≡ eachAt (dropUntouched cap) cap (cornerSpots north east both) (now (t .entry))) × Plain (now (t .exit)) cap × Mapped (freeAt (now (t .exit))) (now (map .exit)) (r .top) (r .count) ⌝ }
 {
     let north_sw = kid(t, cap, north, SW);
-    drop_untouched(t, cap, d, north_sw);
+    let a = drop_untouched(t, cap, map, s, north_sw);
     let north_se = kid(t, cap, north, SE);
-    drop_untouched(t, cap, d, north_se);
+    let b = drop_untouched(t, cap, map, a, north_se);
     let east_nw = kid(t, cap, east, NW);
-    drop_untouched(t, cap, d, east_nw);
+    let c = drop_untouched(t, cap, map, b, east_nw);
     let east_sw = kid(t, cap, east, SW);
-    drop_untouched(t, cap, d, east_sw);
+    let e = drop_untouched(t, cap, map, c, east_sw);
     let both_sw = kid(t, cap, both, SW);
-    drop_untouched(t, cap, d, both_sw);
+    drop_untouched(t, cap, map, e, both_sw)
 }
 
-// Removes the kids of the row n.
-pub fn remove_table(t: &mut [i32], cap: usize, d: u32, n: usize)
-    requires { ⌜ Plain (now t) cap × (n ≤ cap) × (d ≤ 32) ⌝ }
-    ensures { λ _. ⌜ now (t .exit) ≡ removeTable (now (t .entry)) cap d n ⌝ }
+// Removes the kids of the row n. The map is that of the table when they are no cells, and then that of the table without the rows that go.
+pub fn remove_table(
+    t: &mut [i32],
+    cap: usize,
+    map: &mut [u64; 64],
+    s: Spare,
+    d: u32,
+    n: usize,
+) -> Spare
+    requires { ⌜ Plain (now t) cap × (n ≤ cap) × (d ≤ 32) × Mapped (freeAt (emptied (now t) cap n)) (now map) (s .top) (s .count) ⌝ }
+    ensures { λ r. ⌜ (now (t .exit) ≡ removeTable (now (t .entry)) cap d n) × Mapped (freeAt (droppedNear (now (t .entry)) cap n)) (now (map .exit)) (r .top) (r .count) ⌝ }
 {
     put_cells(t, cap, n, 0, 0);
     let north = link(t, cap, n, NORTH);
     let east = link(t, cap, n, EAST);
     let both = link(t, cap, east, NORTH);
-    drop_kids(t, cap, d, n);
-    drop_corners(t, cap, d, north, east, both);
+    let a = drop_kids(t, cap, map, s, n);
+    let b = drop_corners(t, cap, map, a, north, east, both);
     refresh_near(t, cap, d, n);
+    b
 }
 
 // The values, with the words before the removal.
@@ -87,10 +106,18 @@ pub fn remove_values(t: &[i32], cap: usize, n: usize, v: &mut [f64])
 }
 
 // Removes the kids of the row n, their values too.
-pub fn remove(t: &mut [i32], v: &mut [f64], cap: usize, d: u32, n: usize)
-    requires { ⌜ Plain (now t) cap × (cap < length (now v)) × (n ≤ cap) × (d ≤ 32) ⌝ }
-    ensures { λ _. ⌜ (now (t .exit) ≡ removeTable (now (t .entry)) cap d n) × (now (v .exit) ≡ removeValues (now (t .entry)) cap n (now (v .entry))) ⌝ }
+pub fn remove(
+    t: &mut [i32],
+    v: &mut [f64],
+    cap: usize,
+    map: &mut [u64; 64],
+    s: Spare,
+    d: u32,
+    n: usize,
+) -> Spare
+    requires { ⌜ Plain (now t) cap × (cap < length (now v)) × (n ≤ cap) × (d ≤ 32) × Mapped (freeAt (emptied (now t) cap n)) (now map) (s .top) (s .count) ⌝ }
+    ensures { λ r. ⌜ (now (t .exit) ≡ removeTable (now (t .entry)) cap d n) × (now (v .exit) ≡ removeValues (now (t .entry)) cap n (now (v .entry))) × Mapped (freeAt (droppedNear (now (t .entry)) cap n)) (now (map .exit)) (r .top) (r .count) ⌝ }
 {
     remove_values(t, cap, n, v);
-    remove_table(t, cap, d, n);
+    remove_table(t, cap, map, s, d, n)
 }

@@ -10,3 +10,4 @@ pub mod LinkRanges
 pub mod Downs
 pub mod PutRows
 pub mod Taken
+pub mod CarriedWords

@@ -9,12 +9,13 @@ use lib.Dec.{eqb, lit≤}
 use lib.ListN.{getD}
 use lib.IntN.{ℤ}
 use Rattle.mesh.specs.Place.{Wind, NE, compass}
-use Rattle.mesh.specs.Winds.{winds, wordOfWind, compassAt, kidL, kidM, KidWind}
-use Rattle.mesh.specs.declared.Compass.{Compass}
-use Rattle.mesh.proofs.Winds.{each-kid}
+use Rattle.mesh.specs.Picture.{iWord, jWord, parentWord}
+use Rattle.mesh.specs.Winds.{winds, wordOfWind}
+use Rattle.winds.specs.WindTable.{compassAt, kidL, kidM, KidWind}
+use Rattle.winds.specs.declared.Compass.{Compass}
+use Rattle.winds.proofs.KidWinds.{each-kid}
 use Rattle.table.specs.Words.{wordOf, linkOf}
-use Rattle.table.specs.Worked.{kidWord, staysIn, sideOf}
-use Rattle.table.specs.Sides.{sideBy}
+use Rattle.table.specs.Worked.{kidWord, staysIn, sideOf, sideBy}
 
 pub record At (i : ℕ) : Type 0 where
   pub east : compassAt i .east ≡ compass (getD winds i NE) .east
@@ -74,6 +75,6 @@ module _ (t : List ℤ) (cap p l m : ℕ) where
       ∙ ap (across (compass (getD winds i NE) .east) (compass (getD winds i NE) .north)) (at i h .word)
 
 -- of a row
-pub side-digits : (t : List ℤ) (cap n : ℕ) (w : Wind) → sideOf t cap n w ≡ sideBy t cap (linkOf t cap n 0) (wordOf t n 10 % 2) (wordOf t n 11 % 2) w
-unfolding sideOf sideBy
+pub side-digits : (t : List ℤ) (cap n : ℕ) (w : Wind) → sideOf t cap n w ≡ sideBy t cap (linkOf t cap n parentWord) (wordOf t n iWord % 2) (wordOf t n jWord % 2) w
+unfolding sideOf
 side-digits t cap n w = refl

@@ -2,6 +2,6 @@
 pub mod FlagDigits
 pub mod Words
 pub mod Worked
-pub mod Sides
 pub mod Writes
+pub mod Carried
 pub mod Plain

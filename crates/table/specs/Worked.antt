@@ -24,13 +24,16 @@ kidWord l m = cond (eqb l 1) (2 - m) (3 + m)
 abbrev pub staysIn : ℕ → Bool
 staysIn a = leb 1 a && leb a 2
 
--- the row that is the neighbour: a kid of the parent, or of the parent's neighbour
-unfoldable pub sideOf : List ℤ → ℕ → ℕ → Wind → ℕ
-sideOf t cap n w =
-    let p = linkOf t cap n parentWord in
-    let a = wordOf t n iWord % 2 + compass w .east in
-    let b = wordOf t n jWord % 2 + compass w .north in
+-- the row that is the neighbour of the kid of the row p whose digits are l and m: a kid of p, or of p's neighbour
+unfoldable pub sideBy : List ℤ → ℕ → ℕ → ℕ → ℕ → Wind → ℕ
+sideBy t cap p l m w =
+    let a = l + compass w .east in
+    let b = m + compass w .north in
     linkOf t cap (cond (staysIn a && staysIn b) p (linkOf t cap p (wordOfWind w))) (kidWord ((a + 1) % 2) ((b + 1) % 2))
+
+-- and of a row, by its parent and the last digits of its indices
+unfoldable pub sideOf : List ℤ → ℕ → ℕ → Wind → ℕ
+sideOf t cap n w = sideBy t cap (linkOf t cap n parentWord) (wordOf t n iWord % 2) (wordOf t n jWord % 2) w
 
 -- the row of the place with these indices, so many kids down from the root by their digits, the highest first; 0 where there is none
 unfoldable pub downTo : List ℤ → ℕ → ℕ → ℕ → ℕ → ℕ

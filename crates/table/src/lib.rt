@@ -1,4 +1,5 @@
 // The lent table: every read and write of its words and values.
+pub mod carried;
 pub mod down;
 pub mod flag_bits;
 pub mod pairs;

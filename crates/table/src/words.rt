@@ -15,13 +15,13 @@ pub const ROW_WORDS: usize = 14;
 pub const PARENT: usize = 0;
 
 // The kids, in the order of the winds.
-pub const NE_KID: usize = mesh::NE + 1;
+pub const NE_KID: usize = winds::NE + 1;
 
-pub const SE_KID: usize = mesh::SE + 1;
+pub const SE_KID: usize = winds::SE + 1;
 
-pub const SW_KID: usize = mesh::SW + 1;
+pub const SW_KID: usize = winds::SW + 1;
 
-pub const NW_KID: usize = mesh::NW + 1;
+pub const NW_KID: usize = winds::NW + 1;
 
 // The neighbours, in the order of the winds.
 pub const NORTH: usize = 5;

@@ -8,8 +8,7 @@ ghost use Rattle.mesh.specs.Winds.{winds};
 ghost use Rattle.table.specs.FlagDigits.{four};
 ghost use Rattle.table.specs.Plain.{Plain};
 ghost use Rattle.table.specs.Words.{linkOf};
-ghost use Rattle.table.specs.Sides.{sideBy};
-ghost use Rattle.table.specs.Worked.{kidWord, staysIn};
+ghost use Rattle.table.specs.Worked.{kidWord, staysIn, sideBy};
 use crate::plain;
 
 // The word of the kid whose column ends in the digit l and whose row ends in the digit m.
@@ -17,7 +16,7 @@ pub fn kid_word(l: u32, m: u32) -> usize
     requires { ⌜ (l < 2) × (m < 2) ⌝ }
     ensures { λ r. ⌜ (r < 5) × (r ≡ kidWord l m) ⌝ }
 {
-    mesh::kid_wind(l, m) + 1
+    winds::kid_wind(l, m) + 1
 }
 
 // Whether a digit that was moved is still one of the same two.
@@ -40,7 +39,7 @@ pub fn side_by(t: &[i32], cap: usize, p: usize, l: u32, m: u32, w: usize) -> usi
     requires { ⌜ Plain (now t) cap × (p ≤ cap) × (l < 2) × (m < 2) × (w < 8) ⌝ }
     ensures { λ r. ⌜ (r ≤ cap) × (r ≡ sideBy (now (t .entry)) cap p l m (getD winds w NE)) ⌝ }
 {
-    let c = mesh::wind(w);
+    let c = winds::wind(w);
     let a = l + c.east;
     let b = m + c.north;
     let q = hub(t, cap, p, w + 1, stays_in(a) & stays_in(b));

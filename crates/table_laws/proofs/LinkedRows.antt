@@ -20,7 +20,7 @@ use Rattle.mesh.specs.State.{State, Entry, placeOf, entry, cells, number, numbe
 use Rattle.mesh.specs.Valid.{Valid}
 use Rattle.mesh.specs.Picture.{table}
 use Rattle.table.specs.Words.{linkOf, depthOf}
-use Rattle.table.specs.Worked.{kidWord, sideOf, downTo, sideIn}
+use Rattle.table.specs.Worked.{kidWord, sideBy, sideOf, downTo, sideIn}
 use Rattle.table.proofs.Offsets.{kid-word-range}
 use Rattle.place_laws.proofs.Kids.{parent-up, no-parent, parent-kid}
 use Rattle.place_laws.proofs.SideDigits.{kidBy, iMoved, jMoved, stays, step-digits}
@@ -135,7 +135,7 @@ module _ (s : State) (v : Valid s) where
 
   -- the neighbour is a kid of the parent, or of the parent's neighbour, but across the seam of level 0
   pub side-of : (w : Wind) → T (w of sideWinds) → (n : ℕ) (p : Place) → placeOf (entry es n) ≡ some p → Smooth g w p → sideOf (table s) (capacity s) n w ≡ numberOf es (step g w p)
-  unfolding sideOf
+  unfolding sideOf sideBy
   side-of w t n p h smooth =
       rw (word-i s n p h, word-j s n p h, parent-row (stays w p))
       (kid-link ((iMoved w p + 1) % 2) ((jMoved w p + 1) % 2) (omega arith) (omega arith) (cond (stays w p) (parent p) (then (step g w) (parent p)))

@@ -16,13 +16,15 @@ use borrow.Author.Tests.{le-leb, ne-eqb}
 use Rattle.mesh.specs.Tools.{digits}
 use Rattle.mesh.specs.Place.{Place, Grid, base, level, around}
 use Rattle.mesh.specs.Mesh.{derived, flags}
-use Rattle.mesh.specs.State.{State, Entry, nil, free, used, placeOf, cellOf, isSentenced, valueOf, status, entry, cells, number, numberOf, gridOf, capacity}
-use Rattle.mesh.specs.Picture.{rowWords, fields, rowOf, table}
+use Rattle.mesh.specs.State.{State, Entry, nil, free, used, placeOf, cellOf, isSentenced, valueOf, amount, entry, cells, number, numberOf, gridOf, capacity}
+use Rattle.mesh.specs.Picture.{rowWords, statusWord, fields, rowOf, table, amounts}
 use Rattle.table.specs.Words.{code, wordOf, linkOf, flagOf, depthOf}
+use Rattle.table.specs.Carried.{carriedOf, carriedFor}
+use Rattle.table.specs.declared.carried.Carried.{Carried}
 use Rattle.table.proofs.LinkRanges.{depth-back}
 use Rattle.number_laws.proofs.Entries.{place-used, in-list}
 use Rattle.number_laws.proofs.NumberedPlaces.{number-place}
-use Rattle.picture_laws.proofs.Rows.{table-word, nil-word, getD-repeated}
+use Rattle.picture_laws.proofs.Rows.{table-word, amounts-at, nil-word, getD-repeated}
 use Rattle.picture_laws.proofs.Decoding.{low-digit, high-digits}
 use Rattle.picture_laws.proofs.Links.{row-link}
 
@@ -74,12 +76,12 @@ module _ (s : State) where
 
   -- ---- the fields
 
-  -- the status, of every row
-  pub word-status : (n : ℕ) → wordOf (table s) n 13 ≡ status (valueOf (entry es n))
-  unfolding rowOf around fields
-  word-status n = word-of n 13 (lit< tt) ∙ go (entry es n)
+  -- what every row carries
+  pub carried-there : (n : ℕ) → carriedOf (table s) (amounts s) n ≡ carriedFor (valueOf (entry es n))
+  unfolding carriedOf rowOf around fields
+  carried-there n = rw (table-word s n statusWord (lit< tt), amounts-at s n) (go (entry es n))
     where
-      go : (e : Entry) → code (getD (rowOf g es e) 13 (pos 0)) ≡ status (valueOf e)
+      go : (e : Entry) → _≡_ {A = Carried} (record { status = getD (rowOf g es e) statusWord (pos 0); value = amount (valueOf e) }) (carriedFor (valueOf e))
       go nil = refl
       go free = refl
       go (used p x) = refl

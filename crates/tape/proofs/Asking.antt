@@ -1,65 +1,68 @@
 -- A request as a tape asks for it: by the kind byte, and with a value that stands for that of a pattern.
 -- Assumes nothing.
-use Prim.Native.Nat.{ℕ}
+use Prim.Native.Nat.{ℕ, _+_}
 use native.Mathlib.Omega.{arith}
 use mathlib.Core.Path.{_≡_, sym, ap, _∙_, subst}
 use mathlib.Core.Bool.{true, not}
-use mathlib.Core.List.{List, [], _∷_}
-use lib.IntN.{ℤ}
+use mathlib.Core.Option.{some}
+use mathlib.Core.List.{List, []}
+use lib.ListN.{drop, getD}
 use lib.Ieee.{Float, ofBits, binary64}
 use borrow.Author.Tests.{not-false}
-use Rattle.mesh.specs.State.{State}
+use Rattle.mesh.specs.State.{State, Header}
+use Rattle.mesh.specs.Picture.{Lent}
 use Rattle.mesh.specs.Valid.{Valid, finite}
 use Rattle.mesh.specs.Refusal.{refusal}
-use Rattle.mesh.specs.Request.{Request, refine, sentence, remove, kill, setValue, looseChecks, checks, withKids, no8, no16}
+use Rattle.mesh.specs.Request.{Request, setValue, checks}
+use Rattle.mesh.specs.Tape.{Kind, kinds, kind, field, numberIn, valueIn, byNumber, asks}
 use Rattle.number_laws.proofs.Checks.{passes}
 use Rattle.number_laws.proofs.Naming.{named}
 use Rattle.tape.specs.Applied.{Applied}
-use Rattle.tape.specs.Asked.{asked, StandsFor}
+use Rattle.tape.specs.Asked.{AppliedAt, StandsFor}
+use Rattle.tape.proofs.Bodies.{field-body, Misses, unknown}
 
 -- ---- a value that stands for a pattern's
 
 -- an accepted value is finite
 finite-then : (s : State) (n : ℕ) (x : Float) → Valid s → refusal (checks s (setValue n x)) ≡ 0 → finite x ≡ true
-unfolding looseChecks checks
+unfolding checks
 finite-then s n x valid ok =
-    let (_, rest) = named s valid n (no8 s n ∷ no16 x ∷ []) ok in
-    let (_, last) = passes 8 (withKids s n) (no16 x ∷ []) (λ z. omega arith) rest in
+    let (_, rest) = named s valid n _ ok in
+    let (_, last) = passes 8 _ _ (λ z. omega arith) rest in
     not-false (finite x) (passes 16 (not (finite x)) [] (λ z. omega arith) last .0)
 
 same-checks : (s : State) (n : ℕ) (x y : Float) → finite x ≡ finite y → checks s (setValue n x) ≡ checks s (setValue n y)
-unfolding looseChecks checks
+unfolding checks
 same-checks s n x y e = rw e
 
-pub standing-applied : {cap d n w given : ℕ} {x : Float} {t t′ : List ℤ} {v v′ : List Float} → StandsFor w x → Applied (setValue n x) cap d t v t′ v′ given → Applied (setValue n (ofBits binary64 w)) cap d t v t′ v′ given
-standing-applied {cap} {d} {n} {w} {given} {x} {t} {t′} {v} {v′} f a = record {
-  decided = λ s g mark p e. a .decided s g mark p e ∙ ap refusal (same-checks s n x (ofBits binary64 w) (f .alike));
-  done = λ s g mark p e h. rw (← f .is (finite-then s n x (p .valid) (sym (a .decided s g mark p e) ∙ h))) (a .done s g mark p e h);
+pub standing-applied : {cap d n w given : ℕ} {x : Float} {l l′ : Header → Lent} → StandsFor w x → Applied (setValue n x) cap d l l′ given → Applied (setValue n (ofBits binary64 w)) cap d l l′ given
+standing-applied {n = n} {w} {x = x} f a = record {
+  decided = λ s p. a .decided s p ∙ ap refusal (same-checks s n x (ofBits binary64 w) (f .alike));
+  done = λ s p h. rw (← f .is (finite-then s n x (p .valid) (sym (a .decided s p) ∙ h))) (a .done s p h);
   refused = a .refused;
 }
 
 -- ---- by the kind byte
 
-module _ (k n w : ℕ) where
-  pub asked-refine : k ≡ 1 → refine n ≡ asked k n w
-  unfolding asked
-  asked-refine e = rw e
+module _ {bytes : List ℕ} {at cap d given : ℕ} {l l′ : Header → Lent} where
+  -- by the row of the kind
+  row-applied : {x : Kind} → kind (getD bytes at 0) ≡ some x → Applied (asks x (drop (at + 1) bytes)) cap d l l′ given → AppliedAt bytes at cap d l l′ given
+  row-applied {x} e a = record {
+    by-kind = λ y f. let i : x ≡ y = cc in subst (λ (z : Kind). Applied (asks z (drop (at + 1) bytes)) cap d l l′ given) i a;
+  }
 
-  pub asked-sentence : k ≡ 2 → sentence n ≡ asked k n w
-  unfolding asked
-  asked-sentence e = rw e
+  -- a kind whose body is a number
+  pub number-applied : {b n : ℕ} (f : ℕ → Request) → kind (getD bytes at 0) ≡ some (byNumber b f) → n ≡ numberIn (drop (at + 1) bytes)
+      → Applied (f n) cap d l l′ given → AppliedAt bytes at cap d l l′ given
+  number-applied f e i a = row-applied e (rw (field-body 0 2 2 (drop (at + 1) bytes) (omega arith), ← i) a)
 
-  pub asked-remove : k ≡ 3 → remove n ≡ asked k n w
-  unfolding asked
-  asked-remove e = rw e
+  -- the kind whose body is a number and a value
+  pub value-applied : {b n : ℕ} {x : Float} → kind (getD bytes at 0) ≡ some (record { byte = b; len = 10; ask = λ body. setValue (numberIn body) (valueIn body) })
+      → n ≡ numberIn (drop (at + 1) bytes) → StandsFor (field 2 8 (drop (at + 1) bytes)) x
+      → Applied (setValue n x) cap d l l′ given → AppliedAt bytes at cap d l l′ given
+  value-applied e i f a =
+      row-applied e (rw (field-body 0 2 10 (drop (at + 1) bytes) (omega arith), field-body 2 8 10 (drop (at + 1) bytes) (omega arith), ← i) (standing-applied f a))
 
-  pub asked-kill : k ≡ 4 → kill n ≡ asked k n w
-  unfolding asked
-  asked-kill e = rw e
-
-  pub asked-set : k ≡ 5 → setValue n (ofBits binary64 w) ≡ asked k n w
-  unfolding asked
-  asked-set e = rw e
-
-pub same-applied : {q q′ : Request} {cap d given : ℕ} {t t′ : List ℤ} {v v′ : List Float} → q ≡ q′ → Applied q cap d t v t′ v′ given → Applied q′ cap d t v t′ v′ given
-same-applied {cap = cap} {d = d} {given = given} {t = t} {t′ = t′} {v = v} {v′ = v′} e a = subst (λ (q : Request). Applied q cap d t v t′ v′ given) e a
+  -- no kind
+  pub unknown-applied : Misses Unit (getD bytes at 0) kinds → AppliedAt bytes at cap d l l′ given
+  unknown-applied m = record { by-kind = λ x e. absurd (let z : _≡_ {A = ℕ} 0 1 = cc (unknown (getD bytes at 0) m) in omega arith) }

@@ -7,38 +7,38 @@ use mathlib.Core.List.{List}
 use lib.ListN.{drop}
 use lib.IntN.{ℤ}
 use lib.Ieee.{Float}
-use Rattle.mesh.specs.Place.{Grid, base}
-use Rattle.mesh.specs.State.{State}
+use Rattle.mesh.specs.State.{State, Header}
+use Rattle.mesh.specs.Picture.{Lent}
 use Rattle.mesh.specs.Refusal.{refusal}
 use Rattle.mesh.specs.Request.{Request, refine, sentence, remove, kill, setValue, checks}
 use Rattle.refusals.specs.Decide.{refineRows, sentenceRows, removeRows, killRows, setRows, refineRefusal, sentenceRefusal, removeRefusal, killRefusal, setRefusal}
 use Rattle.refusals.proofs.Arms.{accepted-within}
 use Rattle.refusals.proofs.Refusing.{refine-refusal, sentence-refusal, remove-refusal, kill-refusal, set-refusal}
-use Rattle.tape.specs.Drawn.{Drawn}
+use Rattle.tape.specs.Drawn.{lists, Drawn}
 use Rattle.tape.specs.Applied.{Applied}
 use Rattle.tape.proofs.Drawing.{from-picture}
 
 -- on every picture the refusal is the rules'
-abbrev pub Decides : Request → ℕ → ℕ → List ℤ → List Float → ℕ → Type 0
-Decides q cap d t v given = (s : State) (g : Grid) (mark : ℕ) → Drawn s g mark cap t v → base g ≡ d → given ≡ refusal (checks s q)
+abbrev pub Decides : Request → ℕ → ℕ → (Header → Lent) → ℕ → Type 0
+Decides q cap d l given = (s : State) → Drawn s cap d l → given ≡ refusal (checks s q)
 
 -- ---- the five kinds
 
 module _ (cap d n : ℕ) (t : List ℤ) (v : List Float) where
-  pub refine-decides : {given : ℕ} → given ≡ refineRefusal t cap d n → Decides (refine n) cap d t v given
-  refine-decides x s g mark p e = x ∙ from-picture (λ t cap d. refineRefusal t cap d n ≡ refusal (checks s (refine n))) p e (refine-refusal s (p .valid) n)
+  pub refine-decides : {given : ℕ} → given ≡ refineRefusal t cap d n → Decides (refine n) cap d (lists t v) given
+  refine-decides x s p = x ∙ from-picture p (λ t cap d. refineRefusal t cap d n ≡ refusal (checks s (refine n))) (refine-refusal s (p .valid) n)
 
-  pub sentence-decides : {given : ℕ} → given ≡ sentenceRefusal t cap d n → Decides (sentence n) cap d t v given
-  sentence-decides x s g mark p e = x ∙ from-picture (λ t cap d. sentenceRefusal t cap d n ≡ refusal (checks s (sentence n))) p e (sentence-refusal s (p .valid) n)
+  pub sentence-decides : {given : ℕ} → given ≡ sentenceRefusal t cap d n → Decides (sentence n) cap d (lists t v) given
+  sentence-decides x s p = x ∙ from-picture p (λ t cap d. sentenceRefusal t cap d n ≡ refusal (checks s (sentence n))) (sentence-refusal s (p .valid) n)
 
-  pub remove-decides : {given : ℕ} → given ≡ removeRefusal t cap n → Decides (remove n) cap d t v given
-  remove-decides x s g mark p e = x ∙ from-picture (λ t cap d. removeRefusal t cap n ≡ refusal (checks s (remove n))) p e (remove-refusal s (p .valid) n)
+  pub remove-decides : {given : ℕ} → given ≡ removeRefusal t cap n → Decides (remove n) cap d (lists t v) given
+  remove-decides x s p = x ∙ from-picture p (λ t cap d. removeRefusal t cap n ≡ refusal (checks s (remove n))) (remove-refusal s (p .valid) n)
 
-  pub kill-decides : {given : ℕ} → given ≡ killRefusal t cap d n → Decides (kill n) cap d t v given
-  kill-decides x s g mark p e = x ∙ from-picture (λ t cap d. killRefusal t cap d n ≡ refusal (checks s (kill n))) p e (kill-refusal s (p .valid) n)
+  pub kill-decides : {given : ℕ} → given ≡ killRefusal t cap d n → Decides (kill n) cap d (lists t v) given
+  kill-decides x s p = x ∙ from-picture p (λ t cap d. killRefusal t cap d n ≡ refusal (checks s (kill n))) (kill-refusal s (p .valid) n)
 
-  pub set-decides : (x : Float) {given : ℕ} → given ≡ setRefusal t cap n x → Decides (setValue n x) cap d t v given
-  set-decides x y s g mark p e = y ∙ from-picture (λ t cap d. setRefusal t cap n x ≡ refusal (checks s (setValue n x))) p e (set-refusal s (p .valid) n x)
+  pub set-decides : (x : Float) {given : ℕ} → given ≡ setRefusal t cap n x → Decides (setValue n x) cap d (lists t v) given
+  set-decides x y s p = y ∙ from-picture p (λ t cap d. setRefusal t cap n x ≡ refusal (checks s (setValue n x))) (set-refusal s (p .valid) n x)
 
 module _ (t : List ℤ) (cap d n : ℕ) where
   -- a request that is not refused names one of the rows
@@ -65,5 +65,5 @@ module _ (t : List ℤ) (cap n : ℕ) where
 
 -- ---- a refused request
 
-pub refused-applied : (q : Request) (cap d : ℕ) (t : List ℤ) (v : List Float) (given : ℕ) → Decides q cap d t v given → given ≢ 0 → Applied q cap d t v t v given
-refused-applied q cap d t v given x z = record { decided = x; done = λ s g mark p e h. absurd (z h); refused = λ _. (refl, refl) }
+pub refused-applied : (q : Request) (cap d : ℕ) (l : Header → Lent) (given : ℕ) → Decides q cap d l given → given ≢ 0 → Applied q cap d l l given
+refused-applied q cap d l given x z = record { decided = x; done = λ s p h. absurd (z h); refused = λ _. refl }

@@ -6,7 +6,7 @@ pub mod Drawing
 pub mod Tamed
 pub mod Deciding
 pub mod Applying
-pub mod Stocking
+pub mod Following
 pub mod Asking
 pub mod Turning
 pub mod Running

@@ -1,44 +1,58 @@
 -- A tape that is run on a sound table gives what the rules' call of a tape gives.
 -- Assumes nothing.
-use Prim.Native.Nat.{ℕ, _+_}
-use native.Mathlib.Omega.{arith}
-use mathlib.Core.Path.{_≡_, sym, ap, _∙_}
+use Prim.Native.Nat.{ℕ}
+use mathlib.Core.Path.{_≡_, refl, sym, ap, _∙_}
 use mathlib.Core.List.{List}
-use lib.ListN.{length}
 use lib.IntN.{ℤ}
 use lib.Ieee.{Float}
 use Rattle.mesh.specs.Place.{base}
-use Rattle.mesh.specs.Picture.{Sound}
+use Rattle.mesh.specs.State.{State, Header, gridOf}
+use Rattle.mesh.specs.Picture.{Lent, picture, Sound}
 use Rattle.mesh.specs.Tape.{run}
-use Rattle.mesh.specs.Call.{Lent, picture, Taped, tapeCall}
-use Rattle.picture_laws.proofs.Rows.{amounts-length}
+use Rattle.mesh.specs.Call.{Sizes, Taped, tapeCall}
+use Rattle.picture_laws.proofs.Parts.{picture-header, picture-words, picture-values, parts-picture}
+use Rattle.picture_laws.proofs.Accepted.{sound-capacity}
+use Rattle.demand_laws.proofs.Tapes.{run-led}
 use Rattle.demand_laws.proofs.PicturedCalls.{tape-runs}
-use Rattle.tape.specs.Drawn.{Drawn, Pictured}
+use Rattle.tape.specs.Drawn.{lists, Drawn, Pictured}
 use Rattle.tape.specs.Ran.{Ran}
+use Rattle.tape.proofs.Drawing.{drawn-words, drawn-values}
 
-module _ (cap : ℕ) (l : Lent) (o : Sound (l .header) (l .words) (l .values)) (long : length (l .values) ≡ cap + 1) where
-  sound-drawn : Drawn (o .state) (l .header .grid) (l .header .mark) cap (l .words) (l .values)
-  sound-drawn =
-      let x : length (l .values) ≡ length (o .state .entries) = ap length (o .is-values) ∙ amounts-length (o .state) in
-      record { valid = o .valid; is-header = sym (o .is-header); is-capacity = omega arith; is-table = o .is-table; is-values = o .is-values }
+module _ (cap : ℕ) (l : Lent) (o : Sound l) (z : Sizes cap l) {d : ℕ} (deep : d ≡ base (l .header .grid)) where
+  abbrev s : State
+  s = o .state
 
-  module _ {d : ℕ} (deep : d ≡ base (l .header .grid)) where
-    -- a sound table is a picture
-    pub pictured : Pictured (l .header .mark) cap d (l .words) (l .values)
-    pictured = record { state = o .state; grid = l .header .grid; drawn = sound-drawn; depth = sym deep }
+  same-header : l .header ≡ s .header
+  same-header = picture-header s (o .is-picture)
 
-    module _ {bytes : List ℕ} {t′ : List ℤ} {v′ : List Float} {done refusal offset mark′ : ℕ} (r : Ran bytes cap d (l .header .mark) (l .words) (l .values) t′ v′ done refusal offset mark′) where
-      abbrev left : Lent
-      left = record { header = record { grid = l .header .grid; mark = mark′ }; words = t′; values = v′ }
+  sound-drawn : Drawn (o .state) cap d (lists (l .words) (l .values))
+  sound-drawn = record {
+    valid = o .valid;
+    is-capacity = sound-capacity cap l z o;
+    is-depth = sym (deep ∙ ap (λ (h : Header). base (h .grid)) same-header);
+    is-picture = parts-picture s refl (picture-words s (o .is-picture)) (picture-values s (o .is-picture));
+  }
 
-      lent-before : l ≡ picture (o .state)
-      lent-before = λ i. record { header = o .is-header i; words = o .is-table i; values = o .is-values i }
+  -- a sound table is a picture
+  pub pictured : Pictured cap d (lists (l .words) (l .values))
+  pictured = record { state = o .state; drawn = sound-drawn }
 
-      pub ran-call : record { done = done; refusal = refusal; offset = offset; lent = left } ≡ tapeCall cap l bytes
-      ran-call =
-          let (a, b, c, e) = r .answer (o .state) (l .header .grid) sound-drawn (sym deep) in
-          let after : left ≡ picture (run (o .state) bytes .state) = λ i. record { header = sym (e .is-header) i; words = e .is-table i; values = e .is-values i } in
-          let ends : _≡_ {A = Taped} (record { done = done; refusal = refusal; offset = offset; lent = left })
-          (let x = run (o .state) bytes in record { done = x .done; refusal = x .refusal; offset = x .offset; lent = picture (x .state) })
-          = λ i. record { done = a i; refusal = b i; offset = c i; lent = after i } in
-          ends ∙ sym (ap (λ (x : Lent). tapeCall cap x bytes) lent-before ∙ tape-runs (o .state) (o .valid) cap (sound-drawn .is-capacity) bytes)
+  module _ {bytes : List ℕ} {t′ : List ℤ} {v′ : List Float} {done refusal offset mark′ : ℕ}
+      (r : Ran bytes cap d (l .header .mark) (lists (l .words) (l .values)) (lists t′ v′) done refusal offset mark′) where
+    abbrev left : Lent
+    left = record { header = record { grid = l .header .grid; mark = mark′ }; words = t′; values = v′ }
+
+    pub ran-call : record { done = done; refusal = refusal; offset = offset; lent = left } ≡ tapeCall cap l bytes
+    unfolding run
+    ran-call =
+        let u = run s bytes .state in
+        let (a, b, c, e) = r .answer s sound-drawn in
+        let m = sym (r .marks s sound-drawn (ap (λ (h : Header). h .mark) (sym same-header))) in
+        let (led, _) = run-led bytes 0 s 0 0 (o .valid) in
+        let grid : l .header .grid ≡ gridOf u = ap (λ (h : Header). h .grid) same-header ∙ sym (led .same-grid) in
+        let header : _≡_ {A = Header} (record { grid = l .header .grid; mark = mark′ }) (u .header) = λ i. record { grid = grid i; mark = m i } in
+        let after : left ≡ picture u = parts-picture u header (drawn-words e) (drawn-values e) in
+        let ends : _≡_ {A = Taped} (record { done = done; refusal = refusal; offset = offset; lent = left })
+        (let x = run s bytes in record { done = x .done; refusal = x .refusal; offset = x .offset; lent = picture (x .state) })
+        = λ i. record { done = a i; refusal = b i; offset = c i; lent = after i } in
+        ends ∙ sym (ap (λ (x : Lent). tapeCall cap x bytes) (o .is-picture) ∙ tape-runs s (o .valid) cap (sound-drawn .is-capacity) bytes)

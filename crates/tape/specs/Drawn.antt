@@ -6,21 +6,24 @@ use mathlib.Core.List.{List}
 use lib.IntN.{ℤ}
 use lib.Ieee.{Float}
 use lib.ListN.{length}
-use Rattle.mesh.specs.Place.{Grid, base}
-use Rattle.mesh.specs.State.{State, capacity}
+use Rattle.mesh.specs.Place.{base}
+use Rattle.mesh.specs.State.{State, Header, gridOf, capacity}
 use Rattle.mesh.specs.Valid.{Valid}
-use Rattle.mesh.specs.Picture.{rowWords, table, amounts, flagsWord}
+use Rattle.mesh.specs.Picture.{rowWords, flagsWord, Lent, picture}
 use Rattle.table.specs.Words.{wordOf}
 use Rattle.patch.specs.Small.{AllSmall}
 use Rattle.table.specs.Plain.{Plain}
 
--- the header, the words and the values are those of the state
-pub record Drawn (s : State) (g : Grid) (mark cap : ℕ) (t : List ℤ) (v : List Float) : Type 0 where
+-- lists, whatever header they are lent with
+abbrev pub lists : List ℤ → List Float → Header → Lent
+lists t v h = record { header = h; words = t; values = v }
+
+-- with the header of the state they are its picture; its level 0 is at depth d
+pub record Drawn (s : State) (cap d : ℕ) (l : Header → Lent) : Type 0 where
   pub valid : Valid s
-  pub is-header : s .header ≡ record { grid = g; mark = mark }
   pub is-capacity : capacity s ≡ cap
-  pub is-table : t ≡ table s
-  pub is-values : v ≡ amounts s
+  pub is-depth : base (gridOf s) ≡ d
+  pub is-picture : l (s .header) ≡ picture s
 
 -- ---- what the code asks for
 
@@ -38,9 +41,13 @@ pub record Tame (t : List ℤ) (cap d : ℕ) : Type 0 where
   pub flags : (n : ℕ) → wordOf t n flagsWord < 16384
   pub plain : Plain t cap
 
--- some state is pictured, whose level 0 is at depth d
-pub record Pictured (mark cap d : ℕ) (t : List ℤ) (v : List Float) : Type 0 where
+-- some state is pictured
+pub record Pictured (cap d : ℕ) (l : Header → Lent) : Type 0 where
   pub state : State
-  pub grid : Grid
-  pub drawn : Drawn state grid mark cap t v
-  pub depth : base grid ≡ d
+  pub drawn : Drawn state cap d l
+
+-- and then the lists are such as the code asks for
+pub record Standing (cap d : ℕ) (t : List ℤ) (v : List Float) : Type 0 where
+  pub ranged : Ranged t v cap d
+  pub tame : Tame t cap d
+  pub pictured : Pictured cap d (lists t v)

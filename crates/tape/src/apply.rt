@@ -1,17 +1,14 @@
-// One request on a table: it is decided first, and a refused one writes nothing. The answer is the refusal, 0 for none.
-ghost use Prim.Native.Nat.{_≤_};
-ghost use mathlib.Core.List.{[]};
+// One request on a table: it is decided first, and a refused one writes nothing. The map of free numbers goes along.
+ghost use mathlib.Core.Path.{_≡_};
 ghost use Rattle.mesh.specs.Request.{refine, sentence, remove, kill, setValue};
-ghost use Rattle.free.specs.Stock.{Stocked};
-ghost use Rattle.tape.specs.Drawn.{Ranged, Tame};
+ghost use Rattle.table.specs.Words.{freeAt};
+ghost use Rattle.free.specs.FreeMap.{Mapped};
+ghost use Rattle.tape.specs.Drawn.{lists, Standing};
 ghost use Rattle.tape.specs.Applied.{Applied};
-ghost use Rattle.tape.specs.Asked.{asked};
-ghost use Rattle.edit_laws.specs.Tables.{FreesNone};
-use crate::bytes::value_of;
-use free::keep::keep_nine;
-use free::keep::lower;
-use free::restock::restock;
-use near::rows::near_rows;
+ghost use Rattle.tape.specs.Asked.{Whole, AppliedAt};
+use crate::bytes::number_at;
+use crate::bytes::value_at;
+use free::map::Spare;
 use refusals::one_row::sentence_at;
 use refusals::one_row::set_at;
 use refusals::requests::kill_refusal;
@@ -20,29 +17,35 @@ use refusals::requests::remove_refusal;
 use refusals::requests::sentence_refusal;
 use refusals::requests::set_refusal;
 
+// The refusal, 0 for none, and what is kept beside the map.
+pub struct Decided {
+    pub refusal: u32,
+    pub spare: Spare,
+}
+
 pub fn refine(
     t: &mut [i32],
     v: &mut [f64],
-    stock: &mut [u16; 16],
     cap: usize,
+    map: &mut [u64; 64],
+    s: Spare,
     d: u32,
     n: usize,
-) -> u32
-    requires { ⌜ Ranged (now t) (now v) cap d × Tame (now t) cap d × Stocked cap (now t) [] (now stock) ⌝ }
-    ensures { λ r. ⌜ Applied (refine n) cap d (now (t .entry)) (now (v .entry)) (now (t .exit)) (now (v .exit)) r × Stocked cap (now (t .exit)) [] (now (stock .exit)) ⌝ }
+) -> Decided
+    requires { ⌜ Standing cap d (now t) (now v) × Mapped (freeAt (now t)) (now map) (s .top) (s .count) ⌝ }
+    ensures { λ r. ⌜ Applied (refine n) cap d (lists (now (t .entry)) (now (v .entry))) (lists (now (t .exit)) (now (v .exit))) (r .refusal) × Mapped (freeAt (now (t .exit))) (now (map .exit)) (r .spare .top) (r .spare .count) ⌝ }
 {
-    let spare = restock(t, cap, stock);
-    let refusal = refine_refusal(t, cap, d, n, spare);
+    let refusal = refine_refusal(t, cap, d, n, s.count);
     if refusal != 0 {
-        return refusal;
+        return Decided { refusal, spare: s };
     }
-    refine::refine(t, v, cap, d, n, stock);
-    0
+    let spare = refine::refine(t, v, cap, map, s, d, n);
+    Decided { refusal: 0, spare }
 }
 
 pub fn sentence(t: &mut [i32], v: &[f64], cap: usize, d: u32, n: usize) -> u32
-    requires { ⌜ Ranged (now t) (now v) cap d × Tame (now t) cap d ⌝ }
-    ensures { λ r. ⌜ Applied (sentence n) cap d (now (t .entry)) (now (v .entry)) (now (t .exit)) (now (v .entry)) r × FreesNone (now (t .entry)) (now (t .exit)) ⌝ }
+    requires { ⌜ Standing cap d (now t) (now v) ⌝ }
+    ensures { λ r. ⌜ Applied (sentence n) cap d (lists (now (t .entry)) (now (v .entry))) (lists (now (t .exit)) (now (v .entry))) r × (freeAt (now (t .exit)) ≡ freeAt (now (t .entry))) ⌝ }
 {
     let refusal = sentence_refusal(t, cap, d, n);
     if refusal != 0 {
@@ -55,47 +58,46 @@ pub fn sentence(t: &mut [i32], v: &[f64], cap: usize, d: u32, n: usize) -> u32
 pub fn remove(
     t: &mut [i32],
     v: &mut [f64],
-    stock: &mut [u16; 16],
     cap: usize,
+    map: &mut [u64; 64],
+    s: Spare,
     d: u32,
     n: usize,
-) -> u32
-    requires { ⌜ Ranged (now t) (now v) cap d × Tame (now t) cap d × Stocked cap (now t) [] (now stock) ⌝ }
-    ensures { λ r. ⌜ Applied (remove n) cap d (now (t .entry)) (now (v .entry)) (now (t .exit)) (now (v .exit)) r × Stocked cap (now (t .exit)) [] (now (stock .exit)) ⌝ }
+) -> Decided
+    requires { ⌜ Standing cap d (now t) (now v) × Mapped (freeAt (now t)) (now map) (s .top) (s .count) ⌝ }
+    ensures { λ r. ⌜ Applied (remove n) cap d (lists (now (t .entry)) (now (v .entry))) (lists (now (t .exit)) (now (v .exit))) (r .refusal) × Mapped (freeAt (now (t .exit))) (now (map .exit)) (r .spare .top) (r .spare .count) ⌝ }
 {
     let refusal = remove_refusal(t, cap, n);
     if refusal != 0 {
-        return refusal;
+        return Decided { refusal, spare: s };
     }
-    let near = near_rows(t, cap, n);
-    remove::remove(t, v, cap, d, n);
-    keep_nine(t, cap, stock, &near);
-    0
+    let spare = remove::remove(t, v, cap, map, s, d, n);
+    Decided { refusal: 0, spare }
 }
 
 pub fn kill(
     t: &mut [i32],
     v: &mut [f64],
-    stock: &mut [u16; 16],
     cap: usize,
+    map: &mut [u64; 64],
+    s: Spare,
     d: u32,
     n: usize,
-) -> u32
-    requires { ⌜ Ranged (now t) (now v) cap d × Tame (now t) cap d × Stocked cap (now t) [] (now stock) ⌝ }
-    ensures { λ r. ⌜ Applied (kill n) cap d (now (t .entry)) (now (v .entry)) (now (t .exit)) (now (v .exit)) r × Stocked cap (now (t .exit)) [] (now (stock .exit)) ⌝ }
+) -> Decided
+    requires { ⌜ Standing cap d (now t) (now v) × Mapped (freeAt (now t)) (now map) (s .top) (s .count) ⌝ }
+    ensures { λ r. ⌜ Applied (kill n) cap d (lists (now (t .entry)) (now (v .entry))) (lists (now (t .exit)) (now (v .exit))) (r .refusal) × Mapped (freeAt (now (t .exit))) (now (map .exit)) (r .spare .top) (r .spare .count) ⌝ }
 {
     let refusal = kill_refusal(t, cap, d, n);
     if refusal != 0 {
-        return refusal;
+        return Decided { refusal, spare: s };
     }
-    let least = kill::kill(t, v, cap, d, n, cap + 1);
-    lower(stock, least as u16);
-    0
+    let spare = kill::kill(t, v, cap, map, s, d, n);
+    Decided { refusal: 0, spare }
 }
 
 pub fn set_value(t: &mut [i32], v: &mut [f64], cap: usize, d: u32, n: usize, x: f64) -> u32
-    requires { ⌜ Ranged (now t) (now v) cap d ⌝ }
-    ensures { λ r. ⌜ Applied (setValue n x) cap d (now (t .entry)) (now (v .entry)) (now (t .exit)) (now (v .exit)) r × FreesNone (now (t .entry)) (now (t .exit)) ⌝ }
+    requires { ⌜ Standing cap d (now t) (now v) ⌝ }
+    ensures { λ r. ⌜ Applied (setValue n x) cap d (lists (now (t .entry)) (now (v .entry))) (lists (now (t .exit)) (now (v .exit))) r × (freeAt (now (t .exit)) ≡ freeAt (now (t .entry))) ⌝ }
 {
     let refusal = set_refusal(t, cap, n, x);
     if refusal != 0 {
@@ -105,32 +107,36 @@ pub fn set_value(t: &mut [i32], v: &mut [f64], cap: usize, d: u32, n: usize, x: 
     0
 }
 
-// The request of the kind k, 1 to 5, with the number n, and the pattern w of its value if it has one.
+// The request whose kind byte stands at `at`: each kind reads its own body.
 pub fn request(
     t: &mut [i32],
     v: &mut [f64],
-    stock: &mut [u16; 16],
     cap: usize,
+    map: &mut [u64; 64],
+    s: Spare,
     d: u32,
-    k: u8,
-    n: usize,
-    w: u64,
-) -> u32
-    requires { ⌜ Ranged (now t) (now v) cap d × Tame (now t) cap d × Stocked cap (now t) [] (now stock) × (1 ≤ k) × (k ≤ 5) ⌝ }
-    ensures { λ r. ⌜ Applied (asked k n w) cap d (now (t .entry)) (now (v .entry)) (now (t .exit)) (now (v .exit)) r × Stocked cap (now (t .exit)) [] (now (stock .exit)) ⌝ }
+    tape: &[u8],
+    at: usize,
+) -> Decided
+    requires { ⌜ Standing cap d (now t) (now v) × Mapped (freeAt (now t)) (now map) (s .top) (s .count) × Whole (now tape) at ⌝ }
+    ensures { λ r. ⌜ AppliedAt (now (tape .entry)) at cap d (lists (now (t .entry)) (now (v .entry))) (lists (now (t .exit)) (now (v .exit))) (r .refusal) × Mapped (freeAt (now (t .exit))) (now (map .exit)) (r .spare .top) (r .spare .count) ⌝ }
 {
-    if k == 1 {
-        return refine(t, v, stock, cap, d, n);
+    let k = tape[at];
+    match k {
+        1 => refine(t, v, cap, map, s, d, number_at(tape, at)),
+        2 => {
+            let refusal = sentence(t, v, cap, d, number_at(tape, at));
+            Decided { refusal, spare: s }
+        }
+        3 => remove(t, v, cap, map, s, d, number_at(tape, at)),
+        4 => kill(t, v, cap, map, s, d, number_at(tape, at)),
+        5 => {
+            let refusal = set_value(t, v, cap, d, number_at(tape, at), value_at(tape, at));
+            Decided { refusal, spare: s }
+        }
+        _ => Decided {
+            refusal: 5,
+            spare: s,
+        },
     }
-    if k == 2 {
-        return sentence(t, v, cap, d, n);
-    }
-    if k == 3 {
-        return remove(t, v, stock, cap, d, n);
-    }
-    if k == 4 {
-        return kill(t, v, stock, cap, d, n);
-    }
-    let x = value_of(w);
-    set_value(t, v, cap, d, n, x)
 }

@@ -1,54 +1,59 @@
 // The requests of a tape, one after the other, up to the first that is refused.
 ghost use Prim.Native.Nat.{_<_};
-ghost use mathlib.Core.List.{[]};
 ghost use lib.ListN.{length};
-ghost use Rattle.free.specs.Free.{NoneBelow};
-ghost use Rattle.free.specs.Stock.{Stocked};
-ghost use Rattle.tape.specs.Drawn.{Ranged, Tame, Pictured};
+ghost use Rattle.table.specs.Words.{freeAt};
+ghost use Rattle.free.specs.FreeMap.{Mapped};
+ghost use Rattle.tape.specs.Drawn.{lists, Standing, Pictured};
 ghost use Rattle.tape.specs.Ran.{Turned, Ran};
 use crate::apply::request;
-use crate::bytes::body_length;
-use crate::bytes::high_first;
+use crate::bytes::Body;
+use crate::bytes::body_of;
+use free::load::load;
+use free::map::Spare;
 
-// The refusal, 0 for none, and the offset of the next kind byte.
+// The refusal, 0 for none, the offset of the next kind byte, and what is kept beside the map.
 pub struct Turn {
     pub refusal: u32,
     pub next: usize,
+    pub spare: Spare,
 }
 
 // The request whose kind byte stands at `at`.
 fn turn_at(
     t: &mut [i32],
     v: &mut [f64],
-    stock: &mut [u16; 16],
     cap: usize,
+    map: &mut [u64; 64],
+    s: Spare,
     d: u32,
     tape: &[u8],
     at: usize,
 ) -> Turn
-    requires { ⌜ Ranged (now t) (now v) cap d × Tame (now t) cap d × Stocked cap (now t) [] (now stock) × (at < length (now tape)) ⌝ }
-    ensures { λ r. ⌜ Turned (now (tape .entry)) at cap d (now (t .entry)) (now (v .entry)) (now (t .exit)) (now (v .exit)) (r .refusal) (r .next) × Stocked cap (now (t .exit)) [] (now (stock .exit)) ⌝ }
+    requires { ⌜ Standing cap d (now t) (now v) × Mapped (freeAt (now t)) (now map) (s .top) (s .count) × (at < length (now tape)) ⌝ }
+    ensures { λ r. ⌜ Turned (now (tape .entry)) at cap d (lists (now (t .entry)) (now (v .entry))) (lists (now (t .exit)) (now (v .exit))) (r .refusal) (r .next) × Mapped (freeAt (now (t .exit))) (now (map .exit)) (r .spare .top) (r .spare .count) ⌝ }
 {
     let k = tape[at];
-    let len = body_length(k);
-    if len == 0 {
+    let Body::Bytes(len) = body_of(k) else {
         return Turn {
             refusal: 5,
             next: at,
+            spare: s,
         };
-    }
+    };
     if tape.len() - at <= len {
         return Turn {
             refusal: 4,
             next: at,
+            spare: s,
         };
     }
-    let n = high_first(tape, at + 1, 2) as usize;
-    let w = high_first(tape, at + 3, len - 2);
-    let refusal = request(t, v, stock, cap, d, k, n, w);
+    let next = at + 1 + len;
+    let done = request(t, v, cap, map, s, d, tape, at);
+    let spare = done.spare;
     Turn {
-        refusal,
-        next: at + 1 + len,
+        refusal: done.refusal,
+        next,
+        spare,
     }
 }
 
@@ -60,36 +65,30 @@ pub struct Run {
     pub mark: u16,
 }
 
-// From a number on below which none is free.
-pub fn run_tape(
-    t: &mut [i32],
-    v: &mut [f64],
-    cap: usize,
-    d: u32,
-    first: usize,
-    mark: u16,
-    tape: &[u8],
-) -> Run
-    requires { ⌜ Pictured mark cap d (now t) (now v) × NoneBelow cap (now t) first ⌝ }
-    ensures { λ r. ⌜ Ran (now (tape .entry)) cap d mark (now (t .entry)) (now (v .entry)) (now (t .exit)) (now (v .exit)) (r .done) (r .refusal) (r .offset) (r .mark) ⌝ }
+// The map of free numbers is filled once, and then kept along the tape.
+pub fn run_tape(t: &mut [i32], v: &mut [f64], cap: usize, d: u32, mark: u16, tape: &[u8]) -> Run
+    requires { ⌜ Pictured cap d (lists (now t) (now v)) ⌝ }
+    ensures { λ r. ⌜ Ran (now (tape .entry)) cap d mark (lists (now (t .entry)) (now (v .entry))) (lists (now (t .exit)) (now (v .exit))) (r .done) (r .refusal) (r .offset) (r .mark) ⌝ }
 {
     let mut at = 0;
     let mut done = 0;
     let mut m = mark;
-    let low = first as u16;
-    let mut stock = [low; 16];
+    let mut map = [0u64; 64];
+    let mut s = load(t, cap, &mut map);
     while at < tape.len() {
-        let s = turn_at(t, v, &mut stock, cap, d, tape, at);
-        if s.refusal != 0 {
+        let turn = turn_at(t, v, cap, &mut map, s, d, tape, at);
+        if turn.refusal != 0 {
             return Run {
                 done,
-                refusal: s.refusal,
+                refusal: turn.refusal,
                 offset: at,
                 mark: m,
             };
         }
-        at = s.next;
         done += 1;
+        at = turn.next;
+        let spare = turn.spare;
+        s = spare;
         m = std::num::wrapping_add_u16(m, 1);
     }
     Run {

@@ -12,8 +12,7 @@ use Rattle.mesh.specs.Tools.{every}
 use Rattle.mesh.specs.Place.{N, E, S, W}
 use Rattle.mesh.specs.Picture.{parentWord, neWord, seWord, swWord, nwWord, northWord, eastWord, southWord, westWord, iWord, jWord, linkWords}
 use Rattle.table.specs.Words.{wordOf, linkOf, freeAt, depthOf}
-use Rattle.table.specs.Worked.{kidWord, kidless}
-use Rattle.table.specs.Sides.{sideBy}
+use Rattle.table.specs.Worked.{kidWord, kidless, sideBy}
 use Rattle.checker_laws.specs.Rowwise.{rootOk, childOk, placeOk, kidOk, kidsOk}
 use Rattle.tree.specs.SideTests.{sidesBy}
 use Rattle.readable.proofs.KidlessRows.{bare-links}

@@ -1,25 +1,25 @@
 -- The neighbours that the checker asks of a row: by its parent, and across the seam of a ring from the root down.
 -- Assumes nothing.
-use Prim.Native.Nat.{ℕ, zero, suc, _+_, _-_, _%_, _≤_}
+use Prim.Native.Nat.{ℕ, suc, _+_, _-_, _%_, _≤_}
 use native.Mathlib.Omega.{arith}
 use native.Mathlib.Decide.{ℕ-discrete}
 use mathlib.Core.Path.{_≡_, refl, sym, ap, _∙_}
 use mathlib.Core.Bool.{Bool, true, false, not, _&&_, _||_, cond, and-true, and-false, and-assoc}
-use mathlib.Core.Option.{Option, none, Option·map}
+use mathlib.Core.Option.{Option}
 use mathlib.Core.List.{List}
 use lib.Dec.{eqb, ltb}
 use lib.IntN.{ℤ}
 use borrow.Author.Tests.{eq-eqb, ne-eqb, eqb-true, lt-ltb}
 use Rattle.mesh.specs.Tools.{orElse}
-use Rattle.mesh.specs.Place.{Grid, isRing, at, base, lap, jAfter, jBefore, toNorth, toSouth, step, Wind, NE, SE, SW, NW, N, E, S, W}
+use Rattle.mesh.specs.Place.{Place, Grid, isRing, at, base, lap, step, Wind, NE, SE, SW, NW, N, E, S, W}
 use Rattle.mesh.specs.Seam.{seam, crosses}
 use Rattle.mesh.specs.Picture.{parentWord, northWord, eastWord, southWord, westWord, iWord, jWord}
 use Rattle.table.specs.Words.{wordOf, linkOf, depthOf}
-use Rattle.table.specs.Worked.{sideOf, downTo, sideIn}
-use Rattle.table.specs.Sides.{sideBy}
+use Rattle.table.specs.Worked.{sideOf, downTo, sideIn, sideBy}
 use Rattle.table.proofs.Offsets.{side-digits}
 use Rattle.place_laws.proofs.Bools.{neither, both-true}
-use Rattle.place_laws.proofs.Laps.{lap-ring, after-anew, before-anew, before-end, crosses-open}
+use Rattle.place_laws.proofs.Steps.{north-anew, south-anew, south-end, step-north}
+use Rattle.place_laws.proofs.Laps.{lap-base, crosses-open}
 use Rattle.checker_laws.specs.Rowwise.{sidesOk}
 use Rattle.tree.specs.SideTests.{sidesBy, sidesOf, onSeam, seamNorth, seamSouth, sidesOver}
 
@@ -71,7 +71,7 @@ module _ (t : List ℤ) (cap n : ℕ) where
       d = base g
 
       rows-of : lap g (base g) ≡ g .rows
-      rows-of = let z : base g - base g ≡ 0 = omega arith in lap-ring g (base g) ring (omega arith) ∙ rw z (omega arith)
+      rows-of = lap-base g ring
 
       -- ---- off the seam
 
@@ -108,30 +108,27 @@ module _ (t : List ℤ) (cap n : ℕ) where
 
       -- ---- on the seam
 
+      -- the row at a place, from the root down
+      abbrev found : Option Place → ℕ
+      found o = orElse 0 (λ q. downTo t cap (q .depth) (q .i) (q .j)) o
+
       module _ (level : depthOf t (base g) n ≡ base g) where
         north : sideIn g t cap n N ≡ seamNorth t cap (g .rows) d (linkOf t cap n parentWord) i j
-        unfolding sideIn crosses step toNorth
+        unfolding sideIn crosses
         north = rw (level, rows-of, eq-eqb d d refl, ← side-digits t cap n N) (go (ℕ-discrete (suc j) (g .rows)))
           where
-            go : Dec (suc j ≡ g .rows) → cond (eqb (suc j) (g .rows)) (downTo t cap d i (jAfter (g .rows) j)) (sideOf t cap n N) ≡ cond (eqb (j + 1) (g .rows)) (downTo t cap d i 0) (sideOf t cap n N)
-            go (yes e) = rw (eq-eqb (suc j) (g .rows) e, eq-eqb (j + 1) (g .rows) (omega arith), after-anew (g .rows) j e)
+            go : Dec (suc j ≡ g .rows) → cond (eqb (suc j) (g .rows)) (found (step g N (at d i j))) (sideOf t cap n N) ≡ cond (eqb (j + 1) (g .rows)) (downTo t cap d i 0) (sideOf t cap n N)
+            go (yes e) = rw (eq-eqb (suc j) (g .rows) e, eq-eqb (j + 1) (g .rows) (omega arith), step-north g (at d i j), north-anew g d i j (e ∙ sym rows-of))
             go (no e) = rw (ne-eqb (suc j) (g .rows) e, ne-eqb (j + 1) (g .rows) (λ k. e (omega arith)))
 
         south : 1 ≤ g .rows → sideIn g t cap n S ≡ seamSouth t cap (g .rows) d (linkOf t cap n parentWord) i j
-        unfolding sideIn crosses step toSouth
+        unfolding sideIn crosses
         south tall = rw (level, rows-of, eq-eqb d d refl, lt-ltb 0 (g .rows) (omega arith), ← side-digits t cap n S) (go (ℕ-discrete j 0) (ℕ-discrete j (g .rows)))
           where
-            found : Option ℕ → ℕ
-            found o = orElse 0 (λ q. downTo t cap (q .depth) (q .i) (q .j)) (Option·map (λ y. at d i y) o)
-
-            past : (x : ℕ) → j ≡ x → j ≡ g .rows → jBefore (g .rows) j ≡ none
-            past zero e k = absurd (omega arith)
-            past (suc x) e k = rw e (before-end (g .rows) x (sym e ∙ k))
-
-            go : Dec (j ≡ 0) → Dec (j ≡ g .rows) → cond (eqb j 0 || eqb j (g .rows)) (found (jBefore (g .rows) j)) (sideOf t cap n S)
+            go : Dec (j ≡ 0) → Dec (j ≡ g .rows) → cond (eqb j 0 || eqb j (g .rows)) (found (step g S (at d i j))) (sideOf t cap n S)
                 ≡ cond (eqb j 0) (downTo t cap d i (g .rows - 1)) (cond (eqb j (g .rows)) 0 (sideOf t cap n S))
-            go (yes e) k = rw (eq-eqb j 0 e, e, before-anew (g .rows) (g .rows - 1) (omega arith))
-            go (no e) (yes k) = rw (ne-eqb j 0 e, eq-eqb j (g .rows) k, past j refl k)
+            go (yes e) k = rw (eq-eqb j 0 e, e, south-anew g d i (g .rows - 1) (omega (arith, rows-of)))
+            go (no e) (yes k) = rw (ne-eqb j 0 e, eq-eqb j (g .rows) k, south-end g d i j (k ∙ sym rows-of))
             go (no e) (no k) = rw (ne-eqb j 0 e, ne-eqb j (g .rows) k)
 
         beside : (w : Wind) → seam w (lap g (depthOf t (base g) n)) j ≡ false → sideIn g t cap n w ≡ sideBy t cap (linkOf t cap n parentWord) (i % 2) (j % 2) w

@@ -2,7 +2,7 @@
 ghost use mathlib.Core.Path.{_≡_};
 ghost use Prim.Native.Nat.{_+_, _≤_, _<_};
 ghost use lib.Dec.{eqb};
-ghost use Rattle.mesh.specs.Winds.{kidL, kidM};
+ghost use Rattle.winds.specs.WindTable.{kidL, kidM};
 ghost use Rattle.table.specs.Words.{depthOf};
 ghost use Rattle.checker_laws.specs.Rowwise.{rootOk, childOk, placeOk, kidOk, kidsOk};
 ghost use Rattle.readable.specs.Readable.{Readable, Levelled};
@@ -94,7 +94,7 @@ pub fn kid_ok(t: &[i32], cap: usize, n: usize, w: usize) -> bool
     if k == 0 {
         return true;
     }
-    let e = mesh::kid_digits(w);
+    let e = winds::kid_digits(w);
     !is_free(t, k)
         & says(t, k, PARENT, n as u32)
         & (index(t, cap, k, INDEX_I) % 2 == e.l)
@@ -108,14 +108,14 @@ pub fn kids_ok(t: &[i32], cap: usize, n: usize) -> bool
     if kidless(t, cap, n) {
         return true;
     }
-    if !kid_ok(t, cap, n, mesh::NE) {
+    if !kid_ok(t, cap, n, winds::NE) {
         return false;
     }
-    if !kid_ok(t, cap, n, mesh::SE) {
+    if !kid_ok(t, cap, n, winds::SE) {
         return false;
     }
-    if !kid_ok(t, cap, n, mesh::SW) {
+    if !kid_ok(t, cap, n, winds::SW) {
         return false;
     }
-    kid_ok(t, cap, n, mesh::NW)
+    kid_ok(t, cap, n, winds::NW)
 }

@@ -3,17 +3,13 @@ ghost use mathlib.Core.Path.{_≡_};
 ghost use mathlib.Core.Bool.{_&&_};
 ghost use Prim.Native.Nat.{_≤_, _<_};
 ghost use Rattle.mesh.specs.Place.{isRing};
-ghost use Rattle.mesh.specs.Headers.{headerOf};
+ghost use Rattle.header.specs.Headers.{headerOf};
 ghost use Rattle.checker_laws.specs.Rowwise.{sidesOk};
 ghost use Rattle.readable.specs.Grounded.{Grounded};
 ghost use Rattle.readable.specs.Readable.{Readable, Levelled};
 ghost use Rattle.tree.specs.SideTests.{sidesBy, sidesOf, onSeam, seamNorth, seamSouth, sidesOver};
-use mesh::E;
-use mesh::N;
-use mesh::S;
-use mesh::W;
-use mesh::header::Header;
-use mesh::header::is_ring;
+use header::Header;
+use header::is_ring;
 use readable::depth;
 use readable::index;
 use table::down::down_to;
@@ -27,6 +23,10 @@ use table::words::SOUTH;
 use table::words::WEST;
 use table::words::says;
 use table::worked::side_by;
+use winds::E;
+use winds::N;
+use winds::S;
+use winds::W;
 
 // Whether each neighbour is the kid of the parent p or of the parent's neighbour, for a place that ends in the digits l and m.
 fn sides_by(t: &[i32], cap: usize, n: usize, p: usize, l: u32, m: u32) -> bool

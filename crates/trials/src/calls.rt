@@ -10,10 +10,10 @@ use crate::report::tell_bytes;
 use crate::report::tell_lists;
 use crate::report::tell_shorts;
 use crate::report::tell_value;
+use header::Header;
+use header::fresh;
+use header::with_mark;
 use lookup::Reading;
-use mesh::header::Header;
-use mesh::header::fresh;
-use mesh::header::with_mark;
 ghost use Prim.Native.Nat.{_≤_, _<_};
 ghost use lib.ListN.{length};
 

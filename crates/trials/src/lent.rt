@@ -1,8 +1,9 @@
 // The entries that are lent the header, each on a header that stands here: what it leaves is handed back.
+ghost use Rattle.header.specs.Headers.{lentOf};
 ghost use Rattle.grid.specs.Calls.{Builds, Tapes};
 use grid::BuildOut;
 use grid::TapeOut;
-use mesh::header::Header;
+use header::Header;
 
 pub fn build(
     mut header: Header,
@@ -13,7 +14,7 @@ pub fn build(
     rows: u32,
     mode: u32,
 ) -> BuildOut
-    ensures { λ r. ⌜ Builds header (now (table .entry)) (now (values .entry)) capacity columns rows mode (r .header) (now (table .exit)) (now (values .exit)) (r .answer) ⌝ }
+    ensures { λ r. ⌜ Builds (lentOf header (now (table .entry)) (now (values .entry))) capacity columns rows mode (lentOf (r .header) (now (table .exit)) (now (values .exit))) (r .answer) ⌝ }
 {
     let answer = grid::build(&mut header, table, values, capacity, columns, rows, mode);
     BuildOut { header, answer }
@@ -26,7 +27,7 @@ pub fn tape(
     capacity: u32,
     bytes: &[u8],
 ) -> TapeOut
-    ensures { λ r. ⌜ Tapes header (now (table .entry)) (now (values .entry)) capacity (now (bytes .entry)) (r .header) (now (table .exit)) (now (values .exit)) (r .answer) ⌝ }
+    ensures { λ r. ⌜ Tapes (lentOf header (now (table .entry)) (now (values .entry))) capacity (now (bytes .entry)) (lentOf (r .header) (now (table .exit)) (now (values .exit))) (r .answer) ⌝ }
 {
     let answer = grid::tape(&mut header, table, values, capacity, bytes);
     TapeOut { header, answer }

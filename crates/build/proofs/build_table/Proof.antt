@@ -68,7 +68,7 @@ returns c =
     let b₇ = b₆ .before .before .before in
     let a = b₇ .before .before in
     let p = a .before .before .pre in
-    made _ _ _ (a .ground-depth .ensures) (p .4) (p .2) (p .3) (p .5) _ _ _ _ (b₇ .root-table .ensures) (b₆ .grow-levels .ensures) _ _ (b₅ .seam-rows .ensures) (b₄ .put-ground .ensures) _ _ _ (b₃ .wall-rows .ensures .0) (b₂ .point-rows .ensures) (b₁ .blank-values .ensures)
+    made _ _ _ (a .ground-depth .ensures) (p .4) (p .2) (p .3) (p .5) _ _ _ _ (b₇ .root-table .ensures) (b₆ .grow-levels .ensures) _ _ (b₅ .seam-rows .ensures) (b₄ .put-ground .ensures) _ _ _ (b₃ .wall-rows .ensures .0) (b₂ .point-rows .ensures) (b₁ .blank-values .ensures) _
 
 pub build-table-spec : {M : Type 1} → statement M
 build-table-spec =

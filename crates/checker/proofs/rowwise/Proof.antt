@@ -1,31 +1,28 @@
 -- `checker::rowwise` meets its contract. The invariant: the rows up to k pass.
 -- Assumes nothing.
+use native.Mathlib.Omega.{arith}
+use borrow.Author.Needs.{needs}
 use mathlib.Core.Path.{_≡_, refl}
 use mathlib.Core.Bool.{true}
 use Prim.Native.Nat.{_-_, _≤_}
 use borrow.Author.Tests.{not-true, not-false}
-use Rattle.mesh.specs.Headers.{headerOf}
+use Rattle.header.specs.Headers.{headerOf}
 use Rattle.checker_laws.specs.Rowwise.{below}
 use Rattle.checker.proofs.Loop.{good, rows-more, no-zero, no-root, no-row, all-rows}
-use borrow.Author.Needs.{needs}
-use native.Mathlib.Omega.{arith}
-use Rattle.checker.proofs.Firsts.{Firsts, firsts-none, firsts-more, rows-failed, rows-passed}
 use Rattle.checker.proofs.rowwise.Statement.{statement}
 use Rattle.checker.proofs.rowwise.Tie as tie
 
 abbrev Inv-loop : tie.InvT-loop
-Inv-loop t v cap header d first₀ k₀ first k = (k ≤ cap) × (below k (good (headerOf header .grid) t cap v) ≡ true) × Firsts cap t k first
+Inv-loop t v cap header d k₀ k = (k ≤ cap) × (below k (good (headerOf header .grid) t cap v) ≡ true)
 
 abbrev μ-loop : tie.MeasureT-loop
-μ-loop t v cap header d first₀ k₀ first k = cap - k
+μ-loop t v cap header d k₀ k = cap - k
 
 zero-ok-requires : tie.Need-zero-ok-requires Inv-loop μ-loop
 zero-ok-requires c κs = search needs
 
 returns : tie.Need-returns Inv-loop μ-loop
-returns c =
-    let p1 = c .before in
-    rows-failed (no-zero _ _ _ _ (p1 .zero-ok .ensures) (not-true _ (c .if1 .taken)))
+returns c = no-zero _ _ _ _ (c .before .zero-ok .ensures) (not-true _ (c .if1 .taken))
 
 is-free-requires : tie.Need-is-free-requires Inv-loop μ-loop
 is-free-requires c κs = search needs
@@ -34,20 +31,16 @@ returns-2 : tie.Need-returns-2 Inv-loop μ-loop
 returns-2 c =
     let p1 = c .before in
     let p2 = p1 .before in
-    let p3 = p2 .before in
-    rows-failed (no-root _ _ _ _ (p3 .zero-ok .ensures) (not-false _ (p2 .if1 .left)) (p1 .is-free .ensures) (c .if2 .taken))
-
-add-first : tie.Need-add-first Inv-loop μ-loop
-add-first c = search needs
+    no-root _ _ _ _ (p2 .before .zero-ok .ensures) (not-false _ (p2 .if1 .left)) (p1 .is-free .ensures) (c .if2 .taken)
 
 loop-holds : tie.Need-loop-holds Inv-loop μ-loop
-loop-holds c = (omega arith, refl, firsts-none _ (c .before .before .before .zero-ok .ensures) (not-false _ (c .before .before .if1 .left)))
+loop-holds c = (omega arith, refl)
 
-add-row-first : tie.Need-add-row-first Inv-loop μ-loop
-add-row-first c = search needs
+add-row-ok : tie.Need-add-row-ok Inv-loop μ-loop
+add-row-ok c = search needs
 
-row-first-requires : tie.Need-row-first-requires Inv-loop μ-loop
-row-first-requires c κs = (c .before .before .before .before .before .before .before .pre .0, c .before .before .before .before .before .before .before .pre .1, omega arith, omega arith, c .before .loop .inv .2 .from)
+row-ok-requires : tie.Need-row-ok-requires Inv-loop μ-loop
+row-ok-requires c κs = (c .before .before .before .before .before .before .before .pre .0, c .before .before .before .before .before .before .before .pre .1, omega arith)
 
 returns-3 : tie.Need-returns-3 Inv-loop μ-loop
 returns-3 c =
@@ -56,8 +49,7 @@ returns-3 c =
     let p4 = p3 .before in
     let p5 = p4 .before in
     let p6 = p5 .before in
-    let p7 = p6 .before in
-    rows-failed (no-row _ _ _ _ (p7 .zero-ok .ensures) (not-false _ (p6 .if1 .left)) (p5 .is-free .ensures) (p4 .if2 .left) (p3 .loop .k) (omega arith) (p1 .row-first .ensures .no (c .if3 .taken)))
+    no-row _ _ _ _ (p6 .before .zero-ok .ensures) (not-false _ (p6 .if1 .left)) (p5 .is-free .ensures) (p4 .if2 .left) (p3 .loop .k) (omega arith) (p1 .row-ok .ensures) (not-true _ (c .if3 .taken))
 
 add-k : tie.Need-add-k Inv-loop μ-loop
 add-k c = search needs
@@ -69,7 +61,7 @@ loop-again : tie.Need-loop-again Inv-loop μ-loop
 loop-again c =
     let p1 = c .before in
     let p3 = p1 .before .before in
-    (omega arith, rows-more _ _ _ _ (p3 .loop .k) (p3 .loop .inv .1) (p1 .row-first .ensures .yes (c .if3 .left)), firsts-more (p3 .loop .inv .2) (p1 .row-first .ensures) (c .if3 .left))
+    (omega arith, rows-more _ _ _ _ (p3 .loop .k) (p3 .loop .inv .1) (p1 .row-ok .ensures) (not-false _ (c .if3 .left)))
 
 returns-4 : tie.Need-returns-4 Inv-loop μ-loop
 returns-4 c =
@@ -77,8 +69,7 @@ returns-4 c =
     let p2 = p1 .before in
     let p3 = p2 .before in
     let p4 = p3 .before in
-    let p5 = p4 .before in
-    rows-passed (p1 .loop .inv .2) (omega arith) (all-rows _ _ _ _ (p5 .zero-ok .ensures) (not-false _ (p4 .if1 .left)) (p3 .is-free .ensures) (p2 .if2 .left) (p1 .loop .k) (omega arith) (p1 .loop .inv .1))
+    all-rows _ _ _ _ (p4 .before .zero-ok .ensures) (not-false _ (p4 .if1 .left)) (p3 .is-free .ensures) (p2 .if2 .left) (p1 .loop .k) (omega arith) (p1 .loop .inv .1)
 
 pub rowwise-spec : {M : Type 1} → statement M
 rowwise-spec =
@@ -90,10 +81,9 @@ rowwise-spec =
     returns
     is-free-requires
     returns-2
-    add-first
     loop-holds
-    add-row-first
-    row-first-requires
+    add-row-ok
+    row-ok-requires
     returns-3
     add-k
     loop-less

@@ -2,7 +2,7 @@
 -- Each other &mut is passed on for good, at its own lifetime, share and ghost name; what a & owns is had twice. No field is named. Assumes nothing.
 use mathlib.Core.Path.{refl}
 use Prim.Native.Nat.{ℕ, _<_, _^_}
-use mathlib.Core.List.{_∷_, List, []}
+use mathlib.Core.List.{[], _∷_, List}
 use lib.IntN.{ℤ}
 use lib.Ieee.{Float}
 use lib.ListN.{length}
@@ -40,9 +40,10 @@ use denote.Triple.Walked.{says, Stays, stay-none-ref, stay-none, stay-none-slice
 use denote.Exit.{yes}
 use denote.Signature.{plain}
 use Rattle.face.specs.Outputs.{Checks}
-use Rattle.mesh.specs.declared.header.Header.{Header}
-use Rattle.mesh.proofs.header.Header as T
-use Rattle.mesh.proofs.header.Header.Laws as T′
+use Rattle.header.specs.Headers.{lentOf}
+use Rattle.header.specs.declared.Header.{Header}
+use Rattle.header.proofs.Header as T
+use Rattle.header.proofs.Header.Laws as T′
 use Rattle.face.proofs.check_core as core
 use Rattle.face.proofs.check_core.Symbol as core-def
 use Rattle.face.proofs.check_core.Symbol.{name as #core}
@@ -103,7 +104,7 @@ module _ {M : Type 1} (𝓤 : URA M) (H : Heap 𝓤) (A : Atoms 𝓤) (W : Given
   goes was =
       qed W ((‵ (flft κ1 q1) ⊛ ‵ (flft κ2 q2) ⊛ ‵ ftrue) ∷ ‵ Own1 ∷ ‵ Own2 ∷ []) ∵ nothing ! $ owned ! u32 (Is u32) (uint-makes 𝓤 H A W w32) x3 _ (refl, fit3) $ fjoin ! $ move ! (3 ∷ 0 ∷ []) $ fjoin ! $ move ! (2 ∷ 0 ∷ []) $ fjoin ! $ owned ! R (Is R) (LL.makes T.the-type T′.the-plain 𝓤 H A) h _ was $ fjoin ! $ move ! (1 ∷ 0 ∷ []) $ join ! $ frame ! $ done !
 
-  exits : (r : ℕ) (u : Val) → Checks h (x1 .now) (x2 .now) x3 r
+  exits : (r : ℕ) (u : Val) → Checks (lentOf h (x1 .now) (x2 .now)) x3 r
       → ent 𝓤 (⋆ 𝓤 H A (‵ (fres γ (R .coded .code h)) ∷ ‵ (fshr-bor κ0 (λ y. partAt R y h b o)) ∷ ‵ (flft κ0 q0) ∷ (‵ (flft κ1 q1) ⊛ ‵ (flft κ2 q2) ⊛ ‵ ftrue) ∷ ‵ Own1 ∷ ‵ Own2 ∷ ‵ (u32 .own r (u ∷ [])) ∷ [])) (Post u)
   exits r u e =
       qed W (‵ (fres γ (R .coded .code h)) ∷ ‵ (fshr-bor κ0 (λ y. partAt R y h b o)) ∷ ‵ (flft κ0 q0) ∷ (‵ (flft κ1 q1) ⊛ ‵ (flft κ2 q2) ⊛ ‵ ftrue) ∷ ‵ Own1 ∷ ‵ Own2 ∷ ‵ (u32 .own r (u ∷ [])) ∷ []) ∵
@@ -125,8 +126,8 @@ module _ {M : Type 1} (𝓤 : URA M) (H : Heap 𝓤) (A : Atoms 𝓤) (W : Given
         move ! (21 ∷ 19 ∷ []) $ join ! $ move ! (16 ∷ 0 ∷ []) $ join ! $ move ! (0 ∷ []) $ use1 W (raw (Core 𝓤 H A at-mem run .pre to-core)) (goes was) $
         calls-at ! fm (Core 𝓤 H A at-mem run) known to-core (and-then ! (load ! (from ! (stop !)) (look ! 3 refl)) (and-then ! (load ! (from ! (stop !)) (look ! 9 refl)) (and-then ! (load ! (from ! (stop !)) (look ! 7 refl)) (and-then ! (load ! (from ! (stop !)) (look ! 5 refl)) (no-more !))))) (λ u.
         use1 W (later (some (λ (r : ℕ). ((‵ (flft κ1 q1) ⊛ ‵ (flft κ2 q2) ⊛ ‵ ftrue) ⊛ ‵ (u32 .own r (u ∷ []))) ⊛ raw (ensured 𝓤 H A core.ended (core.clauses 𝓤 H A at-mem run) (κ1, (κ2, tt)) passed tt r)))) (id⊢ 𝓤 _) $ await ! tt $ pick ! (λ r.
-        split ! $ move ! (1 ∷ []) $ use1 W (some (λ (zs : (Unit {0} × (Unit {0} × (Unit {0} × (Unit {0} × Unit {0}))))). ‵ (lasts core.ended (κ1, (κ2, tt)) passed zs) ⊛ raw (fact 𝓤 (Checks h (x1 .now) (x2 .now) x3 r)))) (id⊢ 𝓤 _) $ pick ! (λ zs.
-        split ! $ move ! (1 ∷ []) $ heard ! (Checks h (x1 .now) (x2 .now) x3 r) (λ e. fsplit ! $ drop ! $ move ! (0 ∷ []) $ fsplit ! $ move ! (1 ∷ []) $ fsplit ! $ move ! (1 ∷ []) $ fsplit ! $
+        split ! $ move ! (1 ∷ []) $ use1 W (some (λ (zs : (Unit {0} × (Unit {0} × (Unit {0} × (Unit {0} × Unit {0}))))). ‵ (lasts core.ended (κ1, (κ2, tt)) passed zs) ⊛ raw (fact 𝓤 (Checks (lentOf h (x1 .now) (x2 .now)) x3 r)))) (id⊢ 𝓤 _) $ pick ! (λ zs.
+        split ! $ move ! (1 ∷ []) $ heard ! (Checks (lentOf h (x1 .now) (x2 .now)) x3 r) (λ e. fsplit ! $ drop ! $ move ! (0 ∷ []) $ fsplit ! $ move ! (1 ∷ []) $ fsplit ! $ move ! (1 ∷ []) $ fsplit ! $
         move ! (4 ∷ []) $ split ! $ move ! (1 ∷ []) $ peeks ! u32 (Is u32) (shows 𝓤 H A u32) r (u ∷ []) (λ is.
         land ! (from ! (stop !)) (init ! 18 refl (uint-lawful 𝓤 H A W w32 .typed r _ is .0)) $
         returns ! (look ! 18 refl) $ forget ! 8 refl $ forget ! 10 refl $ forget ! 12 refl $ forget ! 14 refl $ forget ! 16 refl $ forget ! 18 refl $

@@ -2,7 +2,7 @@
 -- Each other &mut is passed on for good, at its own lifetime, share and ghost name; what a & owns is had twice. No field is named. Assumes nothing.
 use mathlib.Core.Path.{refl}
 use Prim.Native.Nat.{ℕ, _<_, _^_}
-use mathlib.Core.List.{_∷_, List, []}
+use mathlib.Core.List.{[], _∷_, List}
 use lib.IntN.{ℤ}
 use lib.Ieee.{Float}
 use lib.ListN.{length}
@@ -40,9 +40,10 @@ use denote.Triple.Walked.{says, Stays, stay-none-ref, gave-ref, stay-none, stay-
 use denote.Exit.{yes}
 use denote.Signature.{plain}
 use Rattle.face.specs.Outputs.{Looks}
-use Rattle.mesh.specs.declared.header.Header.{Header}
-use Rattle.mesh.proofs.header.Header as T
-use Rattle.mesh.proofs.header.Header.Laws as T′
+use Rattle.header.specs.Headers.{lentOf}
+use Rattle.header.specs.declared.Header.{Header}
+use Rattle.header.proofs.Header as T
+use Rattle.header.proofs.Header.Laws as T′
 use Rattle.face.proofs.lookup_core as core
 use Rattle.face.proofs.lookup_core.Symbol as core-def
 use Rattle.face.proofs.lookup_core.Symbol.{name as #core}
@@ -121,7 +122,7 @@ module _ {M : Type 1} (𝓤 : URA M) (H : Heap 𝓤) (A : Atoms 𝓤) (W : Given
   goes was =
       qed W ((‵ (flft κ1 q1) ⊛ ‵ (flft κ2 q2) ⊛ ‵ (flft κ3 q3) ⊛ ‵ (flft κ4 q4) ⊛ ‵ (flft κ5 q5) ⊛ ‵ ftrue) ∷ ‵ Own1 ∷ ‵ Own2 ∷ ‵ Own6 ∷ ‵ Own7 ∷ ‵ Own8 ∷ []) ∵ nothing ! $ move ! (6 ∷ 0 ∷ []) $ fjoin ! $ move ! (5 ∷ 0 ∷ []) $ fjoin ! $ move ! (4 ∷ 0 ∷ []) $ fjoin ! $ owned ! u32 (Is u32) (uint-makes 𝓤 H A W w32) x5 _ (refl, fit5) $ fjoin ! $ owned ! u32 (Is u32) (uint-makes 𝓤 H A W w32) x4 _ (refl, fit4) $ fjoin ! $ owned ! u32 (Is u32) (uint-makes 𝓤 H A W w32) x3 _ (refl, fit3) $ fjoin ! $ move ! (3 ∷ 0 ∷ []) $ fjoin ! $ move ! (2 ∷ 0 ∷ []) $ fjoin ! $ owned ! R (Is R) (LL.makes T.the-type T′.the-plain 𝓤 H A) h _ was $ fjoin ! $ move ! (1 ∷ 0 ∷ []) $ join ! $ frame ! $ done !
 
-  exits : (r : ℕ) (u : Val) (z6 : ℕ) (z7 : ℕ) (z8 : Float) → Looks h (x1 .now) (x2 .now) x3 x4 x5 z6 z7 z8 r
+  exits : (r : ℕ) (u : Val) (z6 : ℕ) (z7 : ℕ) (z8 : Float) → Looks (lentOf h (x1 .now) (x2 .now)) x3 x4 x5 z6 z7 z8 r
       → ent 𝓤 (⋆ 𝓤 H A (‵ (fres γ (R .coded .code h)) ∷ ‵ (fshr-bor κ0 (λ y. partAt R y h b o)) ∷ ‵ (flft κ0 q0) ∷ (‵ (flft κ1 q1) ⊛ ‵ (flft κ2 q2) ⊛ ‵ (flft κ3 q3) ⊛ ‵ (flft κ4 q4) ⊛ ‵ (flft κ5 q5) ⊛ ‵ ftrue) ∷ ‵ Own1 ∷ ‵ Own2 ∷ ‵ (fres (x6 .name) (u32 .coded .code z6)) ∷ ‵ (fres (x7 .name) (u32 .coded .code z7)) ∷ ‵ (fres (x8 .name) (f64 .coded .code z8)) ∷ ‵ (u32 .own r (u ∷ [])) ∷ [])) (Post u)
   exits r u z6 z7 z8 e =
       qed W (‵ (fres γ (R .coded .code h)) ∷ ‵ (fshr-bor κ0 (λ y. partAt R y h b o)) ∷ ‵ (flft κ0 q0) ∷ (‵ (flft κ1 q1) ⊛ ‵ (flft κ2 q2) ⊛ ‵ (flft κ3 q3) ⊛ ‵ (flft κ4 q4) ⊛ ‵ (flft κ5 q5) ⊛ ‵ ftrue) ∷ ‵ Own1 ∷ ‵ Own2 ∷ ‵ (fres (x6 .name) (u32 .coded .code z6)) ∷ ‵ (fres (x7 .name) (u32 .coded .code z7)) ∷ ‵ (fres (x8 .name) (f64 .coded .code z8)) ∷ ‵ (u32 .own r (u ∷ [])) ∷ []) ∵
@@ -146,8 +147,8 @@ module _ {M : Type 1} (𝓤 : URA M) (H : Heap 𝓤) (A : Atoms 𝓤) (W : Given
         move ! (34 ∷ 32 ∷ []) $ join ! $ move ! (34 ∷ 0 ∷ []) $ join ! $ move ! (38 ∷ 0 ∷ []) $ join ! $ move ! (39 ∷ 0 ∷ []) $ join ! $ move ! (32 ∷ 0 ∷ []) $ join ! $ move ! (0 ∷ []) $ use1 W (raw (Core 𝓤 H A at-mem run .pre to-core)) (goes was) $
         calls-at ! fm (Core 𝓤 H A at-mem run) known to-core (and-then ! (load ! (from ! (stop !)) (look ! 9 refl)) (and-then ! (load ! (from ! (stop !)) (look ! 25 refl)) (and-then ! (load ! (from ! (stop !)) (look ! 23 refl)) (and-then ! (load ! (from ! (stop !)) (look ! 21 refl)) (and-then ! (load ! (from ! (stop !)) (look ! 19 refl)) (and-then ! (load ! (from ! (stop !)) (look ! 17 refl)) (and-then ! (load ! (from ! (stop !)) (look ! 7 refl)) (and-then ! (load ! (from ! (stop !)) (look ! 5 refl)) (and-then ! (load ! (from ! (stop !)) (look ! 3 refl)) (no-more !)))))))))) (λ u.
         use1 W (later (some (λ (r : ℕ). ((‵ (flft κ1 q1) ⊛ ‵ (flft κ2 q2) ⊛ ‵ (flft κ3 q3) ⊛ ‵ (flft κ4 q4) ⊛ ‵ (flft κ5 q5) ⊛ ‵ ftrue) ⊛ ‵ (u32 .own r (u ∷ []))) ⊛ raw (ensured 𝓤 H A core.ended (core.clauses 𝓤 H A at-mem run) (κ1, (κ2, (κ3, (κ4, (κ5, tt))))) passed tt r)))) (id⊢ 𝓤 _) $ await ! tt $ pick ! (λ r.
-        split ! $ move ! (1 ∷ []) $ use1 W (some (λ (zs : (Unit {0} × (Unit {0} × (Unit {0} × (Unit {0} × (Unit {0} × (Unit {0} × (ℕ × (ℕ × (Float × Unit {0})))))))))). ‵ (lasts core.ended (κ1, (κ2, (κ3, (κ4, (κ5, tt))))) passed zs) ⊛ raw (fact 𝓤 (Looks h (x1 .now) (x2 .now) x3 x4 x5 (zs .1 .1 .1 .1 .1 .1 .0) (zs .1 .1 .1 .1 .1 .1 .1 .0) (zs .1 .1 .1 .1 .1 .1 .1 .1 .0) r)))) (id⊢ 𝓤 _) $ pick ! (λ zs.
-        split ! $ move ! (1 ∷ []) $ heard ! (Looks h (x1 .now) (x2 .now) x3 x4 x5 (zs .1 .1 .1 .1 .1 .1 .0) (zs .1 .1 .1 .1 .1 .1 .1 .0) (zs .1 .1 .1 .1 .1 .1 .1 .1 .0) r) (λ e. fsplit ! $ drop ! $ move ! (0 ∷ []) $ fsplit ! $ move ! (1 ∷ []) $ fsplit ! $ move ! (1 ∷ []) $ fsplit ! $ move ! (1 ∷ []) $ fsplit ! $ move ! (1 ∷ []) $ fsplit ! $ move ! (1 ∷ []) $ fsplit ! $ move ! (1 ∷ []) $ fsplit ! $ move ! (1 ∷ []) $ fsplit ! $
+        split ! $ move ! (1 ∷ []) $ use1 W (some (λ (zs : (Unit {0} × (Unit {0} × (Unit {0} × (Unit {0} × (Unit {0} × (Unit {0} × (ℕ × (ℕ × (Float × Unit {0})))))))))). ‵ (lasts core.ended (κ1, (κ2, (κ3, (κ4, (κ5, tt))))) passed zs) ⊛ raw (fact 𝓤 (Looks (lentOf h (x1 .now) (x2 .now)) x3 x4 x5 (zs .1 .1 .1 .1 .1 .1 .0) (zs .1 .1 .1 .1 .1 .1 .1 .0) (zs .1 .1 .1 .1 .1 .1 .1 .1 .0) r)))) (id⊢ 𝓤 _) $ pick ! (λ zs.
+        split ! $ move ! (1 ∷ []) $ heard ! (Looks (lentOf h (x1 .now) (x2 .now)) x3 x4 x5 (zs .1 .1 .1 .1 .1 .1 .0) (zs .1 .1 .1 .1 .1 .1 .1 .0) (zs .1 .1 .1 .1 .1 .1 .1 .1 .0) r) (λ e. fsplit ! $ drop ! $ move ! (0 ∷ []) $ fsplit ! $ move ! (1 ∷ []) $ fsplit ! $ move ! (1 ∷ []) $ fsplit ! $ move ! (1 ∷ []) $ fsplit ! $ move ! (1 ∷ []) $ fsplit ! $ move ! (1 ∷ []) $ fsplit ! $ move ! (1 ∷ []) $ fsplit ! $ move ! (1 ∷ []) $ fsplit ! $
         move ! (9 ∷ []) $ split ! $ move ! (1 ∷ []) $ peeks ! u32 (Is u32) (shows 𝓤 H A u32) r (u ∷ []) (λ is.
         land ! (from ! (stop !)) (init ! 39 refl (uint-lawful 𝓤 H A W w32 .typed r _ is .0)) $
         returns ! (look ! 39 refl) $ forget ! 13 refl $ forget ! 15 refl $ forget ! 17 refl $ forget ! 19 refl $ forget ! 21 refl $ forget ! 23 refl $ forget ! 25 refl $ forget ! 27 refl $ forget ! 29 refl $ forget ! 31 refl $ forget ! 33 refl $ forget ! 35 refl $ forget ! 37 refl $ forget ! 39 refl $

@@ -2,7 +2,7 @@
 -- Each other &mut is passed on for good, at its own lifetime, share and ghost name; what a & owns is had twice. No field is named. Assumes nothing.
 use mathlib.Core.Path.{_≡_, refl, ap}
 use Prim.Native.Nat.{ℕ, _<_, _^_}
-use mathlib.Core.List.{_∷_, List, []}
+use mathlib.Core.List.{[], _∷_, List}
 use lib.IntN.{ℤ}
 use lib.Ieee.{Float}
 use lib.ListN.{length}
@@ -43,9 +43,10 @@ use denote.Triple.Walked.{says, Stays, stay-ref, gave-slice, gave-ref, stay-none
 use denote.Exit.{yes}
 use denote.Signature.{plain}
 use Rattle.face.specs.Outputs.{Tapes}
-use Rattle.mesh.specs.declared.header.Header.{Header}
-use Rattle.mesh.proofs.header.Header as T
-use Rattle.mesh.proofs.header.Header.Laws as T′
+use Rattle.header.specs.Headers.{lentOf}
+use Rattle.header.specs.declared.Header.{Header}
+use Rattle.header.proofs.Header as T
+use Rattle.header.proofs.Header.Laws as T′
 use Rattle.face.specs.declared.Left.{Left}
 use Rattle.face.proofs.Left as Co
 use Rattle.face.proofs.Left.Laws as Co′
@@ -136,7 +137,7 @@ module _ {M : Type 1} (𝓤 : URA M) (H : Heap 𝓤) (A : Atoms 𝓤) (W : Given
   of-answer : (r : Left) (u : Val) → Is Co.the-row r (u ∷ []) → Is u32 (r .answer) (answered r ∷ [])
   of-answer r u is = LL.owed Co.the-type Co′.the-laws r _ is .1 .0
 
-  exits : (r : Left) (u : Val) (z1 : List ℤ) (z2 : List Float) (z5 : ℕ) (z6 : ℕ) → Is Co.the-row r (u ∷ []) → Tapes h (x1 .now) (x2 .now) x3 (x4 .now) (r .header) z1 z2 z5 z6 (r .answer) → length z1 ≡ length (x1 .now) → length z2 ≡ length (x2 .now)
+  exits : (r : Left) (u : Val) (z1 : List ℤ) (z2 : List Float) (z5 : ℕ) (z6 : ℕ) → Is Co.the-row r (u ∷ []) → Tapes (lentOf h (x1 .now) (x2 .now)) x3 (x4 .now) (lentOf (r .header) z1 z2) z5 z6 (r .answer) → length z1 ≡ length (x1 .now) → length z2 ≡ length (x2 .now)
       → ent 𝓤 (⋆ 𝓤 H A (‵ (fobs γ (R .coded .code (r .header))) ∷ ‵ (fbor κ0 (Body (mem R) b o γ)) ∷ ‵ (flft κ0 q0) ∷ (‵ (flft κ1 q1) ⊛ ‵ (flft κ2 q2) ⊛ ‵ (flft κ3 q3) ⊛ ‵ (flft κ4 q4) ⊛ ‵ (flft κ5 q5) ⊛ ‵ ftrue) ∷ ‵ (finally i32 (x1 .name) z1) ∷ ‵ (finally f64 (x2 .name) z2) ∷ ‵ Own4 ∷ ‵ (fres (x5 .name) (usize .coded .code z5)) ∷ ‵ (fres (x6 .name) (usize .coded .code z6)) ∷ [])) (Post (answered r))
   exits r u z1 z2 z5 z6 is e l1 l2 =
       qed W (‵ (fobs γ (R .coded .code (r .header))) ∷ ‵ (fbor κ0 (Body (mem R) b o γ)) ∷ ‵ (flft κ0 q0) ∷ (‵ (flft κ1 q1) ⊛ ‵ (flft κ2 q2) ⊛ ‵ (flft κ3 q3) ⊛ ‵ (flft κ4 q4) ⊛ ‵ (flft κ5 q5) ⊛ ‵ ftrue) ∷ ‵ (finally i32 (x1 .name) z1) ∷ ‵ (finally f64 (x2 .name) z2) ∷ ‵ Own4 ∷ ‵ (fres (x5 .name) (usize .coded .code z5)) ∷ ‵ (fres (x6 .name) (usize .coded .code z6)) ∷ []) ∵
@@ -163,8 +164,8 @@ module _ {M : Type 1} (𝓤 : URA M) (H : Heap 𝓤) (A : Atoms 𝓤) (W : Given
         move ! (40 ∷ 38 ∷ []) $ join ! $ move ! (41 ∷ 0 ∷ []) $ join ! $ move ! (42 ∷ 0 ∷ []) $ join ! $ move ! (42 ∷ 0 ∷ []) $ join ! $ move ! (38 ∷ 0 ∷ []) $ join ! $ move ! (0 ∷ []) $ use1 W (raw (Core 𝓤 H A at-mem run .pre to-core)) (goes was) $
         calls-at ! fm (Core 𝓤 H A at-mem run) known to-core (and-then ! (load ! (from ! (stop !)) (look ! 18 refl)) (and-then ! (load ! (from ! (stop !)) (look ! 14 refl)) (and-then ! (load ! (from ! (stop !)) (look ! 10 refl)) (and-then ! (load ! (from ! (stop !)) (look ! 28 refl)) (and-then ! (load ! (from ! (stop !)) (look ! 26 refl)) (and-then ! (load ! (from ! (stop !)) (look ! 8 refl)) (and-then ! (load ! (from ! (stop !)) (look ! 6 refl)) (no-more !)))))))) (λ u.
         use1 W (later (some (λ (r : Left). ((‵ (flft κ1 q1) ⊛ ‵ (flft κ2 q2) ⊛ ‵ (flft κ3 q3) ⊛ ‵ (flft κ4 q4) ⊛ ‵ (flft κ5 q5) ⊛ ‵ ftrue) ⊛ ‵ (Co.the-row .own r (u ∷ []))) ⊛ raw (ensured 𝓤 H A core.ended (core.clauses 𝓤 H A at-mem run) (κ1, (κ2, (κ3, (κ4, (κ5, tt))))) passed tt r)))) (id⊢ 𝓤 _) $ await ! tt $ pick ! (λ r.
-        split ! $ move ! (1 ∷ []) $ use1 W (some (λ (zs : (Unit {0} × (List ℤ × (List Float × (Unit {0} × (Unit {0} × (ℕ × (ℕ × Unit {0})))))))). ‵ (lasts core.ended (κ1, (κ2, (κ3, (κ4, (κ5, tt))))) passed zs) ⊛ raw (fact 𝓤 (Tapes h (x1 .now) (x2 .now) x3 (x4 .now) (r .header) (zs .1 .0) (zs .1 .1 .0) (zs .1 .1 .1 .1 .1 .0) (zs .1 .1 .1 .1 .1 .1 .0) (r .answer))))) (id⊢ 𝓤 _) $ pick ! (λ zs.
-        split ! $ move ! (1 ∷ []) $ heard ! (Tapes h (x1 .now) (x2 .now) x3 (x4 .now) (r .header) (zs .1 .0) (zs .1 .1 .0) (zs .1 .1 .1 .1 .1 .0) (zs .1 .1 .1 .1 .1 .1 .0) (r .answer)) (λ e. fsplit ! $ drop ! $ move ! (0 ∷ []) $ fsplit ! $ fsplit ! $ move ! (1 ∷ []) $ feqL ! (λ l1. move ! (1 ∷ []) $ fsplit ! $ fsplit ! $ move ! (1 ∷ []) $ feqL ! (λ l2. move ! (1 ∷ []) $ fsplit ! $ move ! (1 ∷ []) $ fsplit ! $ move ! (1 ∷ []) $ fsplit ! $ move ! (1 ∷ []) $ fsplit ! $
+        split ! $ move ! (1 ∷ []) $ use1 W (some (λ (zs : (Unit {0} × (List ℤ × (List Float × (Unit {0} × (Unit {0} × (ℕ × (ℕ × Unit {0})))))))). ‵ (lasts core.ended (κ1, (κ2, (κ3, (κ4, (κ5, tt))))) passed zs) ⊛ raw (fact 𝓤 (Tapes (lentOf h (x1 .now) (x2 .now)) x3 (x4 .now) (lentOf (r .header) (zs .1 .0) (zs .1 .1 .0)) (zs .1 .1 .1 .1 .1 .0) (zs .1 .1 .1 .1 .1 .1 .0) (r .answer))))) (id⊢ 𝓤 _) $ pick ! (λ zs.
+        split ! $ move ! (1 ∷ []) $ heard ! (Tapes (lentOf h (x1 .now) (x2 .now)) x3 (x4 .now) (lentOf (r .header) (zs .1 .0) (zs .1 .1 .0)) (zs .1 .1 .1 .1 .1 .0) (zs .1 .1 .1 .1 .1 .1 .0) (r .answer)) (λ e. fsplit ! $ drop ! $ move ! (0 ∷ []) $ fsplit ! $ fsplit ! $ move ! (1 ∷ []) $ feqL ! (λ l1. move ! (1 ∷ []) $ fsplit ! $ fsplit ! $ move ! (1 ∷ []) $ feqL ! (λ l2. move ! (1 ∷ []) $ fsplit ! $ move ! (1 ∷ []) $ fsplit ! $ move ! (1 ∷ []) $ fsplit ! $ move ! (1 ∷ []) $ fsplit ! $
         move ! (7 ∷ []) $ split ! $ move ! (1 ∷ []) $ peeks ! Co.the-row (Is Co.the-row) (shows 𝓤 H A Co.the-row) r (u ∷ []) (λ is.
         land ! (from ! (stop !)) (init ! 28 refl (LL.lawful Co.the-type Co′.the-laws 𝓤 H A W .typed r _ is .0)) $ rewrite ! 28 (λ (v : Val). ‵ (fat fullShare Co′.mir m8 0 v)) (ap only (LL.tells Co.the-type Co′.the-laws r _ is)) refl $
         assigns ! (of-opd ! (load ! (from ! (fld ! refl (stop !))) (look-in ! 28 (sub ! 0 refl (whole !))))) (from ! (hop ! (look ! 42 refl) (stop !))) (store-raw ! 9 refl (LL.lawful T.the-type T′.the-laws 𝓤 H A W .typed (r .header) _ (of-header r u is) .0)) $

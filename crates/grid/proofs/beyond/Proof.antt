@@ -1,7 +1,7 @@
 -- `grid::beyond` meets its contract: a load in rows of level 0.
 -- Assumes nothing.
 use borrow.Author.Needs.{needs}
-use Rattle.mesh.specs.Headers.{headerOf}
+use Rattle.header.specs.Headers.{headerOf}
 use Rattle.grid.proofs.First.{beyond-is}
 use Rattle.grid.proofs.beyond.Statement.{statement}
 use Rattle.grid.proofs.beyond.Tie as tie

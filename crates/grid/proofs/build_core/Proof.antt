@@ -1,5 +1,6 @@
 -- `grid::build_core` meets its contract: refused by the first checks or for want of numbers, or built.
 -- Assumes nothing.
+use Rattle.header.specs.Headers.{lentOf}
 use Rattle.grid.proofs.BuildCalls.{build-refused, sized, buildable, build-made}
 use native.Mathlib.Omega.{arith}
 use borrow.Author.Needs.{needs}
@@ -19,17 +20,18 @@ same-length-2 : tie.Need-same-length-2
 same-length-2 c = search needs
 
 returns : tie.Need-returns
-returns c = build-refused _ _ _ _ _ _ _ (c .before .before .before .before .fresh .ensures) (c .before .build-refusal .result) (c .before .build-refusal .ensures _) (c .if1 .taken)
+returns c = build-refused _ _ _ _ _ (c .before .before .before .before .fresh .ensures) (c .before .build-refusal .result) (c .before .build-refusal .ensures) (c .if1 .taken)
 
 build-table-requires : tie.Need-build-table-requires
 build-table-requires c κs =
     let a = c .before .before .before .before .before .before .before .before .args in
     let new = c .before .before .before .before .before .before .fresh .ensures in
     let none = c .before .before .if1 .left in
-    let is = c .before .before .before .build-refusal .ensures _ in
-    let z = sized (a .header) (a .table .now) (a .values .now) (a .capacity) (a .columns) (a .rows) (a .mode) new _ is none in
-    let b = buildable (a .header) (a .table .now) (a .values .now) (a .capacity) (a .columns) (a .rows) (a .mode) new _ is none in
-    (omega (arith, z .0), z .1, b .sizes .0, b .sizes .1, b .rectangle, b .room)
+    let is = c .before .before .before .build-refusal .ensures in
+    let l = lentOf (a .header) (a .table .now) (a .values .now) in
+    let z = sized l (a .capacity) (a .columns) (a .rows) (a .mode) new _ is none in
+    let b = buildable l (a .capacity) (a .columns) (a .rows) (a .mode) new _ is none in
+    (omega (arith, z .words), z .values, b .sizes .0, b .sizes .1, b .rectangle, b .room)
 
 same-length-3 : tie.Need-same-length-3
 same-length-3 c = search needs
@@ -40,7 +42,7 @@ same-length-4 c = search needs
 returns-2 : tie.Need-returns-2
 returns-2 c =
     let a = c .before .before .before .before .before .before .before .before .before .before .before .before .args in
-    build-made (a .header) (a .table .now) (a .values .now) (a .capacity) (a .columns) (a .rows) (a .mode) (c .before .before .before .before .before .before .before .before .before .before .fresh .ensures) _ (c .before .before .before .before .before .before .before .build-refusal .ensures _) (c .before .before .before .before .before .before .if1 .left) _ _ _ (c .before .before .before .build-table .ensures)
+    build-made (lentOf (a .header) (a .table .now) (a .values .now)) (a .capacity) (a .columns) (a .rows) (a .mode) (c .before .before .before .before .before .before .before .before .before .before .fresh .ensures) _ (c .before .before .before .before .before .before .before .build-refusal .ensures) (c .before .before .before .before .before .before .if1 .left) _ _ _ (c .before .before .before .build-table .ensures)
 
 pub build-core-spec : {M : Type 1} → statement M
 build-core-spec =

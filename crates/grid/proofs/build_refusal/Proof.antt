@@ -3,8 +3,6 @@
 use borrow.Author.Needs.{needs}
 use native.Mathlib.Omega.{arith}
 use Rattle.mesh.specs.Call.{buildChecks}
-use Rattle.mesh.specs.Headers.{headerOf}
-use Rattle.grid.specs.Calls.{lists}
 use Rattle.grid.proofs.BuildCalls.{too-few, enough}
 use Rattle.grid.proofs.build_refusal.Statement.{statement}
 use Rattle.grid.proofs.build_refusal.Tie as tie
@@ -14,7 +12,7 @@ first-refusal-requires c κs = search needs
 
 returns : tie.Need-returns
 unfolding buildChecks
-returns c = λ h. c .before .first-refusal .ensures .refused (c .if1 .taken) h _
+returns c = c .before .first-refusal .ensures .refused (c .if1 .taken) _
 
 ground-depth-requires : tie.Need-ground-depth-requires
 ground-depth-requires c κs = search needs
@@ -22,21 +20,19 @@ ground-depth-requires c κs = search needs
 patches-in-requires : tie.Need-patches-in-requires
 patches-in-requires c κs =
     let k = c .before in
-    (k .before .first-refusal .ensures .passed (k .if1 .left) .range, c .ground-depth .ensures)
+    (k .before .first-refusal .ensures .rectangle (k .if1 .left), c .ground-depth .ensures)
 
 returns-2 : tie.Need-returns-2
 returns-2 c =
     let k = c .before .before .before in
-    let a = k .before .before .before .args in
-    let f = k .before .first-refusal .ensures .passed (k .if1 .left) in
-    λ h. too-few _ (lists h (a .table .now) (a .values .now)) (headerOf (a .header) .grid) (f .words) (f .values) (f .low) (f .high) (f .range) (omega (arith, c .before .patches-in .ensures, c .if2 .taken))
+    let f = k .before .first-refusal .ensures in
+    too-few _ _ _ (f .sizes (k .if1 .left)) (f .rectangle (k .if1 .left)) (omega (arith, c .before .patches-in .ensures, c .if2 .taken))
 
 returns-3 : tie.Need-returns-3
 returns-3 c =
     let k = c .before .before .before in
-    let a = k .before .before .before .args in
-    let f = k .before .first-refusal .ensures .passed (k .if1 .left) in
-    λ h. enough _ (lists h (a .table .now) (a .values .now)) (headerOf (a .header) .grid) (f .words) (f .values) (f .low) (f .high) (f .range) (omega (arith, c .before .patches-in .ensures, c .if2 .left))
+    let f = k .before .first-refusal .ensures in
+    enough _ _ _ (f .sizes (k .if1 .left)) (f .rectangle (k .if1 .left)) (omega (arith, c .before .patches-in .ensures, c .if2 .left))
 
 pub build-refusal-spec : {M : Type 1} → statement M
 build-refusal-spec =

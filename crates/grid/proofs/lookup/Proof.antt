@@ -3,7 +3,8 @@
 use borrow.Author.Needs.{needs}
 use native.Mathlib.Omega.{arith}
 use mathlib.Core.Path.{sym, _∙_}
-use Rattle.grid.proofs.First.{sizes, shallow, lent-walkable, lookup-first, lookup-beyond, lookup-done}
+use Rattle.picture_laws.proofs.Accepted.{lent-sizes}
+use Rattle.grid.proofs.First.{shallow, lent-walkable, lookup-first, lookup-beyond, lookup-done}
 use Rattle.grid.proofs.lookup.Statement.{statement}
 use Rattle.grid.proofs.lookup.Tie as tie
 
@@ -25,9 +26,9 @@ ground-depth-requires c κs = search needs
 lookup-out-requires : tie.Need-lookup-out-requires
 lookup-out-requires c κs =
     let ok = sym (c .before .before .before .before .check .ensures) ∙ c .before .before .before .if1 .left in
-    let s = sizes _ _ ok in
+    let s = lent-sizes _ _ ok in
     let e = c .ground-depth .ensures in
-    (lent-walkable _ _ _ ok e, omega (arith, s .values), omega (arith, s .low), omega (arith, shallow _ _ s, e))
+    (lent-walkable _ _ _ ok e, omega (arith, s .values), omega (arith, s .low), omega (arith, shallow _ _ ok, e))
 
 returns-3 : tie.Need-returns-3
 returns-3 c =

@@ -3,8 +3,9 @@
 use borrow.Author.Needs.{needs}
 use native.Mathlib.Omega.{arith}
 use mathlib.Core.Path.{sym, _∙_}
-use Rattle.mesh.specs.Headers.{lentOf}
-use Rattle.grid.proofs.First.{sizes, page-first, page-listed, page-done}
+use Rattle.header.specs.Headers.{lentOf}
+use Rattle.picture_laws.proofs.Accepted.{lent-sizes}
+use Rattle.grid.proofs.First.{page-first, page-listed, page-done}
 use Rattle.grid.proofs.page.Statement.{statement}
 use Rattle.grid.proofs.page.Tie as tie
 
@@ -20,7 +21,7 @@ ground-depth-requires c κs = search needs
 write-page-requires : tie.Need-write-page-requires
 write-page-requires c κs =
     let ok = sym (c .before .before .before .check .ensures) ∙ c .before .before .if1 .left in
-    let s = sizes _ _ ok in
+    let s = lent-sizes _ _ ok in
     (record { words = omega (arith, s .words); small = s .high }, omega (arith, s .low), omega (arith, s .values), page-listed _ _ _ ok (s .high) (c .before .ground-depth .ensures))
 
 same-length : tie.Need-same-length

@@ -6,7 +6,7 @@ use mir.Facts.{toZ-ofZ}
 use Rattle.grid.proofs.First.{lent-walkable, lent-few, scan-first, scan-done}
 use Rattle.grid.proofs.scan.Statement.{statement}
 use Rattle.grid.proofs.scan.Tie as tie
-use Rattle.mesh.specs.Headers.{lentOf}
+use Rattle.header.specs.Headers.{lentOf}
 
 check-requires : tie.Need-check-requires
 check-requires c κs = search needs

@@ -6,8 +6,8 @@ use Rattle.grid.proofs.TapeCalls.{tape-first, tape-pictured, tape-done}
 use Rattle.grid.proofs.tape_core.Statement.{statement}
 use Rattle.grid.proofs.tape_core.Tie as tie
 
-check-first-requires : tie.Need-check-first-requires
-check-first-requires c κs = search needs
+check-requires : tie.Need-check-requires
+check-requires c κs = search needs
 
 same-length : tie.Need-same-length
 same-length c = search needs
@@ -16,15 +16,15 @@ same-length-2 : tie.Need-same-length-2
 same-length-2 c = search needs
 
 returns : tie.Need-returns
-returns c = tape-first _ _ _ _ _ (c .before .before .check-first .result .refusal) (c .before .before .check-first .ensures .0) (c .if1 .taken)
+returns c = tape-first _ _ _ (c .before .check .result) (c .before .check .ensures) (c .if1 .taken)
 
 ground-depth-requires : tie.Need-ground-depth-requires
 ground-depth-requires c κs = search needs
 
 run-tape-requires : tie.Need-run-tape-requires
 run-tape-requires c κs =
-    let a = c .before .before .before .before .before .before .before .before .before .before .args in
-    (tape-pictured (a .header) (a .table .now) (a .values .now) (a .capacity) (a .tape .now) (sym (c .before .before .before .before .before .check-first .ensures .0) ∙ c .before .before .before .if1 .left) (c .before .before .ground-depth .ensures), c .before .before .before .before .before .check-first .ensures .1 (c .before .before .before .if1 .left))
+    let a = c .before .before .before .before .before .before .before .before .before .args in
+    tape-pictured (a .header) (a .table .now) (a .values .now) (a .capacity) (a .tape .now) (sym (c .before .before .before .before .check .ensures) ∙ c .before .before .before .if1 .left) (c .before .before .ground-depth .ensures)
 
 with-mark-requires : tie.Need-with-mark-requires
 with-mark-requires c κs = search needs
@@ -38,14 +38,14 @@ same-length-4 c = search needs
 returns-2 : tie.Need-returns-2
 returns-2 c =
     let w = c .before in
-    let a = w .before .before .before .before .before .before .before .before .before .before .before .before .before .before .args in
-    tape-done (a .header) (a .table .now) (a .values .now) (a .capacity) (a .tape .now) (sym (w .before .before .before .before .before .before .before .before .before .check-first .ensures .0) ∙ w .before .before .before .before .before .before .before .if1 .left) (w .before .before .before .before .before .before .ground-depth .ensures) (c .with-mark .ensures) (w .before .before .before .run-tape .ensures)
+    let a = w .before .before .before .before .before .before .before .before .before .before .before .before .before .args in
+    tape-done (a .header) (a .table .now) (a .values .now) (a .capacity) (a .tape .now) (sym (w .before .before .before .before .before .before .before .before .check .ensures) ∙ w .before .before .before .before .before .before .before .if1 .left) (w .before .before .before .before .before .before .ground-depth .ensures) (c .with-mark .ensures) (w .before .before .before .run-tape .ensures)
 
 pub tape-core-spec : {M : Type 1} → statement M
 tape-core-spec =
     tie.close
     (tie.spec
-    check-first-requires
+    check-requires
     same-length
     same-length-2
     returns

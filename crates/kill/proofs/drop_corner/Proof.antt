@@ -1,13 +1,12 @@
--- `edit::kill::drop_corner` meets its contract.
+-- `kill::drop_corner` meets its contract.
 -- Assumes nothing.
 use borrow.Author.Needs.{needs}
-use Rattle.edit_laws.proofs.Lowering.{lowers-nothing, lowers-then}
 use Rattle.patch.proofs.DroppedRows.{corner-nil, corner-kept, corner-gone}
 use Rattle.kill.proofs.drop_corner.Statement.{statement}
 use Rattle.kill.proofs.drop_corner.Tie as tie
 
 returns : tie.Need-returns
-returns c = (corner-nil _ _ _ _ (c .if1 .taken), lowers-nothing _ _, c .before .pre .0)
+returns c = let pre = c .before .pre in (corner-nil _ _ _ _ (c .if1 .taken), pre .0, pre .2)
 
 touched-row-requires : tie.Need-touched-row-requires
 touched-row-requires c κs = search needs
@@ -16,7 +15,10 @@ same-length : tie.Need-same-length
 same-length c = search needs
 
 returns-2 : tie.Need-returns-2
-returns-2 c = (corner-kept _ _ _ _ (c .before .before .before .if1 .left) (c .before .touched-row .ensures) (c .if2 .taken), lowers-nothing _ _, c .before .before .before .before .pre .0)
+returns-2 c =
+    let b = c .before .before .before in
+    let pre = b .before .pre in
+    (corner-kept _ _ _ _ (b .if1 .left) (c .before .touched-row .ensures) (c .if2 .taken), pre .0, pre .2)
 
 link-requires : tie.Need-link-requires
 link-requires c κs = search needs
@@ -33,12 +35,13 @@ same-length-2 c = search needs
 returns-3 : tie.Need-returns-3
 returns-3 c =
     let b₁ = c .before in
-    let b₂ = b₁ .before .before .before in
-    let b₃ = b₂ .before .before in
+    let b₂ = b₁ .before .before .before .before in
+    let b₃ = b₂ .before .before .before in
     let b₄ = b₃ .before .before in
     let b₅ = b₄ .before in
     let b₆ = b₅ .before .before in
-    (corner-gone _ _ _ _ (b₆ .if1 .left) (b₅ .touched-row .ensures) (b₄ .if2 .left) (b₃ .link .ensures .1) (b₂ .free-row .ensures .0) (b₁ .drop-up .ensures .0), lowers-then (b₂ .free-row .ensures .1) (b₁ .drop-up .ensures .1), b₁ .drop-up .ensures .2)
+    let (e, p, mapped) = b₁ .drop-up .ensures in
+    (corner-gone _ _ _ _ (b₆ .if1 .left) (b₅ .touched-row .ensures) (b₄ .if2 .left) (b₃ .link .ensures .1) (b₂ .free-row .ensures .0) e, p, mapped)
 
 pub drop-corner-spec : {M : Type 1} → statement M
 drop-corner-spec =

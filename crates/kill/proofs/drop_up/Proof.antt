@@ -1,4 +1,4 @@
--- `edit::kill::drop_up` meets its contract. The invariant: what is left to do is the same from here as from the start.
+-- `kill::drop_up` meets its contract. The invariant: what is left to do is the same from here as from the start.
 -- Assumes nothing.
 use Prim.Native.Nat.{_≤_}
 use native.Mathlib.Omega.{arith}
@@ -7,20 +7,21 @@ use lib.ListN.{length}
 use borrow.Author.Tests.{not-true, not-false}
 use borrow.Author.Needs.{needs}
 use Rattle.table.specs.Plain.{Plain}
-use Rattle.edit_laws.specs.Tables.{Lowers, dropUp}
-use Rattle.edit_laws.proofs.Lowering.{lowers-nothing, lowers-then}
+use Rattle.table.specs.Words.{freeAt}
+use Rattle.free.specs.FreeMap.{Mapped}
+use Rattle.edit_laws.specs.Tables.{dropUp}
 use Rattle.patch.proofs.DroppedRows.{up-end, up-nil, up-kept, up-on}
 use Rattle.kill.proofs.drop_up.Statement.{statement}
 use Rattle.kill.proofs.drop_up.Tie as tie
 
 abbrev Inv-loop : tie.InvT-loop
-Inv-loop t₀ cap levels n low e₀ k₀ least₀ t e k least = (k ≤ cap) × (length t ≡ length t₀) × (dropUp levels t₀ cap n ≡ dropUp e t cap k) × Lowers t₀ t low least × Plain t cap
+Inv-loop t₀ cap map₀ levels n e₀ k₀ a₀ t map e k a = (k ≤ cap) × (length t ≡ length t₀) × (dropUp levels t₀ cap n ≡ dropUp e t cap k) × Plain t cap × Mapped (freeAt t) map (a .top) (a .count)
 
 abbrev μ-loop : tie.MeasureT-loop
-μ-loop t₀ cap levels n low e₀ k₀ least₀ t e k least = e
+μ-loop t₀ cap map₀ levels n e₀ k₀ a₀ t map e k a = e
 
 loop-holds : tie.Need-loop-holds Inv-loop μ-loop
-loop-holds c = (omega arith, refl, refl, lowers-nothing _ _, search needs)
+loop-holds c = (omega arith, refl, refl, search needs, search needs)
 
 same-length : tie.Need-same-length Inv-loop μ-loop
 same-length c = c .before .before .loop .inv .1
@@ -50,19 +51,20 @@ loop-less : tie.Need-loop-less Inv-loop μ-loop
 loop-less c = omega arith
 
 loop-again : tie.Need-loop-again Inv-loop μ-loop
-loop-again c = (
-  omega arith,
-  c .before .free-row .kept .0 ∙ c .before .before .before .before .before .before .before .before .before .before .loop .inv .1,
-  let b₁ = c .before in
-      let b₂ = b₁ .before .before in
-      let b₃ = b₂ .before .before in
-      let b₄ = b₃ .before in
-      let b₅ = b₄ .before .before in
-      let b₆ = b₅ .before .before in
-      b₆ .loop .inv .2 ∙ up-on _ _ _ (b₆ .loop .e) (λ e. omega arith) (b₅ .if1 .left) (b₄ .kidless .ensures) (not-false _ (b₃ .if2 .left)) (b₂ .link .ensures .1) (b₁ .free-row .ensures .0),
-  lowers-then (c .before .before .before .before .before .before .before .before .before .before .loop .inv .3) (c .before .free-row .ensures .1),
-  c .before .free-row .ensures .2,
-)
+loop-again c =
+    let b₁ = c .before in
+    let b₂ = b₁ .before .before .before in
+    let b₃ = b₂ .before .before in
+    let b₄ = b₃ .before in
+    let b₅ = b₄ .before .before in
+    let b₆ = b₅ .before .before in
+    let (e, p, mapped) = b₁ .free-row .ensures in (
+      omega arith,
+      b₁ .free-row .kept .0 ∙ b₆ .loop .inv .1,
+      b₆ .loop .inv .2 ∙ up-on _ _ _ (b₆ .loop .e) (λ e. omega arith) (b₅ .if1 .left) (b₄ .kidless .ensures) (not-false _ (b₃ .if2 .left)) (b₂ .link .ensures .1) e,
+      p,
+      mapped,
+    )
 
 same-length-3 : tie.Need-same-length-3 Inv-loop μ-loop
 same-length-3 c = c .before .loop .inv .1

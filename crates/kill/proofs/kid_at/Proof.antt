@@ -1,4 +1,4 @@
--- `edit::kill::kid_at` meets its contract.
+-- `kill::kid_at` meets its contract.
 -- Assumes nothing.
 use native.Mathlib.Omega.{arith}
 use borrow.Author.Needs.{needs}

@@ -1,4 +1,4 @@
--- `edit::kill::kidless` meets its contract.
+-- `kill::kidless` meets its contract.
 -- Assumes nothing.
 use borrow.Author.Needs.{needs}
 use Rattle.kill.proofs.kidless.Statement.{statement}

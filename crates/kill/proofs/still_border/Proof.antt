@@ -1,4 +1,4 @@
--- `edit::kill::still_border` meets its contract.
+-- `kill::still_border` meets its contract.
 -- Assumes nothing.
 use native.Mathlib.Omega.{arith}
 use borrow.Author.Needs.{needs}

@@ -1,4 +1,4 @@
--- `edit::kill::still_used` meets its contract.
+-- `kill::still_used` meets its contract.
 -- Assumes nothing.
 use native.Mathlib.Omega.{arith}
 use mathlib.Core.Path.{sym, _∙_}

@@ -1,31 +1,25 @@
 -- `lookup::value_of` meets its contract.
 -- Assumes nothing.
+use Rattle.lookup.proofs.LookupBranches.{as-blank, as-measured, as-carried}
 use borrow.Author.Needs.{needs}
-use Rattle.lookup.proofs.LookupBranches.{as-measured, as-carried, as-blank}
 use Rattle.lookup.proofs.value_of.Statement.{statement}
 use Rattle.lookup.proofs.value_of.Tie as tie
 
-says-requires : tie.Need-says-requires
-says-requires c κs = search needs
-
-value-requires : tie.Need-value-requires
-value-requires c κs = search needs
+is-blank-requires : tie.Need-is-blank-requires
+is-blank-requires c κs = search needs
 
 returns : tie.Need-returns
-returns c = as-measured _ _ _ (c .before .before .says .ensures) (c .value .ensures) (c .before .if1 .taken)
+returns c = as-blank (c .before .before .args .c) (c .before .is-blank .ensures) (c .if1 .taken)
 
-says-requires-2 : tie.Need-says-requires-2
-says-requires-2 c κs = search needs
-
-value-requires-2 : tie.Need-value-requires-2
-value-requires-2 c κs = search needs
+is-measured-requires : tie.Need-is-measured-requires
+is-measured-requires c κs = search needs
 
 returns-2 : tie.Need-returns-2
-returns-2 c = as-carried _ _ _ (c .before .before .before .before .says .ensures) (c .value2 .ensures) (c .before .before .before .if1 .left) (c .before .before .says2 .ensures) (c .before .if2 .taken)
+returns-2 c = as-measured (c .before .before .before .before .args .c) (c .before .before .before .is-blank .ensures) (c .before .before .if1 .left) (c .before .is-measured .ensures) (c .if2 .taken)
 
 returns-3 : tie.Need-returns-3
-returns-3 c = as-blank _ _ _ (c .before .before .before .says .ensures) (c .before .before .if1 .left) (c .before .says2 .ensures) (c .if2 .left)
+returns-3 c = as-carried (c .before .before .before .before .args .c) (c .before .before .before .is-blank .ensures) (c .before .before .if1 .left) (c .before .is-measured .ensures) (c .if2 .left)
 
 pub value-of-spec : {M : Type 1} → statement M
 value-of-spec =
-    tie.close (tie.spec says-requires value-requires returns says-requires-2 value-requires-2 returns-2 returns-3)
+    tie.close (tie.spec is-blank-requires returns is-measured-requires returns-2 returns-3)

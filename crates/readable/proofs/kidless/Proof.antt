@@ -1,4 +1,4 @@
--- `readable::no_kids` meets its contract: the kids in turn.
+-- `readable::kidless` meets its contract: the kids in turn.
 -- Assumes nothing.
 use Rattle.readable.proofs.KidlessRows.{kidless-is}
 use borrow.Author.Needs.{needs}

@@ -1,4 +1,4 @@
--- `readable::readable` meets its contract. The invariant: the rows below n pass.
+-- `readable::plain` meets its contract. The invariant: the rows below n pass.
 -- Assumes nothing.
 use mathlib.Core.Path.{_≡_, refl}
 use mathlib.Core.Bool.{true}

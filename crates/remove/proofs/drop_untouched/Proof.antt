@@ -6,7 +6,7 @@ use Rattle.remove.proofs.drop_untouched.Statement.{statement}
 use Rattle.remove.proofs.drop_untouched.Tie as tie
 
 returns : tie.Need-returns
-returns c = (untouched-nil _ _ _ _ (c .if1 .taken), c .before .pre .0)
+returns c = let pre = c .before .pre in (untouched-nil _ _ _ (c .if1 .taken), pre .0, pre .2)
 
 touched-row-requires : tie.Need-touched-row-requires
 touched-row-requires c κs = search needs
@@ -15,10 +15,13 @@ same-length : tie.Need-same-length
 same-length c = search needs
 
 returns-2 : tie.Need-returns-2
-returns-2 c = (untouched-kept _ _ _ _ (c .before .before .before .if1 .left) (c .before .touched-row .ensures) (c .if2 .taken), c .before .before .before .before .pre .0)
+returns-2 c =
+    let b = c .before .before .before in
+    let pre = b .before .pre in
+    (untouched-kept _ _ _ (b .if1 .left) (c .before .touched-row .ensures) (c .if2 .taken), pre .0, pre .2)
 
-take-out-requires : tie.Need-take-out-requires
-take-out-requires c κs = search needs
+free-row-requires : tie.Need-free-row-requires
+free-row-requires c κs = search needs
 
 same-length-2 : tie.Need-same-length-2
 same-length-2 c = search needs
@@ -26,10 +29,11 @@ same-length-2 c = search needs
 returns-3 : tie.Need-returns-3
 returns-3 c =
     let b₁ = c .before in
-    let b₂ = b₁ .before .before in
+    let b₂ = b₁ .before .before .before in
     let b₃ = b₂ .before in
     let b₄ = b₃ .before .before in
-    (untouched-gone _ _ _ _ (b₄ .if1 .left) (b₃ .touched-row .ensures) (b₂ .if2 .left) (b₁ .take-out .ensures .0), b₁ .take-out .ensures .1)
+    let (e, p, mapped) = b₁ .free-row .ensures in
+    (untouched-gone _ _ _ (b₄ .if1 .left) (b₃ .touched-row .ensures) (b₂ .if2 .left) e, p, mapped)
 
 pub drop-untouched-spec : {M : Type 1} → statement M
 drop-untouched-spec =
@@ -39,6 +43,6 @@ drop-untouched-spec =
     touched-row-requires
     same-length
     returns-2
-    take-out-requires
+    free-row-requires
     same-length-2
     returns-3)

@@ -3,7 +3,7 @@
 use Prim.Native.Nat.{_+_, _*_, _-_, _≤_}
 use mathlib.Core.Path.{_≡_, sym}
 use Rattle.number_laws.specs.Sizes.{levelsSize}
-use Rattle.mesh.specs.Headers.{headerOf}
+use Rattle.header.specs.Headers.{headerOf}
 use Rattle.place_laws.proofs.Base.{base-range}
 use Rattle.build.proofs.LevelSizes.{sizes-none, sizes-more, sizes-all}
 use native.Mathlib.Omega.{arith}

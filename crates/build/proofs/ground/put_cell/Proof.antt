@@ -1,6 +1,6 @@
 -- `build::ground::put_cell` meets its contract.
 -- Assumes nothing.
-use Rattle.mesh.specs.Headers.{headerOf}
+use Rattle.header.specs.Headers.{headerOf}
 use Rattle.build.proofs.GroundRow.{row-out, row-in}
 use borrow.Author.Needs.{needs}
 use Rattle.build.proofs.ground.put_cell.Statement.{statement}

@@ -3,7 +3,7 @@
 use Prim.Native.Nat.{_-_, _≤_}
 use mathlib.Core.Path.{_≡_, refl, sym, _∙_}
 use lib.ListN.{length}
-use Rattle.mesh.specs.Headers.{headerOf}
+use Rattle.header.specs.Headers.{headerOf}
 use Rattle.edit_laws.specs.Built.{eachRow, groundRow}
 use Rattle.build.proofs.RowTurns.{rows-on, rows-done}
 use native.Mathlib.Omega.{arith}

@@ -5,7 +5,7 @@ use Prim.Native.Nat.{_≤_}
 use mathlib.Core.Path.{_≡_, refl, _∙_}
 use lib.ListN.{length}
 use Rattle.edit_laws.specs.Growing.{LevelsToGrow}
-use Rattle.mesh.specs.Headers.{headerOf}
+use Rattle.header.specs.Headers.{headerOf}
 use Rattle.edit_laws.specs.Built.{growLevels, groundFrom}
 use Rattle.edit_laws.proofs.Sprouts.{levels-bounds}
 use Rattle.build.specs.BuildSteps.{growth}

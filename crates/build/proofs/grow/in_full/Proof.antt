@@ -1,7 +1,7 @@
 -- `build::grow::in_full` meets its contract.
 -- Assumes nothing.
 use borrow.Author.Needs.{needs}
-use Rattle.mesh.specs.Headers.{headerOf}
+use Rattle.header.specs.Headers.{headerOf}
 use Rattle.build.proofs.LevelSizes.{full-test}
 use Rattle.build.proofs.grow.in_full.Statement.{statement}
 use Rattle.build.proofs.grow.in_full.Tie as tie

@@ -2,7 +2,7 @@
 -- Assumes nothing.
 use borrow.Author.Needs.{needs}
 use mathlib.Core.Path.{refl}
-use Rattle.mesh.specs.Headers.{headerOf}
+use Rattle.header.specs.Headers.{headerOf}
 use Rattle.build.proofs.Seams.{sew-north, sew-south, sew-not}
 use Rattle.build.proofs.seam.seam_row.Statement.{statement}
 use Rattle.build.proofs.seam.seam_row.Tie as tie

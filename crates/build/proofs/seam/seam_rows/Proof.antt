@@ -5,7 +5,7 @@ use Prim.Native.Nat.{_-_, _≤_}
 use mathlib.Core.Path.{_≡_, refl, sym, _∙_}
 use lib.ListN.{length}
 use borrow.Author.Tests.{not-true, not-false}
-use Rattle.mesh.specs.Headers.{headerOf}
+use Rattle.header.specs.Headers.{headerOf}
 use Rattle.edit_laws.specs.Built.{eachRow, seamRow}
 use Rattle.table.specs.Plain.{Plain}
 use Rattle.build.proofs.RowTurns.{rows-on, rows-done}

@@ -1,27 +1,27 @@
--- `cells::carried_ok` meets its contract.
+-- `cells::amounts::carried_ok` meets its contract.
 -- Assumes nothing.
 use Rattle.cells.proofs.ValueRows.{carried-is}
 use borrow.Author.Needs.{needs}
 use Rattle.cells.proofs.amounts.carried_ok.Statement.{statement}
 use Rattle.cells.proofs.amounts.carried_ok.Tie as tie
 
+carried-at-requires : tie.Need-carried-at-requires
+carried-at-requires c κs = search needs
+
 link-requires : tie.Need-link-requires
 link-requires c κs = search needs
 
-says-requires : tie.Need-says-requires
-says-requires c κs = search needs
+carried-at-requires-2 : tie.Need-carried-at-requires-2
+carried-at-requires-2 c κs = search needs
 
-says-requires-2 : tie.Need-says-requires-2
-says-requires-2 c κs = search needs
+is-carried-down-requires : tie.Need-is-carried-down-requires
+is-carried-down-requires c κs = search needs
 
-value-requires : tie.Need-value-requires
-value-requires c κs = search needs
+is-blank-requires : tie.Need-is-blank-requires
+is-blank-requires c κs = search needs
 
-value-requires-2 : tie.Need-value-requires-2
-value-requires-2 c κs = search needs
-
-same-bits-requires : tie.Need-same-bits-requires
-same-bits-requires c κs = search needs
+same-value-requires : tie.Need-same-value-requires
+same-value-requires c κs = search needs
 
 returns : tie.Need-returns
 returns c =
@@ -30,17 +30,16 @@ returns c =
     let p3 = p2 .before in
     let p4 = p3 .before in
     let p5 = p4 .before in
-    let p7 = p5 .before .before in
-    carried-is _ _ (p7 .args .v .now) _ (p5 .link .ensures .1) (p4 .says .ensures) (p3 .says2 .ensures) (p2 .value .ensures) (p1 .value2 .ensures) (c .same-bits .ensures)
+    carried-is _ _ _ _ (p5 .carried-at .ensures) (p4 .link .ensures .1) (p3 .carried-at2 .ensures) (p2 .is-carried-down .ensures) (p1 .is-blank .ensures) (c .same-value .ensures)
 
 pub carried-ok-spec : {M : Type 1} → statement M
 carried-ok-spec =
     tie.close
     (tie.spec
+    carried-at-requires
     link-requires
-    says-requires
-    says-requires-2
-    value-requires
-    value-requires-2
-    same-bits-requires
+    carried-at-requires-2
+    is-carried-down-requires
+    is-blank-requires
+    same-value-requires
     returns)

@@ -1,4 +1,4 @@
--- `cells::unlinked` meets its contract: the words in turn.
+-- `cells::empty::unlinked` meets its contract: the words in turn.
 -- Assumes nothing.
 use Rattle.cells.proofs.EmptyRows.{zeros-are}
 use borrow.Author.Needs.{needs}

@@ -1,4 +1,4 @@
--- `cells::zero_ok` meets its contract.
+-- `cells::empty::zero_ok` meets its contract.
 -- Assumes nothing.
 use Rattle.cells.proofs.EmptyRows.{zero-is}
 use borrow.Author.Needs.{needs}

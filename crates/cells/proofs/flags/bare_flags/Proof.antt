@@ -1,4 +1,4 @@
--- `cells::bare_flags` meets its contract: the walls of both kinds at once.
+-- `cells::flags::bare_flags` meets its contract: the walls of both kinds at once.
 -- Assumes nothing.
 use Rattle.cells.proofs.FlagSums.{bare-walls}
 use native.Mathlib.Omega.{arith}

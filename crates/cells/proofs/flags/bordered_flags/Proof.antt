@@ -1,4 +1,4 @@
--- `cells::bordered_flags` meets its contract: the walls of both kinds at once.
+-- `cells::flags::bordered_flags` meets its contract: the walls of both kinds at once.
 -- Assumes nothing.
 use Rattle.cells.proofs.FlagSums.{bordered-sum}
 use native.Mathlib.Omega.{arith}

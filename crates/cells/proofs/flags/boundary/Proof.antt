@@ -1,4 +1,4 @@
--- `cells::boundary` meets its contract: three cases of the definition.
+-- `cells::flags::boundary` meets its contract: three cases of the definition.
 -- Assumes nothing.
 use borrow.Author.Tests.{not-true, not-false}
 use Rattle.table.proofs.Tests.{is-eq, is-other}

@@ -1,4 +1,4 @@
--- `cells::cell_flags` meets its contract, by whether the cell's own walls have two cells.
+-- `cells::flags::cell_flags` meets its contract, by whether the cell's own walls have two cells.
 -- Assumes nothing.
 use mathlib.Core.Path.{sym, ap, _∙_}
 use Rattle.mesh.specs.Mesh.{completeBit}

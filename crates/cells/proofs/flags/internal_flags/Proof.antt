@@ -1,4 +1,4 @@
--- `cells::internal_flags` meets its contract: the sum with its own walls left out.
+-- `cells::flags::internal_flags` meets its contract: the sum with its own walls left out.
 -- Assumes nothing.
 use Rattle.cells.proofs.FlagSums.{internal-sum}
 use native.Mathlib.Omega.{arith}

@@ -1,4 +1,4 @@
--- `cells::own` meets its contract.
+-- `cells::flags::own` meets its contract.
 -- Assumes nothing.
 use borrow.Author.Needs.{needs}
 use Rattle.cells.proofs.flags.own.Statement.{statement}

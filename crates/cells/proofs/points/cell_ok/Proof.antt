@@ -1,4 +1,4 @@
--- `cells::cell_ok` meets its contract: its patches, its place, its kids.
+-- `cells::points::cell_ok` meets its contract: its patches, its place, its kids.
 -- Assumes nothing.
 use borrow.Author.Tests.{not-true, not-false}
 use Rattle.cells.proofs.CellRows.{cell-bare, cell-outside, cell-is}

@@ -1,4 +1,4 @@
--- `cells::ghost_ok` meets its contract.
+-- `cells::points::ghost_ok` meets its contract.
 -- Assumes nothing.
 use Rattle.cells.proofs.CellRows.{ghost-is}
 use borrow.Author.Needs.{needs}

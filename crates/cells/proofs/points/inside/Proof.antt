@@ -1,4 +1,4 @@
--- `cells::inside` meets its contract, by the level.
+-- `cells::points::inside` meets its contract, by the level.
 -- Assumes nothing.
 use Rattle.table.proofs.Tests.{is-eq, is-other}
 use borrow.Author.Needs.{needs}

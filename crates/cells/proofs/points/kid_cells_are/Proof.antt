@@ -1,4 +1,4 @@
--- `cells::kid_cells_are` meets its contract.
+-- `cells::points::kid_cells_are` meets its contract.
 -- Assumes nothing.
 use Rattle.cells.proofs.CellRows.{kid-cells-is}
 use borrow.Author.Needs.{needs}

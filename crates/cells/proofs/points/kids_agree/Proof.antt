@@ -1,4 +1,4 @@
--- `cells::kids_agree` meets its contract: without kids, and with them.
+-- `cells::points::kids_agree` meets its contract: without kids, and with them.
 -- Assumes nothing.
 use Rattle.cells.proofs.CellRows.{agree-is, agree-none}
 use borrow.Author.Needs.{needs}

@@ -1,4 +1,4 @@
--- `cells::point_ok` meets its contract, by whether the row is a cell.
+-- `cells::points::point_ok` meets its contract, by whether the row is a cell.
 -- Assumes nothing.
 use borrow.Author.Tests.{not-true, not-false}
 use mathlib.Core.Path.{sym, _∙_}

@@ -1,4 +1,4 @@
--- `cells::sentence_if` meets its contract.
+-- `cells::points::sentence_if` meets its contract.
 -- Assumes nothing.
 use borrow.Author.Needs.{needs}
 use Rattle.cells.proofs.points.sentence_if.Statement.{statement}

@@ -1,4 +1,4 @@
--- `cells::sentence_ok` meets its contract.
+-- `cells::points::sentence_ok` meets its contract.
 -- Assumes nothing.
 use Rattle.cells.proofs.CellRows.{sentence-is}
 use borrow.Author.Needs.{needs}

@@ -1,4 +1,4 @@
--- `cells::touched_ok` meets its contract, by whether the row itself is a cell.
+-- `cells::points::touched_ok` meets its contract, by whether the row itself is a cell.
 -- Assumes nothing.
 use Rattle.cells.proofs.CellRows.{touched-own, touched-is}
 use borrow.Author.Needs.{needs}

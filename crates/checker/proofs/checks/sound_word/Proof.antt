@@ -1,4 +1,4 @@
--- `checker::sound_word` meets its contract: a word that is read is one of 32 bits.
+-- `checker::checks::sound_word` meets its contract: a word that is read is one of 32 bits.
 -- Assumes nothing.
 use borrow.Author.Needs.{needs}
 use Rattle.checker.proofs.Checking.{word-fits}

@@ -1,4 +1,4 @@
--- `checker::words_fit` meets its contract. The invariant: the words below i fit.
+-- `checker::checks::words_fit` meets its contract. The invariant: the words below i fit.
 -- Assumes nothing.
 use Prim.Native.Nat.{ℕ, _≤_, _<_, _-_}
 use native.Mathlib.Omega.{arith}

@@ -1,4 +1,4 @@
--- `page::bits` meets its contract: only a finite value is asked for its bits.
+-- `lines::leaf_lines::bits` meets its contract: only a finite value is asked for its bits.
 -- Assumes nothing.
 use mathlib.Core.Path.{sym, _∙_}
 use borrow.Author.Needs.{needs}

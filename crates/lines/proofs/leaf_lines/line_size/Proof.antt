@@ -1,4 +1,4 @@
--- `page::line_size` meets its contract: the digits of the four numbers, and what stands around them.
+-- `lines::leaf_lines::line_size` meets its contract: the digits of the four numbers, and what stands around them.
 -- Assumes nothing.
 use native.Mathlib.Omega.{arith}
 use borrow.Author.Needs.{needs}

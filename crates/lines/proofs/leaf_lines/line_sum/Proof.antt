@@ -1,4 +1,4 @@
--- `page::line_sum` meets its contract: the line is put on a list of its own, and summed.
+-- `lines::leaf_lines::line_sum` meets its contract: the line is put on a list of its own, and summed.
 -- Assumes nothing.
 use Prim.Native.Nat.{_%_, _^_}
 use native.Mathlib.Omega.{arith}
@@ -32,7 +32,7 @@ slice-aggregate-put-lines c = search needs
 put-lines-requires : tie.Need-put-lines-requires
 put-lines-requires c κs =
     let a = c .before .before .before .before .args in
-    ((c .before .before .before .before .pre .0 .0, c .before .before .before .before .pre .0 .1, c .before .before .before .before .pre .0 .2, alone-few (a .leaves .now) (a .i) (c .before .before .before .before .pre .1), alone-within _ (a .leaves .now) (a .i) (c .before .before .before .before .pre .1) (c .before .before .before .before .pre .0 .4)), omega (arith, alone-short (a .t .now) (a .v .now) (a .leaves .now) (a .i) (c .before .before .before .before .pre .1)))
+    ((c .before .before .before .before .pre .0 .0, c .before .before .before .before .pre .0 .1, alone-few (a .leaves .now) (a .i) (c .before .before .before .before .pre .1), alone-within _ (a .leaves .now) (a .i) (c .before .before .before .before .pre .1) (c .before .before .before .before .pre .0 .3)), omega (arith, alone-short (a .t .now) (a .v .now) (a .leaves .now) (a .i) (c .before .before .before .before .pre .1)))
 
 array-share-prefix-line : tie.Need-array-share-prefix-line
 array-share-prefix-line c =

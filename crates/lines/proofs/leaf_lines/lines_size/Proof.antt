@@ -1,4 +1,4 @@
--- `page::lines_size` meets its contract: as far as the loop came, that many lines are measured.
+-- `lines::leaf_lines::lines_size` meets its contract: as far as the loop came, that many lines are measured.
 -- Assumes nothing.
 use Prim.Native.Nat.{_-_, _*_, _≤_}
 use native.Mathlib.Omega.{arith}
@@ -31,7 +31,7 @@ cast-line-size : tie.Need-cast-line-size Inv-loop μ-loop
 cast-line-size c = omega (arith, c .shared-slice-known3 .given (c .before .before .loop .i))
 
 line-size-requires : tie.Need-line-size-requires Inv-loop μ-loop
-line-size-requires c κs = omega (arith, c .before .before .before .before .before .pre .4 (c .before .before .loop .i))
+line-size-requires c κs = omega (arith, c .before .before .before .before .before .pre .0 .words, c .before .before .before .before .before .pre .0 .small, c .before .before .before .before .before .pre .3 (c .before .before .loop .i))
 
 add-size : tie.Need-add-size Inv-loop μ-loop
 add-size c = search needs

@@ -1,4 +1,4 @@
--- `page::lines_sum` meets its contract: as far as the loop came, that many lines are summed.
+-- `lines::leaf_lines::lines_sum` meets its contract: as far as the loop came, that many lines are summed.
 -- Assumes nothing.
 use Prim.Native.Nat.{_+_, _-_, _%_, _^_, _≤_}
 use native.Mathlib.Omega.{arith}

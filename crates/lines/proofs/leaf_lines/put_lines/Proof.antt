@@ -1,4 +1,4 @@
--- `page::put_lines` meets its contract: as far as the loop came, that many lines are put.
+-- `lines::leaf_lines::put_lines` meets its contract: as far as the loop came, that many lines are put.
 -- Assumes nothing.
 use Prim.Native.Nat.{_-_, _≤_}
 use native.Mathlib.Omega.{arith}
@@ -35,7 +35,7 @@ cast-put-line c = omega (arith, c .shared-slice-known3 .given (c .before .before
 put-line-requires : tie.Need-put-line-requires Inv-loop μ-loop
 put-line-requires c κs =
     let a = c .before .before .before .before .before .before .before .args in
-    omega (arith, c .before .before .before .before .before .before .before .pre, c .before .before .before .before .before .before .before .pre .0 .4 (c .before .before .before .loop .i), text-put (c .before .before .before .loop .inv .2), lines-room (a .t .now) (a .v .now) (a .leaves .now) (c .before .before .before .loop .i) (c .before .before .loop-test .taken))
+    omega (arith, c .before .before .before .before .before .before .before .pre, c .before .before .before .before .before .before .before .pre .0 .0 .words, c .before .before .before .before .before .before .before .pre .0 .0 .small, c .before .before .before .before .before .before .before .pre .0 .3 (c .before .before .before .loop .i), text-put (c .before .before .before .loop .inv .2), lines-room (a .t .now) (a .v .now) (a .leaves .now) (c .before .before .before .loop .i) (c .before .before .loop-test .taken))
 
 add-i : tie.Need-add-i Inv-loop μ-loop
 add-i c = search needs

@@ -1,4 +1,4 @@
--- `page::put_value` meets its contract: the letter, the blank, the digits and the line feed.
+-- `lines::leaf_lines::put_value` meets its contract: the letter, the blank, the digits and the line feed.
 -- Assumes nothing.
 use native.Mathlib.Omega.{arith}
 use borrow.Author.Needs.{needs}
@@ -31,7 +31,7 @@ same-length c = search needs
 
 returns : tie.Need-returns
 returns c =
-    put-as (value-line _ _ (c .before .before .before .before .before .before .before .before .before .before .before .before .before .before .before .before .before .before .before .args .status) _ (c .before .before .before .before .before .before .before .before .before .before .before .before .before .before .before .before .letter-of .ensures) (c .before .before .before .before .before .before .before .bits .ensures))
+    put-as (value-line _ _ (c .before .before .before .before .before .before .before .before .before .before .before .before .before .before .before .before .before .before .before .args .c) (c .before .before .before .before .before .before .before .before .before .before .before .before .before .before .before .before .letter-of .ensures) (c .before .before .before .before .before .before .before .bits .ensures))
     (put-more (put-more (put-more (c .before .before .before .before .before .before .before .before .before .before .before .before .before .before .before .put-byte .ensures) (c .before .before .before .before .before .before .before .before .before .before .before .put-byte2 .ensures)) (c .before .before .before .before .before .before .put-hex .ensures)) (c .before .before .put-byte3 .ensures))
 
 pub put-value-spec : {M : Type 1} → statement M

@@ -1,4 +1,4 @@
--- `page::sum_of` meets its contract: as far as the loop came, that much is summed.
+-- `lines::leaf_lines::sum_of` meets its contract: as far as the loop came, that much is summed.
 -- Assumes nothing.
 use Prim.Native.Nat.{_-_, _%_, _^_, _≤_}
 use native.Mathlib.Omega.{arith}

@@ -1,4 +1,4 @@
--- `page::digits` meets its contract, by the power of ten that is above the number.
+-- `lines::numerals::digits` meets its contract, by the power of ten that is above the number.
 -- Assumes nothing.
 use mathlib.Core.Path.{sym}
 use Rattle.lines.proofs.Decimals.{decimal-one, decimal-size}

@@ -1,4 +1,4 @@
--- `page::put_decimal` meets its contract. The invariant: with the digits that are left, what is put is the decimal.
+-- `lines::numerals::put_decimal` meets its contract. The invariant: with the digits that are left, what is put is the decimal.
 -- Assumes nothing.
 use Rattle.lines.proofs.Decimals.{decDigit, decimal-places}
 use Rattle.lines.proofs.Puts.{places, places-turn, places-done}

@@ -1,4 +1,4 @@
--- `page::put_hex` meets its contract. The invariant: with the digits that are left, what is put is the 16 digits.
+-- `lines::numerals::put_hex` meets its contract. The invariant: with the digits that are left, what is put is the 16 digits.
 -- Assumes nothing.
 use Rattle.lines.proofs.Decimals.{hex-places, hex-long}
 use Rattle.lines.proofs.Puts.{places, places-turn, places-done}

@@ -1,4 +1,4 @@
--- `page::put_number` meets its contract: the digits, and then the blank.
+-- `lines::numerals::put_number` meets its contract: the digits, and then the blank.
 -- Assumes nothing.
 use native.Mathlib.Omega.{arith}
 use borrow.Author.Needs.{needs}

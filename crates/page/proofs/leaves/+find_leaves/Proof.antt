@@ -1,4 +1,4 @@
--- `page::find_leaves` meets its contract: a row itself, and then the leaves of its four kids. The measure is the number of levels left.
+-- `page::leaves::find_leaves` meets its contract: a row itself, and then the leaves of its four kids. The measure is the number of levels left.
 -- Assumes nothing.
 use Prim.Native.Nat.{ℕ, _<_}
 use native.Mathlib.Omega.{arith}

@@ -1,4 +1,4 @@
--- `page::put_own` meets its contract: a leaf is put.
+-- `page::leaves::put_own` meets its contract: a leaf is put.
 -- Assumes nothing.
 use native.Mathlib.Omega.{arith}
 use mathlib.Core.Path.{sym, ap, _∙_}

@@ -1,8 +1,8 @@
--- `page::body_size` meets its contract: the first line, and then the leaves'.
+-- `page::pages::body_size` meets its contract: the first line, and then the leaves'.
 -- Assumes nothing.
 use native.Mathlib.Omega.{arith}
 use borrow.Author.Needs.{needs}
-use Rattle.mesh.specs.Headers.{headerOf}
+use Rattle.header.specs.Headers.{headerOf}
 use Rattle.page.proofs.PagePut.{body-size}
 use Rattle.page.proofs.pages.body_size.Tie as tie
 use Rattle.page.proofs.pages.body_size.Statement.{statement}

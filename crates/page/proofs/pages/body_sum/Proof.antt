@@ -1,11 +1,11 @@
--- `page::body_sum` meets its contract: the first line is put on a list of its own and summed, and then the leaves'.
+-- `page::pages::body_sum` meets its contract: the first line is put on a list of its own and summed, and then the leaves'.
 -- Assumes nothing.
 use native.Mathlib.Omega.{arith}
 use mathlib.Core.Path.{sym, ap}
 use lib.Seq.{length-take-le}
 use borrow.Author.Needs.{needs}
 use Rattle.mesh.specs.Page.{total}
-use Rattle.mesh.specs.Headers.{headerOf}
+use Rattle.header.specs.Headers.{headerOf}
 use Rattle.lines.proofs.Puts.{text-put, put-front}
 use Rattle.lines.proofs.Worded.{head-short}
 use Rattle.page.proofs.PagePut.{body-total}

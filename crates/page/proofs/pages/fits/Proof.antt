@@ -1,11 +1,11 @@
--- `page::fits` meets its contract: the longest last line fits, or its length is worked out.
+-- `page::pages::fits` meets its contract: the longest last line fits, or its length is worked out.
 -- Assumes nothing.
 use native.Mathlib.Omega.{arith}
 use mathlib.Core.Path.{refl, sym, ap}
 use lib.Dec.{leb}
 use borrow.Author.Needs.{needs}
 use borrow.Author.Tests.{le-leb}
-use Rattle.mesh.specs.Headers.{headerOf}
+use Rattle.header.specs.Headers.{headerOf}
 use Rattle.page.proofs.PagePut.{page-short, page-size}
 use Rattle.page.proofs.pages.fits.Tie as tie
 use Rattle.page.proofs.pages.fits.Statement.{statement}

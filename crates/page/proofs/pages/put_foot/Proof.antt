@@ -1,4 +1,4 @@
--- `page::put_foot` meets its contract, word by word.
+-- `page::pages::put_foot` meets its contract, word by word.
 -- Assumes nothing.
 use native.Mathlib.Omega.{arith}
 use borrow.Author.Needs.{needs}

@@ -1,8 +1,8 @@
--- `page::put_head` meets its contract, word by word.
+-- `page::pages::put_head` meets its contract, word by word.
 -- Assumes nothing.
 use native.Mathlib.Omega.{arith}
 use borrow.Author.Needs.{needs}
-use Rattle.mesh.specs.Headers.{headerOf}
+use Rattle.header.specs.Headers.{headerOf}
 use Rattle.lines.proofs.Puts.{put-more, put-as, text-put}
 use Rattle.lines.proofs.Worded.{head-line, head-size, number-put}
 use Rattle.page.proofs.pages.put_head.Tie as tie

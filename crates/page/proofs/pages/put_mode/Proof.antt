@@ -1,7 +1,7 @@
--- `page::put_mode` meets its contract: one word or the other, by the mode.
+-- `page::pages::put_mode` meets its contract: one word or the other, by the mode.
 -- Assumes nothing.
 use borrow.Author.Needs.{needs}
-use Rattle.mesh.specs.Headers.{headerOf}
+use Rattle.header.specs.Headers.{headerOf}
 use Rattle.lines.proofs.Puts.{put-as}
 use Rattle.lines.proofs.Worded.{ring-word, open-word}
 use Rattle.page.proofs.pages.put_mode.Tie as tie

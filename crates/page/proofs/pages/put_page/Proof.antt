@@ -1,11 +1,11 @@
--- `page::put_page` meets its contract: the first line, the leaves', and the last, with the sum of all before it.
+-- `page::pages::put_page` meets its contract: the first line, the leaves', and the last, with the sum of all before it.
 -- Assumes nothing.
 use Prim.Native.Nat.{_%_, _^_}
 use native.Mathlib.Omega.{arith}
 use mathlib.Core.Path.{refl, sym, ap, _∙_}
 use lib.Seq.{length-take-le}
 use borrow.Author.Needs.{needs}
-use Rattle.mesh.specs.Headers.{headerOf}
+use Rattle.header.specs.Headers.{headerOf}
 use Rattle.lines.proofs.Puts.{text-put}
 use Rattle.page.proofs.PagePut.{page-long, page-lines, body-sum, page-put}
 use Rattle.page.proofs.pages.put_page.Tie as tie

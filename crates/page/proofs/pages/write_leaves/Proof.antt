@@ -1,7 +1,7 @@
--- `page::write_leaves` meets its contract: refused, or written, by whether the page fits.
+-- `page::pages::write_leaves` meets its contract: refused, or written, by whether the page fits.
 -- Assumes nothing.
 use borrow.Author.Needs.{needs}
-use Rattle.mesh.specs.Headers.{headerOf}
+use Rattle.header.specs.Headers.{headerOf}
 use Rattle.page.specs.PageRows.{pageOf}
 use Rattle.page.proofs.PagePut.{page-over, page-room, page-refused, page-written}
 use Rattle.page.proofs.pages.write_leaves.Tie as tie

@@ -1,10 +1,10 @@
--- `page::write_page` meets its contract: what was found are the leaves.
+-- `page::pages::write_page` meets its contract: what was found are the leaves.
 -- Assumes nothing.
 use native.Mathlib.Omega.{arith}
 use mathlib.Core.Path.{sym, ap, _∙_}
 use lib.Seq.{length-take-le}
 use borrow.Author.Needs.{needs}
-use Rattle.mesh.specs.Headers.{headerOf}
+use Rattle.header.specs.Headers.{headerOf}
 use Rattle.mesh.specs.Call.{writing}
 use Rattle.page.specs.PageRows.{rowPage, rowOut, pageOf}
 use Rattle.lines.proofs.Puts.{text-put, put-front}
@@ -30,7 +30,7 @@ slice-aggregate-write-leaves c = sym (length-take-le _ _ (omega (arith, c .befor
 
 write-leaves-requires : tie.Need-write-leaves-requires
 write-leaves-requires c κs =
-    (c .before .before .before .before .before .before .before .pre .0 .words, c .before .before .before .before .before .before .before .pre .2, c .before .before .before .before .before .before .before .pre .0 .small, found-few (c .before .before .before .find-leaves .ensures) (c .before .before .before .before .before .before .before .pre .3) (c .before .before .before .before .before .before .before .pre .3), found-within (c .before .before .before .find-leaves .ensures) (c .before .before .before .before .before .before .before .pre .3) _ (leaves-within _ _ _ _ (c .before .before .before .before .before .before .before .pre .1)))
+    (c .before .before .before .before .before .before .before .pre .0, c .before .before .before .before .before .before .before .pre .2, found-few (c .before .before .before .find-leaves .ensures) (c .before .before .before .before .before .before .before .pre .3) (c .before .before .before .before .before .before .before .pre .3), found-within (c .before .before .before .find-leaves .ensures) (c .before .before .before .before .before .before .before .pre .3) _ (leaves-within _ _ _ _ (c .before .before .before .before .before .before .before .pre .1)))
 
 same-length : tie.Need-same-length
 same-length c = search needs

@@ -1,4 +1,4 @@
--- `edit::anew::boundary` meets its contract: three cases of the definition.
+-- `patch::anew::boundary` meets its contract: three cases of the definition.
 -- Assumes nothing.
 use borrow.Author.Tests.{not-true, not-false}
 use Rattle.table.proofs.LinkRanges.{level-zero}

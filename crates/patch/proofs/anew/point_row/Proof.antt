@@ -1,4 +1,4 @@
--- `edit::anew::point_row` meets its contract.
+-- `patch::anew::point_row` meets its contract.
 -- Assumes nothing.
 use native.Mathlib.Omega.{arith}
 use borrow.Author.Needs.{needs}

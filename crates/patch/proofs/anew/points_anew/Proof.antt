@@ -1,4 +1,4 @@
--- `edit::anew::points_anew` meets its contract: the walls of both kinds at once.
+-- `patch::anew::points_anew` meets its contract: the walls of both kinds at once.
 -- Assumes nothing.
 use native.Mathlib.Omega.{arith}
 use borrow.Author.Needs.{needs}

@@ -1,4 +1,4 @@
--- `edit::anew::wall_row` meets its contract.
+-- `patch::anew::wall_row` meets its contract.
 -- Assumes nothing.
 use native.Mathlib.Omega.{arith}
 use borrow.Author.Needs.{needs}

@@ -1,4 +1,4 @@
--- `edit::anew::walls_anew` meets its contract.
+-- `patch::anew::walls_anew` meets its contract.
 -- Assumes nothing.
 use native.Mathlib.Omega.{arith}
 use borrow.Author.Needs.{needs}

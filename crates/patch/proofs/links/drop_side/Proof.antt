@@ -1,4 +1,4 @@
--- `edit::steps::drop_side` meets its contract: the words are those of the wind and of its opposite.
+-- `patch::links::drop_side` meets its contract: the words are those of the wind and of its opposite.
 -- Assumes nothing.
 use native.Mathlib.Omega.{arith}
 use borrow.Author.Needs.{needs}

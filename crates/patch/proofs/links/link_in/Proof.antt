@@ -1,4 +1,4 @@
--- `edit::steps::link_in` meets its contract.
+-- `patch::links::link_in` meets its contract.
 -- Assumes nothing.
 use native.Mathlib.Omega.{arith}
 use borrow.Author.Needs.{needs}

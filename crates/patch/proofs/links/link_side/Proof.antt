@@ -1,4 +1,4 @@
--- `edit::steps::link_side` meets its contract: the words are those of the wind and of its opposite.
+-- `patch::links::link_side` meets its contract: the words are those of the wind and of its opposite.
 -- Assumes nothing.
 use native.Mathlib.Omega.{arith}
 use borrow.Author.Needs.{needs}

@@ -1,4 +1,4 @@
--- `edit::steps::place_in` meets its contract.
+-- `patch::links::place_in` meets its contract.
 -- Assumes nothing.
 use native.Mathlib.Omega.{arith}
 use borrow.Author.Needs.{needs}

@@ -1,4 +1,4 @@
--- `edit::steps::put_unless_nil` meets its contract.
+-- `patch::links::put_unless_nil` meets its contract.
 -- Assumes nothing.
 use borrow.Author.Needs.{needs}
 use borrow.Author.Tests.{eq-eqb, ne-eqb}

@@ -1,4 +1,4 @@
--- `edit::steps::take_out` meets its contract.
+-- `patch::links::take_out` meets its contract.
 -- Assumes nothing.
 use native.Mathlib.Omega.{arith}
 use borrow.Author.Needs.{needs}

@@ -1,8 +1,7 @@
--- `remove::touched_row` meets its contract.
+-- `patch::links::touched_row` meets its contract.
 -- Assumes nothing.
 use borrow.Author.Needs.{needs}
 use Rattle.table.specs.Worked.{touchedIn}
-use Rattle.edit_laws.specs.Tables.{touchedRow}
 use Rattle.patch.proofs.links.touched_row.Statement.{statement}
 use Rattle.patch.proofs.links.touched_row.Tie as tie
 
@@ -28,7 +27,7 @@ flag-requires-4 : tie.Need-flag-requires-4
 flag-requires-4 c κs = search needs
 
 returns : tie.Need-returns
-unfolding touchedRow touchedIn
+unfolding touchedIn
 returns c = cc
 
 pub touched-row-spec : {M : Type 1} → statement M

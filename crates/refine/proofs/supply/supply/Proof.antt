@@ -2,7 +2,9 @@
 -- Assumes nothing.
 use native.Mathlib.Omega.{arith}
 use borrow.Author.Needs.{needs}
-use Rattle.refine.proofs.SuppliedKid.{supplied-there, supplied-new}
+use Rattle.free.proofs.FreeRows.{next-within}
+use Rattle.refine.proofs.SuppliedKid.{supplied-there, supplied-none, supplied-new, took-none, took-one}
+use Rattle.refine.proofs.SmallKids.{doubled-same, doubled-new}
 use Rattle.refine.proofs.supply.supply.Statement.{statement}
 use Rattle.refine.proofs.supply.supply.Tie as tie
 
@@ -13,18 +15,9 @@ same-length : tie.Need-same-length
 same-length c = search needs
 
 returns : tie.Need-returns
-returns c = (omega arith, supplied-there _ _ _ _ _ _ _ (c .before .kid .ensures .1) (c .if1 .taken), c .before .before .before .pre .0)
-
-kid-digits-requires : tie.Need-kid-digits-requires
-kid-digits-requires c κs = search needs
-
-link-in-requires : tie.Need-link-in-requires
-link-in-requires c κs =
-    let b = c .before .before .before .before .before in
-    (b .pre .0, omega arith, omega arith, omega arith, omega arith, omega arith, b .pre .5 (b .args .p) (b .pre .1))
-
-add-result : tie.Need-add-result
-add-result c = search needs
+returns c =
+    let pre = c .before .before .before .pre in
+    (supplied-there _ _ _ _ _ _ (c .before .kid .ensures .1) (c .if1 .taken), pre .0, doubled-same _ _ _, took-none _)
 
 same-length-2 : tie.Need-same-length-2
 same-length-2 c = search needs
@@ -32,12 +25,33 @@ same-length-2 c = search needs
 returns-2 : tie.Need-returns-2
 returns-2 c =
     let b₁ = c .before in
+    let b₂ = b₁ .before in
+    let pre = b₂ .before .before .pre in
+    (supplied-none _ _ _ _ _ _ (b₂ .kid .ensures .1) (b₁ .if1 .left) (pre .5) (c .if2 .taken), pre .0, doubled-same _ _ _, took-none _)
+
+kid-digits-requires : tie.Need-kid-digits-requires
+kid-digits-requires c κs = search needs
+
+link-in-requires : tie.Need-link-in-requires
+link-in-requires c κs =
+    let b = c .before .before .before .before .before .before in
+    let pre = b .pre in
+    (pre .0, omega arith, next-within _ _ (pre .5), omega arith, omega arith, omega arith, pre .4 (b .args .p) (pre .1))
+
+same-length-3 : tie.Need-same-length-3
+same-length-3 c = search needs
+
+returns-3 : tie.Need-returns-3
+returns-3 c =
+    let b₁ = c .before in
     let b₂ = b₁ .before .before in
     let b₃ = b₂ .before in
     let b₄ = b₃ .before in
-    let pre = b₄ .before .before .pre in
-    let kid = b₂ .kid-digits .ensures .2 in
-    (omega arith, supplied-new _ _ _ _ _ _ _ (b₄ .kid .ensures .1) (b₃ .if1 .left) (pre .7) (kid .l-is) (kid .m-is) (b₁ .link-in .ensures .0), b₁ .link-in .ensures .1)
+    let b₅ = b₄ .before in
+    let pre = b₅ .before .before .pre in
+    let (l, m, kid) = b₂ .kid-digits .ensures in
+    let (u, p) = b₁ .link-in .ensures in
+    (supplied-new _ _ _ _ _ _ (b₅ .kid .ensures .1) (b₄ .if1 .left) (pre .5) (b₃ .if2 .left) (kid .l-is) (kid .m-is) u, p, doubled-new _ _ _ _ _ _ (pre .1) l m u, took-one _ _ _ _ _ (pre .0) m (pre .5) (b₃ .if2 .left) u)
 
 pub supply-spec : {M : Type 1} → statement M
 supply-spec =
@@ -46,8 +60,9 @@ supply-spec =
     kid-requires
     same-length
     returns
+    same-length-2
+    returns-2
     kid-digits-requires
     link-in-requires
-    add-result
-    same-length-2
-    returns-2)
+    same-length-3
+    returns-3)

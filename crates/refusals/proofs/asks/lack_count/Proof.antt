@@ -77,11 +77,9 @@ returns c =
     let b8 = b7 .before in
     let b9 = b8 .before in
     let b10 = b9 .before in
-    let b11 = b10 .before in (
-      search needs,
-      lacking-sum _ _ _ _ _ _ _ _ _ _ _ _ _ _ _ (b11 .link .ensures .1) (b10 .link2 .ensures .1) (b9 .link3 .ensures .1)
-          (b8 .lacks .ensures .1) (b7 .lacks2 .ensures .1) (b6 .lacks3 .ensures .1) (b5 .lacks4 .ensures .1) (b4 .lacks5 .ensures .1) (b3 .lacks6 .ensures .1) (b2 .lacks7 .ensures .1) (b1 .lacks8 .ensures .1) (c .lacks9 .ensures .1),
-    )
+    let b11 = b10 .before in
+    lacking-sum _ _ _ _ _ _ _ _ _ _ _ _ _ _ _ (b11 .link .ensures .1) (b10 .link2 .ensures .1) (b9 .link3 .ensures .1)
+    (b8 .lacks .ensures .1) (b7 .lacks2 .ensures .1) (b6 .lacks3 .ensures .1) (b5 .lacks4 .ensures .1) (b4 .lacks5 .ensures .1) (b3 .lacks6 .ensures .1) (b2 .lacks7 .ensures .1) (b1 .lacks8 .ensures .1) (c .lacks9 .ensures .1)
 
 pub lack-count-spec : {M : Type 1} → statement M
 lack-count-spec =

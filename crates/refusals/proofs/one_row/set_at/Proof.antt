@@ -1,15 +1,14 @@
 -- `refusals::one_row::set_at` meets its contract.
 -- Assumes nothing.
 use borrow.Author.Needs.{needs}
-use Rattle.refusals.specs.OneRow.{measureTable}
 use Rattle.refusals.proofs.one_row.set_at.Statement.{statement}
 use Rattle.refusals.proofs.one_row.set_at.Tie as tie
 
-put-requires : tie.Need-put-requires
-put-requires c κs = search needs
+measured-requires : tie.Need-measured-requires
+measured-requires c κs = search needs
 
-put-value-requires : tie.Need-put-value-requires
-put-value-requires c κs = search needs
+put-carried-requires : tie.Need-put-carried-requires
+put-carried-requires c κs = search needs
 
 same-length : tie.Need-same-length
 same-length c = search needs
@@ -18,9 +17,8 @@ same-length-2 : tie.Need-same-length-2
 same-length-2 c = search needs
 
 returns : tie.Need-returns
-unfolding measureTable
-returns c = (c .before .before .before .before .before .put .ensures, c .before .before .put-value .ensures)
+returns c = rw (c .before .before .before .before .measured .ensures) at (c .before .before .before .put-carried .ensures)
 
 pub set-at-spec : {M : Type 1} → statement M
 set-at-spec =
-    tie.close (tie.spec put-requires put-value-requires same-length same-length-2 returns)
+    tie.close (tie.spec measured-requires put-carried-requires same-length same-length-2 returns)

@@ -88,7 +88,7 @@ room-refusal-requires c κs = search needs
 
 returns-5 : tie.Need-returns-5
 unfolding refineRefusal
-returns-5 c = refused _ _ (past-sentence (c .before .before .before) (room _ _ _ _ _ _ _ (c .before .before .before .before .before .before .before .before .before .before .before .pre .2) (c .before .before .flag2 .ensures) (c .before .lack-count .ensures .0) (c .before .lack-count .ensures .1) (c .room-refusal .ensures)))
+returns-5 c = refused _ _ (past-sentence (c .before .before .before) (room _ _ _ _ _ _ _ (c .before .before .before .before .before .before .before .before .before .before .before .pre .2) (c .before .before .flag2 .ensures) (c .before .lack-count .ensures) (c .room-refusal .ensures)))
 
 pub refine-refusal-spec : {M : Type 1} → statement M
 refine-refusal-spec =

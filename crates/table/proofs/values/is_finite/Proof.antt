@@ -1,4 +1,4 @@
--- `table::is_finite` meets its contract: the exponent's field of a float that equals itself.
+-- `table::values::is_finite` meets its contract: the exponent's field of a float that equals itself.
 -- Assumes nothing.
 use mathlib.Core.Path.{sym, subst}
 use lib.Dec.{T}

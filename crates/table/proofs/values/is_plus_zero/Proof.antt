@@ -1,4 +1,4 @@
--- `table::is_plus_zero` meets its contract: by the bits of a float that equals itself.
+-- `table::values::is_plus_zero` meets its contract: by the bits of a float that equals itself.
 -- Assumes nothing.
 use mathlib.Core.Path.{sym, subst}
 use lib.Dec.{T}

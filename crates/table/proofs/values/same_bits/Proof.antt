@@ -1,4 +1,4 @@
--- `table::same_bits` meets its contract: of finite floats, by their bits.
+-- `table::values::same_bits` meets its contract: of finite floats, by their bits.
 -- Assumes nothing.
 use mathlib.Core.Path.{sym, subst, _∙_}
 use lib.Dec.{T}

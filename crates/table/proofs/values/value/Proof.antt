@@ -1,4 +1,4 @@
--- `table::value` meets its contract: within the list the default plays no part.
+-- `table::values::value` meets its contract: within the list the default plays no part.
 -- Assumes nothing.
 use lib.Ieee.{nan}
 use Rattle.mesh.specs.State.{plusZero}

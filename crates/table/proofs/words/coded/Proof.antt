@@ -1,4 +1,4 @@
--- `table::coded` meets its contract, by the sign of the word.
+-- `table::words::coded` meets its contract, by the sign of the word.
 -- Assumes nothing.
 use mir.Facts.{toZ-ofZ}
 use Rattle.table.proofs.Signed.{plus, minus, flipped, minus-code}

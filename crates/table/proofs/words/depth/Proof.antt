@@ -1,4 +1,4 @@
--- `table::depth` meets its contract.
+-- `table::words::depth` meets its contract.
 -- Assumes nothing.
 use mathlib.Core.Path.{ap, _∙_}
 use mir.Facts.{toZ-ofZ}

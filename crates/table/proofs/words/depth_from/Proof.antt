@@ -1,4 +1,4 @@
--- `table::depth_from` meets its contract, by the sign of the level: each arm is a case of the definition.
+-- `table::words::depth_from` meets its contract, by the sign of the level: each arm is a case of the definition.
 -- Assumes nothing.
 use mir.Facts.{toZ-ofZ}
 use Rattle.table.proofs.Signed.{plus, minus, flipped, depth-plus, depth-minus, depth-none}

@@ -1,4 +1,4 @@
--- `table::flag` meets its contract.
+-- `table::words::flag` meets its contract.
 -- Assumes nothing.
 use Rattle.table.specs.Words.{flagOf}
 use borrow.Author.Needs.{needs}

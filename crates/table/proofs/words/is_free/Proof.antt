@@ -1,4 +1,4 @@
--- `table::is_free` meets its contract.
+-- `table::words::is_free` meets its contract.
 -- Assumes nothing.
 use borrow.Author.Needs.{needs}
 use Rattle.table.specs.Words.{freeAt}

@@ -1,4 +1,4 @@
--- `table::is_taken` meets its contract.
+-- `table::words::is_taken` meets its contract.
 -- Assumes nothing.
 use borrow.Author.Needs.{needs}
 use Rattle.table.proofs.Taken.{taken-nil, taken-past, taken-there}

@@ -1,4 +1,4 @@
--- `table::link` meets its contract: a word that names a row is kept.
+-- `table::words::link` meets its contract: a word that names a row is kept.
 -- Assumes nothing.
 use Rattle.table.specs.Words.{linkOf, wordOf}
 use borrow.Author.Needs.{needs, sfits-of}

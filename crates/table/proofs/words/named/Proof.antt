@@ -1,4 +1,4 @@
--- `table::named` meets its contract.
+-- `table::words::named` meets its contract.
 -- Assumes nothing.
 use mathlib.Core.Path.{_∙_}
 use Rattle.table.specs.Words.{code, linkOf, wordOf}

@@ -1,4 +1,4 @@
--- `table::says` meets its contract.
+-- `table::words::says` meets its contract.
 -- Assumes nothing.
 use Rattle.table.specs.Words.{wordOf}
 use borrow.Author.Needs.{needs, sfits-of}

@@ -1,4 +1,4 @@
--- `table::word` meets its contract: the code of the word that is read.
+-- `table::words::word` meets its contract: the code of the word that is read.
 -- Assumes nothing.
 use mathlib.Core.Path.{ap, _∙_}
 use mir.Facts.{toZ-ofZ}

@@ -1,4 +1,4 @@
--- `table::digits_of_four` meets its contract.
+-- `table::worked::digits_of_four` meets its contract.
 -- Assumes nothing.
 use Rattle.table.specs.FlagDigits.{four}
 use borrow.Author.Needs.{needs}

@@ -1,4 +1,4 @@
--- `table::hub` meets its contract, by the test.
+-- `table::worked::hub` meets its contract, by the test.
 -- Assumes nothing.
 use mathlib.Core.Path.{_∙_}
 use Rattle.table.proofs.Tests.{chosen, passed}

@@ -1,4 +1,4 @@
--- `table::kid_word` meets its contract: the words stand in the order of the winds.
+-- `table::worked::kid_word` meets its contract: the words stand in the order of the winds.
 -- Assumes nothing.
 use mathlib.Core.Path.{sym}
 use native.Mathlib.Omega.{arith}

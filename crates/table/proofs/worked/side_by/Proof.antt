@@ -1,4 +1,4 @@
--- `table::side_by` meets its contract: the table's offsets are the wind's.
+-- `table::worked::side_by` meets its contract: the table's offsets are the wind's.
 -- Assumes nothing.
 use Rattle.table.proofs.Offsets.{small, side-at}
 use borrow.Author.Needs.{needs}

@@ -1,4 +1,4 @@
--- `table::weigh` meets its contract.
+-- `table::worked::weigh` meets its contract.
 -- Assumes nothing.
 use native.Mathlib.Omega.{arith}
 use Rattle.table.proofs.worked.weigh.Statement.{statement}

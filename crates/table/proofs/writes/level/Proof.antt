@@ -1,4 +1,4 @@
--- `table::level` meets its contract, by the sign of the difference.
+-- `table::writes::level` meets its contract, by the sign of the difference.
 -- Assumes nothing.
 use Rattle.table.proofs.Signed.{level-below, level-above}
 use borrow.Author.Needs.{needs}

@@ -1,4 +1,4 @@
--- `table::put` meets its contract: a number below 2 ^ 31 is itself as a signed word.
+-- `table::writes::put` meets its contract: a number below 2 ^ 31 is itself as a signed word.
 -- Assumes nothing.
 use mir.Syntax.{w32}
 use mir.Facts.{toZ-pos}

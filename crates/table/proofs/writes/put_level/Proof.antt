@@ -1,4 +1,4 @@
--- `table::put_level` meets its contract.
+-- `table::writes::put_level` meets its contract.
 -- Assumes nothing.
 use mir.Facts.{toZ-ofZ}
 use borrow.Author.Needs.{needs, sfits-of}

@@ -1,4 +1,4 @@
--- `table::put_row` meets its contract. The invariant: the table is the old one with the first w words of x pasted into the row.
+-- `table::writes::put_row` meets its contract. The invariant: the table is the old one with the first w words of x pasted into the row.
 -- Assumes nothing.
 use mathlib.Core.Path.{_≡_, refl, _∙_}
 use Prim.Native.Nat.{_*_, _-_, _≤_}

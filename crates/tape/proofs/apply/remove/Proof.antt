@@ -1,10 +1,11 @@
 -- `tape::apply::remove` meets its contract: the refusal is the rules', and what `remove::remove` writes is the picture of the state without the kids.
 -- Assumes nothing.
+use mathlib.Core.Path.{sym, _∙_}
 use native.Mathlib.Omega.{arith}
 use borrow.Author.Needs.{needs}
 use Rattle.tape.proofs.Deciding.{refused-applied, remove-decides, remove-within}
 use Rattle.tape.proofs.Applying.{remove-applied}
-use Rattle.tape.proofs.Stocking.{nine-near, remove-stock}
+use Rattle.tape.proofs.Following.{remove-first, remove-left, same-mapped}
 use Rattle.tape.proofs.apply.remove.Statement.{statement}
 use Rattle.tape.proofs.apply.remove.Tie as tie
 
@@ -15,16 +16,15 @@ same-length : tie.Need-same-length
 same-length c = search needs
 
 returns : tie.Need-returns
-returns c = (refused-applied _ _ _ _ _ _ (remove-decides _ _ _ _ _ (c .before .remove-refusal .ensures)) (c .if1 .taken), c .before .before .before .before .pre .2)
-
-near-rows-requires : tie.Need-near-rows-requires
-near-rows-requires c κs = let w = remove-within _ _ _ (c .before .before .remove-refusal .ensures) (c .before .if1 .left) in (search needs, w)
+returns c = (refused-applied _ _ _ _ _ (remove-decides _ _ _ _ _ (c .before .remove-refusal .ensures)) (c .if1 .taken), c .before .before .before .before .pre .1)
 
 remove-requires : tie.Need-remove-requires
-remove-requires c κs = let w = remove-within _ _ _ (c .before .before .before .before .before .remove-refusal .ensures) (c .before .before .before .before .if1 .left) in (c .before .before .before .before .before .before .before .before .pre .1 .plain, omega arith, w, omega arith)
-
-keep-nine-requires : tie.Need-keep-nine-requires
-keep-nine-requires c κs = (search needs, nine-near _ _ _ (c .before .before .before .before .before .before .before .before .before .near-rows .ensures), remove-stock _ _ (c .before .before .before .before .before .before .before .before .before .before .before .before .before .before .before .pre .2) (omega arith) (c .before .before .before .before .before .before .before .before .before .near-rows .ensures) (c .before .before .before .before .before .before .remove .ensures .0))
+remove-requires c κs =
+    let b₁ = c .before .before .before in
+    let pre = b₁ .before .before .before .before .pre in
+    let w = remove-within _ _ _ (b₁ .before .remove-refusal .ensures) (b₁ .if1 .left) in
+    let x = remove-decides _ _ _ _ _ (sym (b₁ .if1 .left) ∙ b₁ .before .remove-refusal .ensures) in
+    (pre .0 .tame .plain, omega (arith, pre .0 .ranged .values), w, omega (arith, pre .0 .ranged .depth), same-mapped (remove-first (pre .0) _ x) (pre .1))
 
 same-length-2 : tie.Need-same-length-2
 same-length-2 c = search needs
@@ -33,18 +33,12 @@ same-length-3 : tie.Need-same-length-3
 same-length-3 c = search needs
 
 returns-2 : tie.Need-returns-2
-returns-2 c = (remove-applied _ _ _ _ _ _ _ (c .before .before .before .before .before .before .before .before .before .before .before .before .before .remove-refusal .ensures) (c .before .before .before .before .before .before .before .before .before .before .before .before .if1 .left) (c .before .before .before .before .before .before .before .remove .ensures .0) (c .before .before .before .before .before .before .before .remove .ensures .1), c .keep-nine .ensures)
+returns-2 c =
+    let b₁ = c .before .before .before in
+    let b₂ = b₁ .before .before .before .before in
+    let (words, values, mapped) = b₁ .remove .ensures in
+    let a = remove-applied _ _ _ _ _ _ _ (b₂ .before .remove-refusal .ensures) (b₂ .if1 .left) words values in
+    (a, same-mapped (remove-left (b₂ .before .before .before .before .pre .0) _ a) mapped)
 
 pub remove-spec : {M : Type 1} → statement M
-remove-spec =
-    tie.close
-    (tie.spec
-    remove-refusal-requires
-    same-length
-    returns
-    near-rows-requires
-    remove-requires
-    keep-nine-requires
-    same-length-2
-    same-length-3
-    returns-2)
+remove-spec = tie.close (tie.spec remove-refusal-requires same-length returns remove-requires same-length-2 same-length-3 returns-2)

@@ -1,11 +1,11 @@
 -- `tape::apply::set_value` meets its contract: the refusal is the rules', and what is written is the picture of the state with the value.
 -- Assumes nothing.
+use mathlib.Core.Path.{refl}
 use native.Mathlib.Omega.{arith}
 use borrow.Author.Needs.{needs}
-use Rattle.edit_laws.proofs.Lowering.{nothing}
 use Rattle.tape.proofs.Deciding.{refused-applied, set-decides, set-within}
 use Rattle.tape.proofs.Applying.{set-applied}
-use Rattle.tape.proofs.Stocking.{measure-frees}
+use Rattle.tape.proofs.Following.{set-free}
 use Rattle.tape.proofs.apply.set_value.Statement.{statement}
 use Rattle.tape.proofs.apply.set_value.Tie as tie
 
@@ -16,7 +16,7 @@ same-length : tie.Need-same-length
 same-length c = search needs
 
 returns : tie.Need-returns
-returns c = (refused-applied _ _ _ _ _ _ (set-decides _ _ _ _ _ _ (c .before .set-refusal .ensures)) (c .if1 .taken), nothing)
+returns c = (refused-applied _ _ _ _ _ (set-decides _ _ _ _ _ _ (c .before .set-refusal .ensures)) (c .if1 .taken), refl)
 
 set-at-requires : tie.Need-set-at-requires
 set-at-requires c κs = let w = set-within _ _ _ _ (c .before .before .before .set-refusal .ensures) (c .before .before .if1 .left) in (omega arith, omega arith)
@@ -28,7 +28,11 @@ same-length-3 : tie.Need-same-length-3
 same-length-3 c = search needs
 
 returns-2 : tie.Need-returns-2
-returns-2 c = (set-applied _ _ _ _ _ _ _ _ (c .before .before .before .before .before .before .before .set-refusal .ensures) (c .before .before .before .before .before .before .if1 .left) (c .before .before .before .set-at .ensures .0) (c .before .before .before .set-at .ensures .1), measure-frees _ (c .before .before .before .set-at .ensures .0))
+returns-2 c =
+    let b₁ = c .before .before .before in
+    let b₂ = b₁ .before .before .before in
+    let a = set-applied _ _ _ _ _ _ _ _ (b₂ .before .set-refusal .ensures) (b₂ .if1 .left) (b₁ .set-at .ensures .0) (b₁ .set-at .ensures .1) in
+    (a, set-free (b₂ .before .before .before .before .pre) _ _ a)
 
 pub set-value-spec : {M : Type 1} → statement M
 set-value-spec =

@@ -1,29 +1,41 @@
--- `tape::turns::run_tape` meets its contract: the invariant is that the rules' run goes on from the state that is pictured now, and the measure how much of the tape is left.
+-- `tape::turns::run_tape` meets its contract: the invariant is that the rules' run goes on from the state that is pictured now and that the map is of
+-- its free numbers, and the measure how much of the tape is left.
 -- Assumes nothing.
 use Prim.Native.Nat.{_-_}
 use native.Mathlib.Omega.{arith}
 use mathlib.Core.Path.{_≡_, refl}
 use lib.ListN.{length}
 use borrow.Author.Needs.{needs}
+use Rattle.table.specs.Words.{freeAt}
+use Rattle.free.specs.FreeMap.{Mapped}
+use Rattle.tape.proofs.Following.{nil-taken}
+use Rattle.tape.specs.Drawn.{lists}
 use Rattle.tape.proofs.Running.{Ongoing, starts, asked-for, goes-next, ran-stopped, ran-over}
 use Rattle.tape.proofs.Tamed.{drawn-ranged}
 use Rattle.tape.proofs.turns.run_tape.Statement.{statement}
 use Rattle.tape.proofs.turns.run_tape.Tie as tie
 
 abbrev Inv-loop : tie.InvT-loop
-Inv-loop t₀ v₀ cap d first mark tape at₀ done₀ m₀ low stock₀ t v at done m stock = (length t ≡ length t₀) × (length v ≡ length v₀) × Ongoing tape cap d mark t₀ v₀ t v stock at done m
+Inv-loop t₀ v₀ cap d mark tape at₀ done₀ m₀ map₀ s₀ t v at done m map s =
+    (length t ≡ length t₀) × (length v ≡ length v₀) × Ongoing tape cap d mark (lists t₀ v₀) (lists t v) at done m × Mapped (freeAt t) map (s .top) (s .count)
 
 abbrev μ-loop : tie.MeasureT-loop
-μ-loop t₀ v₀ cap d first mark tape at₀ done₀ m₀ low stock₀ t v at done m stock = length tape - at
+μ-loop t₀ v₀ cap d mark tape at₀ done₀ m₀ map₀ s₀ t v at done m map s = length tape - at
 
-cast-low : tie.Need-cast-low Inv-loop μ-loop
-cast-low c = let p = c .before .before .pre .0 in let l = c .before .before .pre .1 .to in let m = drawn-ranged (p .drawn) (p .depth) .cap-to in omega arith
+load-requires : tie.Need-load-requires Inv-loop μ-loop
+load-requires c κs =
+    let p = c .before .before .before .before .pre in
+    let r = drawn-ranged (p .drawn) in
+    (r .words, r .cap-to, nil-taken p, refl)
 
 loop-holds : tie.Need-loop-holds Inv-loop μ-loop
-loop-holds c = (refl, refl, starts _ _ _ _ _ _ (c .before .before .pre .1))
+loop-holds c = (refl, refl, starts _ _ _ _ _, c .load .ensures)
 
 turn-at-requires : tie.Need-turn-at-requires Inv-loop μ-loop
-turn-at-requires c κs = let (x, y) = asked-for _ _ _ _ _ _ (c .before .before .before .before .loop .inv .2) (c .before .before .before .before .before .before .before .pre .0) in (x, y, c .before .before .before .before .loop .inv .2 .stocked, c .before .before .before .loop-test .taken)
+turn-at-requires c κs =
+    let b = c .before .before .before in
+    let i = b .before .loop .inv in
+    (asked-for _ _ _ _ _ (i .2) (b .before .before .before .before .before .before .before .pre), i .3, b .loop-test .taken)
 
 same-length : tie.Need-same-length Inv-loop μ-loop
 same-length c = omega arith
@@ -32,19 +44,24 @@ same-length-2 : tie.Need-same-length-2 Inv-loop μ-loop
 same-length-2 c = omega arith
 
 returns : tie.Need-returns Inv-loop μ-loop
-returns c = ran-stopped _ _ _ _ _ _ (c .before .before .before .before .before .before .before .before .before .before .loop .inv .2) (c .before .before .before .before .before .turn-at .ensures .0) (c .if1 .taken)
+returns c =
+    let b = c .before .before .before .before .before in
+    ran-stopped _ _ _ _ _ (b .before .before .before .before .before .loop .inv .2) (b .turn-at .ensures .0) (c .if1 .taken)
 
 add-done : tie.Need-add-done Inv-loop μ-loop
-add-done c = omega (arith, c .before .before .before .before .before .before .before .before .before .before .loop .inv .2 .few)
+add-done c = let b = c .before .before .before .before .before .before .before .before .before .before in omega (arith, b .loop .inv .2 .few, b .before .before .before .before .before .before .good .1 .1 .1 .1 .1 .0)
 
 wrapping-add-u16-requires : tie.Need-wrapping-add-u16-requires Inv-loop μ-loop
 wrapping-add-u16-requires c κs = search needs
 
 loop-less : tie.Need-loop-less Inv-loop μ-loop
-loop-less c = let f = c .before .before .before .before .before .before .turn-at .ensures .0 .further (c .before .if1 .left) in omega arith
+loop-less c = let f = c .before .before .before .before .before .before .before .turn-at .ensures .0 .further (c .before .before .if1 .left) in omega arith
 
 loop-again : tie.Need-loop-again Inv-loop μ-loop
-loop-again c = (omega arith, omega arith, goes-next _ _ _ _ _ _ (c .before .before .before .before .before .before .before .before .before .before .before .loop .inv .2) (c .before .before .before .before .before .before .turn-at .ensures .0) (c .before .before .before .before .before .before .turn-at .ensures .1) (c .before .if1 .left) (c .wrapping-add-u16 .ensures))
+loop-again c =
+    let b = c .before .before .before .before .before .before .before in
+    let (u, mapped) = b .turn-at .ensures in
+    (omega arith, omega arith, goes-next _ _ _ _ _ (b .before .before .before .before .before .loop .inv .2) u (c .before .before .if1 .left) (c .wrapping-add-u16 .ensures), mapped)
 
 same-length-3 : tie.Need-same-length-3 Inv-loop μ-loop
 same-length-3 c = omega arith
@@ -53,7 +70,7 @@ same-length-4 : tie.Need-same-length-4 Inv-loop μ-loop
 same-length-4 c = omega arith
 
 returns-2 : tie.Need-returns-2 Inv-loop μ-loop
-returns-2 c = ran-over _ _ _ _ _ _ (c .before .loop .inv .2) (c .loop-test .left)
+returns-2 c = ran-over _ _ _ _ _ (c .before .loop .inv .2) (c .loop-test .left)
 
 pub run-tape-spec : {M : Type 1} → statement M
 run-tape-spec =
@@ -61,7 +78,7 @@ run-tape-spec =
     (tie.spec
     Inv-loop
     μ-loop
-    cast-low
+    load-requires
     loop-holds
     turn-at-requires
     same-length

@@ -1,4 +1,4 @@
--- `tree::child_ok` meets its contract: each further test adds what the one before it has shown.
+-- `tree::family::child_ok` meets its contract: each further test adds what the one before it has shown.
 -- Assumes nothing.
 use borrow.Author.Tests.{not-true, not-false}
 use Rattle.tree.proofs.FamilyRows.{child-none, child-free, child-deep, child-aside, child-off, child-at}

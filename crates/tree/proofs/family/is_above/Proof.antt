@@ -1,4 +1,4 @@
--- `tree::is_above` meets its contract: the depths differ by as much from whichever depth they are counted.
+-- `tree::family::is_above` meets its contract: the depths differ by as much from whichever depth they are counted.
 -- Assumes nothing.
 use Rattle.readable.proofs.Signs.{levelled-high, above-is}
 use borrow.Author.Needs.{needs}

@@ -1,4 +1,4 @@
--- `tree::kid_ok` meets its contract, by whether there is a kid.
+-- `tree::family::kid_ok` meets its contract, by whether there is a kid.
 -- Assumes nothing.
 use mathlib.Core.Path.{sym}
 use Rattle.table.proofs.Offsets.{kid-word-at}

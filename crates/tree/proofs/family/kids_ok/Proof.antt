@@ -1,4 +1,4 @@
--- `tree::kids_ok` meets its contract: the kids in turn.
+-- `tree::family::kids_ok` meets its contract: the kids in turn.
 -- Assumes nothing.
 use borrow.Author.Tests.{not-true, not-false}
 use Rattle.tree.proofs.FamilyRows.{kids-bare, kids-no1, kids-no2, kids-no3, kids-is}

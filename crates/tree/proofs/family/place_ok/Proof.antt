@@ -1,4 +1,4 @@
--- `tree::place_ok` meets its contract: the root or a child.
+-- `tree::family::place_ok` meets its contract: the root or a child.
 -- Assumes nothing.
 use Rattle.tree.proofs.FamilyRows.{place-root, place-child}
 use borrow.Author.Needs.{needs}

@@ -1,4 +1,4 @@
--- `tree::root_ok` meets its contract.
+-- `tree::family::root_ok` meets its contract.
 -- Assumes nothing.
 use Rattle.tree.proofs.FamilyRows.{root-is}
 use borrow.Author.Needs.{needs}

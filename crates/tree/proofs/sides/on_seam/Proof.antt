@@ -1,9 +1,9 @@
--- `tree::on_seam` meets its contract.
+-- `tree::sides::on_seam` meets its contract.
 -- Assumes nothing.
 use native.Mathlib.Omega.{arith}
 use borrow.Author.Needs.{needs}
 use borrow.Author.Tests.{not-true, not-false}
-use Rattle.mesh.specs.Headers.{headerOf}
+use Rattle.header.specs.Headers.{headerOf}
 use Rattle.mesh.specs.Picture.{jWord}
 use Rattle.tree.proofs.Seaming.{no-ring, other-level, this-level}
 use Rattle.tree.proofs.sides.on_seam.Statement.{statement}

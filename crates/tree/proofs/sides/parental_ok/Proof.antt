@@ -1,4 +1,4 @@
--- `tree::parental_ok` meets its contract, by the last digits of the place.
+-- `tree::sides::parental_ok` meets its contract, by the last digits of the place.
 -- Assumes nothing.
 use borrow.Author.Needs.{needs}
 use native.Mathlib.Omega.{arith}

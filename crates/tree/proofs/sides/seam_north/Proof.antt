@@ -1,4 +1,4 @@
--- `tree::seam_north` meets its contract.
+-- `tree::sides::seam_north` meets its contract.
 -- Assumes nothing.
 use borrow.Author.Needs.{needs}
 use mathlib.Core.Path.{_∙_}

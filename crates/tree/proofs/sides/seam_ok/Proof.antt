@@ -1,4 +1,4 @@
--- `tree::seam_ok` meets its contract: the four neighbours in turn.
+-- `tree::sides::seam_ok` meets its contract: the four neighbours in turn.
 -- Assumes nothing.
 use native.Mathlib.Omega.{arith}
 use borrow.Author.Needs.{needs}

@@ -1,4 +1,4 @@
--- `tree::seam_south` meets its contract.
+-- `tree::sides::seam_south` meets its contract.
 -- Assumes nothing.
 use native.Mathlib.Omega.{arith}
 use borrow.Author.Needs.{needs}

@@ -1,4 +1,4 @@
--- `tree::sides_by` meets its contract: the four neighbours in turn.
+-- `tree::sides::sides_by` meets its contract: the four neighbours in turn.
 -- Assumes nothing.
 use Rattle.tree.proofs.FamilyRows.{sides-by-is}
 use borrow.Author.Needs.{needs}

@@ -1,4 +1,4 @@
--- `tree::sides_ok` meets its contract: over the seam of a ring, or by the parent.
+-- `tree::sides::sides_ok` meets its contract: over the seam of a ring, or by the parent.
 -- Assumes nothing.
 use borrow.Author.Needs.{needs}
 use Rattle.tree.proofs.Seaming.{sides-off, sides-on}

@@ -2,7 +2,7 @@
 -- Each other &mut is passed on for good, at its own lifetime, share and ghost name; what a & owns is had twice. No field is named. Assumes nothing.
 use mathlib.Core.Path.{_≡_, refl, ap}
 use Prim.Native.Nat.{ℕ, _<_, _^_}
-use mathlib.Core.List.{_∷_, List, []}
+use mathlib.Core.List.{[], _∷_, List}
 use lib.IntN.{ℤ}
 use lib.Ieee.{Float}
 use lib.ListN.{length}
@@ -45,9 +45,10 @@ use denote.Triple.Walked.{says, Stays, gave-slice, stay-none, walkOf, AllGo, goe
 use denote.Exit.{yes}
 use denote.Signature.{plain}
 use Rattle.grid.specs.Calls.{Builds}
-use Rattle.mesh.specs.declared.header.Header.{Header}
-use Rattle.mesh.proofs.header.Header as T
-use Rattle.mesh.proofs.header.Header.Laws as T′
+use Rattle.header.specs.Headers.{lentOf}
+use Rattle.header.specs.declared.Header.{Header}
+use Rattle.header.proofs.Header as T
+use Rattle.header.proofs.Header.Laws as T′
 use Rattle.grid.specs.declared.Built.{Built}
 use Rattle.grid.proofs.Built as An
 use Rattle.grid.proofs.Built.Laws as An′
@@ -136,7 +137,7 @@ module _ {M : Type 1} (𝓤 : URA M) (H : Heap 𝓤) (A : Atoms 𝓤) (W : Given
   of-out : (h′ : Header) (r : Built) (v u : Val) → Is R h′ (v ∷ []) → Is An.the-row r (u ∷ []) → Is Co.the-row (out h′ r) (handed (out h′ r) ∷ [])
   of-out h′ r v u now is = LL.owes Co.the-type Co′.the-laws (out h′ r) (of-header h′ v now, (of-answer r u is, tt))
 
-  exits : (h′ : Header) (r : Built) (z1 : List ℤ) (z2 : List Float) → Is Co.the-row (out h′ r) (handed (out h′ r) ∷ []) → Builds h (x1 .now) (x2 .now) x3 x4 x5 x6 h′ z1 z2 r → length z1 ≡ length (x1 .now) → length z2 ≡ length (x2 .now)
+  exits : (h′ : Header) (r : Built) (z1 : List ℤ) (z2 : List Float) → Is Co.the-row (out h′ r) (handed (out h′ r) ∷ []) → Builds (lentOf h (x1 .now) (x2 .now)) x3 x4 x5 x6 (lentOf h′ z1 z2) r → length z1 ≡ length (x1 .now) → length z2 ≡ length (x2 .now)
       → ent 𝓤 (⋆ 𝓤 H A ((‵ (flft κ1 q1) ⊛ ‵ (flft κ2 q2) ⊛ ‵ ftrue) ∷ ‵ (finally i32 (x1 .name) z1) ∷ ‵ (finally f64 (x2 .name) z2) ∷ [])) (Post (handed (out h′ r)))
   exits h′ r z1 z2 is e l1 l2 =
       qed W ((‵ (flft κ1 q1) ⊛ ‵ (flft κ2 q2) ⊛ ‵ ftrue) ∷ ‵ (finally i32 (x1 .name) z1) ∷ ‵ (finally f64 (x2 .name) z2) ∷ []) ∵
@@ -161,8 +162,8 @@ module _ {M : Type 1} (𝓤 : URA M) (H : Heap 𝓤) (A : Atoms 𝓤) (W : Given
         move ! (2 ∷ 41 ∷ []) $ join ! $ move ! (40 ∷ 39 ∷ []) $ join ! $ move ! (2 ∷ 0 ∷ []) $ join ! $ move ! (1 ∷ 0 ∷ []) $ join ! $ move ! (0 ∷ []) $ use1 W (raw (Core 𝓤 H A at-mem run .pre (to-core α γ m8))) (goes α γ m8) $
         calls-at ! fm (Core 𝓤 H A at-mem run) known (to-core α γ m8) (and-then ! (load ! (from ! (stop !)) (look ! 12 refl)) (and-then ! (load ! (from ! (stop !)) (look ! 8 refl)) (and-then ! (load ! (from ! (stop !)) (look ! 4 refl)) (and-then ! (load ! (from ! (stop !)) (look ! 23 refl)) (and-then ! (load ! (from ! (stop !)) (look ! 21 refl)) (and-then ! (load ! (from ! (stop !)) (look ! 19 refl)) (and-then ! (load ! (from ! (stop !)) (look ! 17 refl)) (no-more !)))))))) (λ u.
         use1 W (later (some (λ (r : Built). ((‵ (flft (α ∷ []) fullShare) ⊛ (‵ (flft κ1 q1) ⊛ ‵ (flft κ2 q2) ⊛ ‵ ftrue)) ⊛ ‵ (An.the-row .own r (u ∷ []))) ⊛ raw (ensured 𝓤 H A core.ended (core.clauses 𝓤 H A at-mem run) (α ∷ [], (κ1, (κ2, tt))) (passed γ m8) tt r)))) (id⊢ 𝓤 _) $ await ! tt $ pick ! (λ r.
-        split ! $ move ! (1 ∷ []) $ use1 W (some (λ (zs : (Header × (List ℤ × (List Float × (Unit {0} × (Unit {0} × (Unit {0} × (Unit {0} × Unit {0})))))))). ‵ (lasts core.ended (α ∷ [], (κ1, (κ2, tt))) (passed γ m8) zs) ⊛ raw (fact 𝓤 (Builds h (x1 .now) (x2 .now) x3 x4 x5 x6 (zs .0) (zs .1 .0) (zs .1 .1 .0) r)))) (id⊢ 𝓤 _) $ pick ! (λ zs.
-        split ! $ move ! (1 ∷ []) $ heard ! (Builds h (x1 .now) (x2 .now) x3 x4 x5 x6 (zs .0) (zs .1 .0) (zs .1 .1 .0) r) (λ e. fsplit ! $ move ! (1 ∷ []) $ fsplit ! $ fsplit ! $ move ! (1 ∷ []) $ feqL ! (λ l1. move ! (1 ∷ []) $ fsplit ! $ fsplit ! $ move ! (1 ∷ []) $ feqL ! (λ l2. move ! (1 ∷ []) $ fsplit ! $ move ! (1 ∷ []) $ fsplit ! $ move ! (1 ∷ []) $ fsplit ! $ move ! (1 ∷ []) $ fsplit ! $
+        split ! $ move ! (1 ∷ []) $ use1 W (some (λ (zs : (Header × (List ℤ × (List Float × (Unit {0} × (Unit {0} × (Unit {0} × (Unit {0} × Unit {0})))))))). ‵ (lasts core.ended (α ∷ [], (κ1, (κ2, tt))) (passed γ m8) zs) ⊛ raw (fact 𝓤 (Builds (lentOf h (x1 .now) (x2 .now)) x3 x4 x5 x6 (lentOf (zs .0) (zs .1 .0) (zs .1 .1 .0)) r)))) (id⊢ 𝓤 _) $ pick ! (λ zs.
+        split ! $ move ! (1 ∷ []) $ heard ! (Builds (lentOf h (x1 .now) (x2 .now)) x3 x4 x5 x6 (lentOf (zs .0) (zs .1 .0) (zs .1 .1 .0)) r) (λ e. fsplit ! $ move ! (1 ∷ []) $ fsplit ! $ fsplit ! $ move ! (1 ∷ []) $ feqL ! (λ l1. move ! (1 ∷ []) $ fsplit ! $ fsplit ! $ move ! (1 ∷ []) $ feqL ! (λ l2. move ! (1 ∷ []) $ fsplit ! $ move ! (1 ∷ []) $ fsplit ! $ move ! (1 ∷ []) $ fsplit ! $ move ! (1 ∷ []) $ fsplit ! $
         move ! (8 ∷ []) $ split ! $ move ! (1 ∷ []) $ peeks ! An.the-row (Is An.the-row) (shows 𝓤 H A An.the-row) r (u ∷ []) (λ is.
         land ! (from ! (stop !)) (init ! 23 refl (LL.lawful An.the-type An′.the-laws 𝓤 H A W .typed r _ (is) .0)) $ rewrite ! 23 (λ (y : Val). ‵ (fat fullShare An′.mir m9 0 y)) (ap only (LL.tells An.the-type An′.the-laws r _ is)) refl $
         move ! (1 ∷ []) $ split ! $ lft-end ! tt $ move ! (0 ∷ 11 ∷ 10 ∷ []) $ use3 W (later (‵ (partAt R fullShare (zs .0) m8 0))) (ref-back 𝓤 H A W R (α ∷ []) γ (zs .0) m8 0) $ await ! tt $

@@ -1,0 +1,2 @@
+-- The header as the code has it.
+pub mod Headers

@@ -1,0 +1,2 @@
+-- The number that a new kid takes, and the map without it.
+pub mod Took

@@ -1,0 +1,21 @@
+-- What a row carries, by its word and its value.
+-- Assumes nothing.
+use Prim.Native.Nat.{ℕ}
+use mathlib.Core.Path.{_≡_, refl}
+use mathlib.Core.List.{List}
+use lib.ListN.{getD}
+use lib.IntN.{ℤ}
+use lib.Ieee.{Float}
+use Rattle.mesh.specs.State.{plusZero}
+use Rattle.mesh.specs.Picture.{statusWord}
+use Rattle.table.specs.Words.{wordOf}
+use Rattle.table.specs.Carried.{carriedOf, statusOf}
+
+module _ (t : List ℤ) (v : List Float) (n : ℕ) where
+  pub status-word : wordOf t n statusWord ≡ statusOf (carriedOf t v n)
+  unfolding wordOf carriedOf
+  status-word = refl
+
+  pub value-listed : getD v n plusZero ≡ carriedOf t v n .value
+  unfolding carriedOf
+  value-listed = refl

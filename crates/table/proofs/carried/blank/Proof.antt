@@ -1,0 +1,11 @@
+-- `table::carried::blank` meets its contract.
+-- Assumes nothing.
+use Rattle.table.proofs.Bits.{plus-zero}
+use Rattle.table.proofs.carried.blank.Statement.{statement}
+use Rattle.table.proofs.carried.blank.Tie as tie
+
+returns : tie.Need-returns
+returns c = rw plus-zero
+
+pub blank-spec : {M : Type 1} → statement M
+blank-spec = tie.close (tie.spec returns)

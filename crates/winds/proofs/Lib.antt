@@ -1,0 +1,2 @@
+-- The kid winds.
+pub mod KidWinds

@@ -1,0 +1,2 @@
+-- The table of the winds.
+pub mod WindTable
