@@ -9,7 +9,7 @@ use lib.IntN.{ℤ}
 use borrow.Author.Tests.{not-true, not-false}
 use Rattle.mesh.specs.Place.{Grid}
 use Rattle.table.specs.Words.{wordOf}
-use Rattle.edit_laws.specs.Steps.{putWord}
+use Rattle.edit_laws.specs.PatchSteps.{putWord}
 use Rattle.edit_laws.specs.Built.{groundRow}
 
 module _ (g : Grid) (n : ℕ) {i j : ℕ} (t : List ℤ) (i-is : i ≡ wordOf t n 10) (j-is : j ≡ wordOf t n 11) where

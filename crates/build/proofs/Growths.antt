@@ -7,11 +7,11 @@ use mathlib.Core.Bool.{Bool, true, false, not}
 use mathlib.Core.List.{List, _∷_}
 use borrow.Author.Tests.{not-true, not-false}
 use lib.IntN.{ℤ}
-use Rattle.edit_laws.specs.Growing.{dark, Able, KidsToGrow, LevelToGrow, LevelsToGrow}
+use Rattle.edit_laws.specs.BuildSoFar.{dark, Able, KidsToGrow, LevelToGrow, LevelsToGrow}
 use Rattle.mesh.specs.Place.{Grid, base, compass, Wind}
 use Rattle.place_laws.proofs.Bools.{is-yes}
 use Rattle.table.specs.Words.{wordOf}
-use Rattle.edit_laws.specs.Steps.{linkIn}
+use Rattle.edit_laws.specs.PatchSteps.{linkIn}
 use Rattle.table.specs.Plain.{Plain}
 use Rattle.table.proofs.LinkRanges.{level-from}
 use Rattle.patch.specs.Small.{Small}

@@ -1,6 +1,6 @@
 -- Laws of the steps of a build, for the functions that take them.
 pub mod RowTurns
-pub mod LevelSizes
+pub mod FullPlaces
 pub mod Empty
 pub mod Seams
 pub mod GroundRow

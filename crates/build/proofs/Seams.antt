@@ -10,7 +10,7 @@ use Rattle.mesh.specs.Place.{Grid}
 use Rattle.table.specs.Words.{wordOf}
 use Rattle.table.specs.Worked.{downTo}
 use Rattle.table.specs.Plain.{Plain}
-use Rattle.edit_laws.specs.Steps.{putWord}
+use Rattle.edit_laws.specs.PatchSteps.{putWord}
 use Rattle.edit_laws.specs.Built.{seamRow}
 use Rattle.patch.proofs.PlainKept.{plain-named}
 

@@ -8,7 +8,7 @@ use mathlib.Core.List.{List}
 use lib.Ieee.{Float}
 use lib.IntN.{ℤ}
 use lib.ListN.{length, replicate}
-use Rattle.edit_laws.specs.Growing.{LevelsToGrow}
+use Rattle.edit_laws.specs.BuildSoFar.{LevelsToGrow}
 use Rattle.mesh.specs.Call.{Rectangle}
 use Rattle.mesh.specs.Place.{Grid, base, isRing}
 use Rattle.mesh.specs.State.{plusZero}

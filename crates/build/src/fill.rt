@@ -5,12 +5,12 @@ ghost use lib.ListN.{length, replicate};
 ghost use Rattle.mesh.specs.State.{plusZero};
 ghost use Rattle.mesh.specs.Picture.{rowWords};
 ghost use Rattle.edit_laws.specs.Built.{emptyTable, rootTable};
+use carried::values::put_value;
 use table::words::FLAGS;
 use table::writes::clear_row;
 use table::writes::nil_row;
 use table::writes::put;
 use table::writes::put_level;
-use table::writes::put_value;
 
 // Row 0, and every other row free.
 fn empty_table(t: &mut [i32], cap: usize)

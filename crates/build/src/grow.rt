@@ -7,7 +7,7 @@ ghost use Rattle.winds.specs.WindTable.{kidL, kidM};
 ghost use Rattle.table.specs.Plain.{Plain, Sized};
 ghost use Rattle.edit_laws.specs.Built.{inFull, grow, growKids, growLevel};
 ghost use Rattle.build.specs.BuildSteps.{growth, inTurn, Reached};
-ghost use Rattle.edit_laws.specs.Growing.{Able, KidsToGrow, LevelToGrow, LevelsToGrow};
+ghost use Rattle.edit_laws.specs.BuildSoFar.{Able, KidsToGrow, LevelToGrow, LevelsToGrow};
 use header::Header;
 use header::last_j;
 use patch::links::link_in;

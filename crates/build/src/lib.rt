@@ -1,4 +1,4 @@
-// The table and the values of a build, and how many patches it has.
+// The table and the values of a build.
 ghost use mathlib.Core.Path.{_≡_};
 ghost use Prim.Native.Nat.{_+_, _*_, _≤_};
 ghost use lib.ListN.{length};
@@ -9,7 +9,6 @@ ghost use Rattle.build.specs.BuildSteps.{Made};
 ghost use Rattle.mesh.specs.Call.{Rectangle};
 use header::Header;
 
-pub mod count;
 pub mod fill;
 pub mod ground;
 pub mod grow;

@@ -159,6 +159,6 @@ module _ (s : State) (v : Valid s) (x y : ℕ) where
       go false b i j = outside (λ (a, b). let t : T (ltb x width) = lt→ltb x width a in let t′ : T false = rw i at t in t′)
 
 -- the lookup by rows is the lookup, but for points past the last row of a ring
-pub row-lookup : (s : State) → Valid s → (u v : ℕ) → lookup s u v ≡ cond (beyond (gridOf s) v) 0 (rowLookup (table s) (capacity s) (base (gridOf s)) u v)
+pub row-lookup : (s : State) → Valid s → (u v : ℕ) → lookup s u v ≡ rowLookup (gridOf s) (table s) (capacity s) (base (gridOf s)) u v
 unfolding lookup
 row-lookup s w u v = ap (λ (there : ℕ → ℕ → ℕ). cond (beyond (gridOf s) v) 0 (firstFound there u v)) (fun-ext λ x. fun-ext λ y. sym (row-at s w x y))

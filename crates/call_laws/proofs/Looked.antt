@@ -4,7 +4,7 @@
 use Prim.Native.Nat.{ℕ, zero, suc}
 use native.Mathlib.Omega.{arith}
 use mathlib.Core.Path.{_≡_, refl, ap, _∙_}
-use mathlib.Core.Bool.{Bool, true, false, cond}
+use mathlib.Core.Bool.{cond}
 use mathlib.Core.List.{List, [], _∷_}
 use lib.Dec.{eqb}
 use lib.IntN.{ℤ}
@@ -16,11 +16,11 @@ use Rattle.mesh.specs.State.{State, Value, blank, measured, carried, valueOf, e
 use Rattle.mesh.specs.Valid.{Valid}
 use Rattle.mesh.specs.Picture.{table, amounts, Lent}
 use Rattle.mesh.specs.Refusal.{_if_, refusal}
-use Rattle.mesh.specs.Lookup.{tries, beyond, lookup, lookupChecks}
+use Rattle.mesh.specs.Lookup.{tries, lookup, lookupChecks}
 use Rattle.mesh.specs.Decode.{decode}
 use Rattle.mesh.specs.Call.{Found, checkCall, unless, lookupCall}
-use Rattle.table.specs.Carried.{carriedOf, carriedFor, valueIn}
-use Rattle.lookup.specs.LookupRows.{rowLookup, rowLookupOut}
+use Rattle.carried.specs.Carried.{carriedOf, carriedFor, valueIn}
+use Rattle.lookup.specs.LookupRows.{rowLookupOut}
 use Rattle.table_laws.proofs.Pictured.{carried-there}
 use Rattle.picture_laws.proofs.Soundness.{sound-valid}
 use Rattle.picture_laws.proofs.Accepted.{lent-sound}
@@ -53,23 +53,15 @@ module _ (u v : ℕ) where
   abbrev answer : State → ℕ → Found
   answer s r = answered r (lookup s u v) (valueOf (entry (s .entries) (lookup s u v)))
 
-  -- by the rows, but for points past the last row of a ring
   abbrev byRows : Grid → List ℤ → List Float → ℕ → Found
-  byRows g t w cap = cond (beyond g v) (record { refusal = 19; leaf = 0; value = blank }) (rowLookupOut t w cap (base g) u v)
+  byRows g t w cap = rowLookupOut g t w cap (base g) u v
 
   lookup-picture : (s : State) → Valid s → answer s (refusal (lookupChecks s u v)) ≡ byRows (gridOf s) (table s) (amounts s) (capacity s)
-  unfolding lookupChecks rowLookupOut refusal unless
-  lookup-picture s x = rw (← value-there s (lookup s u v), row-lookup s x u v) (go (beyond (gridOf s) v))
-    where
-      go : (b : Bool) → let n = cond b 0 (rowLookup (table s) (capacity s) (base (gridOf s)) u v) in
-          answered (refusal ((19 if eqb n 0) ∷ [])) n (valueIn (carriedOf (table s) (amounts s) n))
-          ≡ cond b (record { refusal = 19; leaf = 0; value = blank }) (rowLookupOut (table s) (amounts s) (capacity s) (base (gridOf s)) u v)
-      go true = refl
-      go false = refl
+  unfolding lookupChecks rowLookupOut
+  lookup-picture s x = rw (← value-there s (lookup s u v), row-lookup s x u v)
 
   -- the lookup call
-  pub lookup-call : (cap : ℕ) (l : Lent) → checkCall cap l ≡ 0
-      → lookupCall cap l u v ≡ cond (beyond (l .header .grid) v) (record { refusal = 19; leaf = 0; value = blank }) (rowLookupOut (l .words) (l .values) cap (base (l .header .grid)) u v)
+  pub lookup-call : (cap : ℕ) (l : Lent) → checkCall cap l ≡ 0 → lookupCall cap l u v ≡ rowLookupOut (l .header .grid) (l .words) (l .values) cap (base (l .header .grid)) u v
   unfolding lookupCall
   lookup-call cap l h =
       ap (answer (decode l)) (checks-after cap l h (lookupChecks (decode l) u v))

@@ -12,7 +12,8 @@ use Rattle.mesh.specs.Page.{page, pageChecks}
 use Rattle.mesh.specs.Picture.{Lent}
 use Rattle.mesh.specs.Decode.{decode}
 use Rattle.mesh.specs.Call.{checkCall, wrote, pageCall}
-use Rattle.page.specs.PageRows.{leavesFrom, rowPage, rowOut}
+use Rattle.leaves.specs.LeavesFrom.{leavesFrom}
+use Rattle.page.specs.PageRows.{rowPage, rowOut}
 use Rattle.call_laws.proofs.Called.{checks-after, of-picture, by-picture}
 use Rattle.call_laws.proofs.Rowed.{row-few, row-page}
 

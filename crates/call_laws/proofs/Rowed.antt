@@ -23,7 +23,8 @@ use Rattle.mesh.specs.Page.{leaves, leafLine, body, page, footLine}
 use Rattle.table.specs.Words.{code, wordOf}
 use Rattle.walk.specs.WalkRows.{leafRow, rowWalk}
 use Rattle.lines.specs.LineRows.{bitsOf, rowLine, linesOf}
-use Rattle.page.specs.PageRows.{leavesFrom, bodyOf, pageOf, rowPage}
+use Rattle.leaves.specs.LeavesFrom.{leavesFrom}
+use Rattle.page.specs.PageRows.{bodyOf, pageOf, rowPage}
 use Rattle.place_laws.proofs.Bools.{yes-is, or-left, or-right}
 use Rattle.place_laws.proofs.Kids.{leaf-cell}
 use Rattle.number_laws.proofs.NumberedPlaces.{valid-numbered, place-number}

@@ -8,12 +8,12 @@ use lib.Dec.{eqb}
 use lib.IntN.{ℤ}
 use Rattle.mesh.specs.Tools.{digits}
 use Rattle.mesh.specs.Place.{Grid}
-use Rattle.mesh.specs.Picture.{neWord, seWord, swWord, nwWord, northWord, eastWord, southWord, westWord, flagsWord}
+use Rattle.mesh.specs.Picture.{neWord, seWord, swWord, nwWord, northWord, eastWord, flagsWord}
 use Rattle.mesh.specs.Mesh.{completeBit, sentencedBit}
 use Rattle.table.specs.Words.{wordOf, linkOf, flagOf, depthOf}
 use Rattle.table.specs.Worked.{kidless, touchedIn, flagsFrom}
 use Rattle.checker_laws.specs.Rowwise.{ghostOk, kidCellsAre, insideOk, cellOk, sentenceOk, pointOk}
-use Rattle.readable.proofs.KidlessRows.{bare-links}
+use Rattle.table.proofs.KidlessRows.{bare-links}
 use Rattle.place_laws.proofs.Bools.{is-yes}
 
 -- ---- the four kids
@@ -67,28 +67,11 @@ module _ (t : List ℤ) (cap n : ℕ) where
       let (x, y, z, u) = bare-links t cap n (sym e ∙ h) in
       one-flag (flagOf t completeBit 0) ∙ agree-is (sym x) refl (sym y) refl (sym z) refl (sym u) refl
 
-  -- ---- ghosts, and what touches a patch
+  -- ---- ghosts
 
   pub ghost-is : {f k : Bool} → f ≡ eqb (wordOf t n flagsWord) 0 → k ≡ kidless t cap n → (f && not k) ≡ ghostOk t cap n
   unfolding ghostOk
   ghost-is f k = rw (f, k)
-
-  pub touched-own : {c : Bool} → c ≡ flagOf t completeBit n → c ≡ true → true ≡ touchedIn t cap n
-  unfolding touchedIn
-  touched-own c h = rw (← c, h)
-
-  pub touched-is : {west south corner : ℕ} {o a b c : Bool} →
-      o ≡ flagOf t completeBit n →
-      o ≡ false →
-      west ≡ linkOf t cap n westWord →
-      south ≡ linkOf t cap n southWord →
-      corner ≡ linkOf t cap west southWord →
-      a ≡ flagOf t completeBit west →
-      b ≡ flagOf t completeBit south →
-      c ≡ flagOf t completeBit corner →
-      (a || (b || c)) ≡ touchedIn t cap n
-  unfolding touchedIn
-  touched-is o h w s k a b c = rw (← o, h, a, b, c, k, s, w)
 
 -- ---- cells
 

@@ -9,8 +9,8 @@ use lib.IntN.{ℤ}
 use lib.Ieee.{Float}
 use Rattle.mesh.specs.Picture.{parentWord, neWord, seWord, swWord, nwWord, northWord, eastWord, southWord, westWord, levelWord, iWord, jWord, flagsWord}
 use Rattle.table.specs.Words.{wordOf}
-use Rattle.table.specs.Carried.{carriedOf, isNothing}
-use Rattle.table.specs.declared.carried.Carried.{Carried}
+use Rattle.carried.specs.Carried.{carriedOf, isNothing}
+use Rattle.carried.specs.declared.Carried.{Carried}
 use Rattle.checker_laws.specs.Rowwise.{below, emptyOk, zeroOk}
 
 pub zeros-are : (t : List ℤ) (n : ℕ) {b0 b1 b2 b3 b4 b5 b6 b7 b8 b9 b10 b11 : Bool} →

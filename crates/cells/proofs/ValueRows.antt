@@ -10,8 +10,8 @@ use Rattle.mesh.specs.Valid.{finite}
 use Rattle.mesh.specs.Picture.{parentWord}
 use Rattle.mesh.specs.Mesh.{completeBit}
 use Rattle.table.specs.Words.{linkOf, flagOf}
-use Rattle.table.specs.Carried.{carriedOf, isBlank, isMeasured, isCarriedDown, isZero, sameValue}
-use Rattle.table.specs.declared.carried.Carried.{Carried}
+use Rattle.carried.specs.Carried.{carriedOf, isBlank, isMeasured, isCarriedDown, isZero, sameValue}
+use Rattle.carried.specs.declared.Carried.{Carried}
 use Rattle.checker_laws.specs.Rowwise.{blankOk, carriedOk, heldOk, valueOk}
 
 module _ (t : List ℤ) (cap : ℕ) (v : List Float) (n : ℕ) {own : Carried} (here : own ≡ carriedOf t v n) where
@@ -27,20 +27,24 @@ module _ (t : List ℤ) (cap : ℕ) (v : List Float) (n : ℕ) {own : Carried} (
   unfolding blankOk
   blank-not zero h = rw (← here, ← zero, h)
 
-  module _ {c f : Bool} (cell : c ≡ flagOf t completeBit n) (known : f ≡ finite (own .value)) where
-    held-by : heldOk t cap v n ≡ ((c && f) && (isMeasured own || carriedOk t cap v n))
+  module _ {c : Bool} (cell : c ≡ flagOf t completeBit n) where
+    held-by : heldOk t cap v n ≡ (c && finite (own .value) && (isMeasured own || carriedOk t cap v n))
     unfolding heldOk
-    held-by = rw (known, here, cell) (simp (and-true, and-assoc))
+    held-by = rw (here, cell) (simp (and-true, and-assoc))
 
-    pub held-not : (c && f) ≡ false → false ≡ heldOk t cap v n
-    held-not h = rw (held-by, h)
+    pub held-bare : c ≡ false → false ≡ heldOk t cap v n
+    held-bare h = rw (held-by, h)
 
-    module _ (both : (c && f) ≡ true) {s : Bool} (status : s ≡ isMeasured own) where
-      pub held-measured : s ≡ true → true ≡ heldOk t cap v n
-      held-measured h = rw (held-by, both, ← status, h)
+    module _ (whole : c ≡ true) {f : Bool} (known : f ≡ finite (own .value)) where
+      pub held-infinite : f ≡ false → false ≡ heldOk t cap v n
+      held-infinite h = rw (held-by, whole, ← known, h)
 
-      pub held-carried : s ≡ false → {k : Bool} → k ≡ carriedOk t cap v n → k ≡ heldOk t cap v n
-      held-carried h k = rw (held-by, both, ← status, h) k
+      module _ (small : f ≡ true) {s : Bool} (status : s ≡ isMeasured own) where
+        pub held-measured : s ≡ true → true ≡ heldOk t cap v n
+        held-measured h = rw (held-by, whole, ← known, small, ← status, h)
+
+        pub held-carried : s ≡ false → {k : Bool} → k ≡ carriedOk t cap v n → k ≡ heldOk t cap v n
+        held-carried h k = rw (held-by, whole, ← known, small, ← status, h) k
 
   module _ {s : Bool} (status : s ≡ isBlank own) where
     pub value-blank : {r : Bool} → s ≡ true → r ≡ blankOk t cap v n → r ≡ valueOk t cap v n

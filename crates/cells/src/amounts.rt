@@ -4,16 +4,16 @@ ghost use Prim.Native.Nat.{_≤_, _<_};
 ghost use lib.ListN.{length};
 ghost use Rattle.checker_laws.specs.Rowwise.{blankOk, carriedOk, heldOk, valueOk};
 ghost use Rattle.readable.specs.Readable.{Readable};
-use table::carried::carried_at;
-use table::carried::is_blank;
-use table::carried::is_carried_down;
-use table::carried::is_measured;
-use table::carried::is_zero;
-use table::carried::same_value;
+use carried::carried_at;
+use carried::is_blank;
+use carried::is_carried_down;
+use carried::is_measured;
+use carried::is_zero;
+use carried::same_value;
+use carried::values::is_finite;
 use table::flag_bits::COMPLETE;
 use table::plain::flag;
 use table::plain::link;
-use table::values::is_finite;
 use table::words::PARENT;
 
 // A blank row has the value +0, and its parent is blank if it is a cell.
@@ -43,8 +43,11 @@ pub fn held_ok(t: &[i32], v: &[f64], cap: usize, n: usize) -> bool
     requires { ⌜ Readable (now t) cap × (cap < length (now v)) × (n ≤ cap) ⌝ }
     ensures { λ r. ⌜ r ≡ heldOk (now (t .entry)) cap (now (v .entry)) n ⌝ }
 {
+    if !flag(t, cap, COMPLETE, n) {
+        return false;
+    }
     let own = carried_at(t, v, n);
-    if !(flag(t, cap, COMPLETE, n) & is_finite(own.value)) {
+    if !is_finite(own.value) {
         return false;
     }
     if is_measured(own) {

@@ -3,7 +3,6 @@ ghost use mathlib.Core.Path.{_≡_};
 ghost use mathlib.Core.Bool.{true, false, not, _||_};
 ghost use Prim.Native.Nat.{_≤_};
 ghost use Rattle.header.specs.Headers.{headerOf};
-ghost use Rattle.table.specs.Worked.{touchedIn};
 ghost use Rattle.checker_laws.specs.Rowwise.{ghostOk, kidCellsAre, insideOk, cellOk, sentenceOk, pointOk};
 ghost use Rattle.readable.specs.Readable.{Readable, Levelled};
 use crate::flags::bare_flags;
@@ -11,7 +10,6 @@ use crate::flags::cell_flags;
 use header::Header;
 use readable::depth;
 use readable::index;
-use readable::kidless;
 use table::flag_bits::COMPLETE;
 use table::flag_bits::SENTENCED;
 use table::plain::flag;
@@ -25,10 +23,10 @@ use table::words::NORTH;
 use table::words::NW_KID;
 use table::words::PARENT;
 use table::words::SE_KID;
-use table::words::SOUTH;
 use table::words::SW_KID;
-use table::words::WEST;
 use table::words::says;
+use table::worked::kidless;
+use table::worked::touched;
 
 // A ghost has flags 0 and a kid.
 pub fn ghost_ok(t: &[i32], cap: usize, n: usize) -> bool
@@ -36,20 +34,6 @@ pub fn ghost_ok(t: &[i32], cap: usize, n: usize) -> bool
     ensures { λ r. ⌜ r ≡ ghostOk (now (t .entry)) cap n ⌝ }
 {
     says(t, n, FLAGS, 0) & !kidless(t, cap, n)
-}
-
-// A patch is touched by a cell.
-pub fn touched_ok(t: &[i32], cap: usize, n: usize) -> bool
-    requires { ⌜ Readable (now t) cap × (n ≤ cap) ⌝ }
-    ensures { λ r. ⌜ r ≡ touchedIn (now (t .entry)) cap n ⌝ }
-{
-    if flag(t, cap, COMPLETE, n) {
-        return true;
-    }
-    let west = link(t, cap, n, WEST);
-    let south = link(t, cap, n, SOUTH);
-    let corner = link(t, cap, west, SOUTH);
-    flag(t, cap, COMPLETE, west) | (flag(t, cap, COMPLETE, south) | flag(t, cap, COMPLETE, corner))
 }
 
 // Whether each of the four kids is a cell, or none is.
@@ -130,20 +114,20 @@ pub fn point_ok(t: &[i32], cap: usize, header: Header, d: u32, n: usize) -> bool
     requires { ⌜ Readable (now t) cap × Levelled (now t) cap d × (n ≤ cap) ⌝ }
     ensures { λ r. ⌜ r ≡ pointOk (headerOf header .grid) (now (t .entry)) cap d n ⌝ }
 {
-    let sentenced = flag(t, cap, SENTENCED, n);
     if flag(t, cap, COMPLETE, n) {
         if !cell_ok(t, cap, header, d, n) {
             return false;
         }
+        let sentenced = flag(t, cap, SENTENCED, n);
         if !sentence_if(t, cap, d, n, sentenced) {
             return false;
         }
         return says(t, n, FLAGS, cell_flags(t, cap, d, n, sentenced));
     }
-    if !touched_ok(t, cap, n) {
+    if !touched(t, cap, n) {
         return false;
     }
-    if sentenced {
+    if flag(t, cap, SENTENCED, n) {
         return false;
     }
     says(t, n, FLAGS, bare_flags(t, cap, d, n))

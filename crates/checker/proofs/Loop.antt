@@ -10,7 +10,7 @@ use lib.Ieee.{Float}
 use Rattle.mesh.specs.Place.{Grid}
 use Rattle.table.specs.Words.{freeAt}
 use Rattle.checker_laws.specs.Rowwise.{below, zeroOk, rowOk, rowwise}
-use Rattle.readable.proofs.Below.{below-more, below-fails}
+use Rattle.readable.proofs.CountingUp.{below-more, below-fails}
 
 module _ (g : Grid) (t : List ℤ) (cap : ℕ) (v : List Float) where
   abbrev pub good : ℕ → Bool

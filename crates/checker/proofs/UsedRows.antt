@@ -15,15 +15,15 @@ module _ (g : Grid) (t : List ℤ) (cap : ℕ) (v : List Float) (n : ℕ) where
     unfolding usedOk
     used-no-place h = rw (← ground, ← first, h)
 
-    module _ (one : a ≡ true) {b : Bool} (second : b ≡ kidsOk t cap n) where
-      pub used-no-kids : b ≡ false → false ≡ usedOk g t cap v n
+    module _ (one : a ≡ true) {b : Bool} (second : b ≡ sidesOk g t cap n) where
+      pub used-no-sides : b ≡ false → false ≡ usedOk g t cap v n
       unfolding usedOk
-      used-no-kids h = rw (← ground, ← first, one, ← second, h)
+      used-no-sides h = rw (← ground, ← first, one, ← second, h)
 
-      module _ (two : b ≡ true) {c : Bool} (third : c ≡ sidesOk g t cap n) where
-        pub used-no-sides : c ≡ false → false ≡ usedOk g t cap v n
+      module _ (two : b ≡ true) {c : Bool} (third : c ≡ kidsOk t cap n) where
+        pub used-no-kids : c ≡ false → false ≡ usedOk g t cap v n
         unfolding usedOk
-        used-no-sides h = rw (← ground, ← first, one, ← second, two, ← third, h)
+        used-no-kids h = rw (← ground, ← first, one, ← second, two, ← third, h)
 
         module _ (three : c ≡ true) {e : Bool} (fourth : e ≡ kindOk g t cap d n) where
           pub used-no-kind : e ≡ false → false ≡ usedOk g t cap v n

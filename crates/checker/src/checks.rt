@@ -5,7 +5,7 @@ ghost use lib.ListN.{length};
 ghost use Rattle.mesh.specs.Call.{checkCall};
 ghost use Rattle.header.specs.Headers.{lentOf};
 ghost use Rattle.table.specs.Words.{Fits, FitsAt};
-use crate::lent::first_refusal;
+use crate::first_checks::first_refusal;
 use crate::rowwise;
 use header::Header;
 use readable::plain;

@@ -1,6 +1,6 @@
 // The test that a lent table is sound, row by row and by links.
 pub mod checks;
-pub mod lent;
+pub mod first_checks;
 
 ghost use mathlib.Core.Path.{_≡_};
 ghost use Prim.Native.Nat.{_≤_, _<_};
@@ -26,10 +26,10 @@ fn used_ok(t: &[i32], v: &[f64], cap: usize, header: Header, d: u32, n: usize) -
     if !place_ok(t, cap, d, n) {
         return false;
     }
-    if !kids_ok(t, cap, n) {
+    if !sides_ok(t, cap, header, d, n) {
         return false;
     }
-    if !sides_ok(t, cap, header, d, n) {
+    if !kids_ok(t, cap, n) {
         return false;
     }
     if !kind_ok(t, cap, header, d, n) {

@@ -19,7 +19,7 @@ use Rattle.mesh.specs.Winds.{wordOfWind}
 use Rattle.mesh.specs.State.{plusZero}
 use Rattle.mesh.specs.Picture.{parentWord, iWord, jWord, flagsWord, freeFlags}
 use Rattle.table.specs.Words.{wordOf, linkOf, freeAt, depthOf}
-use Rattle.table.specs.Carried.{carriedOf, statusOf, isBlank, isZero}
+use Rattle.carried.specs.Carried.{carriedOf, statusOf, isBlank, isZero}
 use Rattle.table.specs.Worked.{kidWord, sideIn}
 use Rattle.checker_laws.specs.Rowwise.{below, emptyOk, zeroOk, rootTests, rootOk, childTests, childOk, placeOk, kidTests, kidOk, kidsTests, kidsOk, sideTests, sidesOk, ghostOk, pointOk, valueOk, usedTests, usedOk, rowOk, rowwise}
 use Rattle.place_laws.proofs.Bools.{and-left, and-right, or-cases}
@@ -215,9 +215,9 @@ module _ (g : Grid) (cap : ℕ) (t : List ℤ) (v : List Float) where
         deep = leb→le d (base g + 12) (and-left high place (nth 0));
         top = λ e. root-facts n (rw (eq-eqb n 1 e) at (and-right high place (nth 0)));
         child = λ e. child-facts n (rw (ne-eqb n 1 e) at (and-right high place (nth 0)));
-        kid-word = λ l m a b. kid-word-facts n l m (kid-at n (nth 1) l m a b);
-        kid = λ l m a b z. kid-facts n l m (kid-at n (nth 1) l m a b) z;
-        side = side-facts n (nth 2);
+        kid-word = λ l m a b. kid-word-facts n l m (kid-at n (nth 2) l m a b);
+        kid = λ l m a b z. kid-facts n l m (kid-at n (nth 2) l m a b) z;
+        side = side-facts n (nth 1);
         ghost = λ l. rw (lt-ltb d (base g) l) at (nth 3);
         point = λ l. rw (le-ltb d (base g) l) at (nth 3);
         value = nth 4;

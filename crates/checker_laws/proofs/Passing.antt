@@ -20,7 +20,7 @@ use Rattle.mesh.specs.Valid.{Valid, ValueRule, finite, aboveOf}
 use Rattle.mesh.specs.Picture.{table, amounts, parentWord, nwWord, northWord, eastWord, southWord, westWord, iWord, jWord, flagsWord}
 use Rattle.mesh.specs.Test.{sameFloat}
 use Rattle.table.specs.Words.{wordOf, linkOf, flagOf, freeAt, depthOf}
-use Rattle.table.specs.Carried.{carriedOf, carriedFor, isNothing}
+use Rattle.carried.specs.Carried.{carriedOf, carriedFor, isNothing}
 use Rattle.table.specs.Worked.{kidWord, sideIn, flagsFrom, touchedIn}
 use Rattle.checker_laws.specs.Rowwise.{below, emptyOk, zeroOk, rootOk, childOk, placeOk, kidTests, kidOk, kidsTests, kidsOk, sideTests, sidesOk, ghostOk, kidCellsAre, insideOk, cellOk, sentenceTests, sentenceOk, pointTests, pointOk, carriedAbove, blankOk, heldOk, valueOk, usedTests, usedOk, rowOk, rowwise}
 use Rattle.place_laws.proofs.Bools.{is-yes, yes-is, no-is, and-both, or-left, or-right, implies, either, beq-refl}
@@ -342,7 +342,7 @@ module _ (s : State) (v : Valid s) where
     unfolding usedOk
     used-ok =
         at-every (usedTests g (table s) (capacity s) (amounts s) n)
-        (place-ok, (kids-ok, (sides-ok, (rw (depth-of s v n p h) (go (decLt (p .depth) (base g))), (value-ok, tt)))))
+        (place-ok, (sides-ok, (kids-ok, (rw (depth-of s v n p h) (go (decLt (p .depth) (base g))), (value-ok, tt)))))
       where
         go : Dec (p .depth < base g) → T (cond (ltb (p .depth) (base g)) (ghostOk (table s) (capacity s) n) (pointOk g (table s) (capacity s) (base g) n))
         go (yes l) = rw (lt-ltb (p .depth) (base g) l) (ghost-ok l)

@@ -20,8 +20,8 @@ use Rattle.mesh.specs.Mesh.{flags}
 use Rattle.mesh.specs.State.{State, Entry, free, used, Cell, plusZero, status, amount, isSentenced, valueOf, entry, cells, number, numberOf}
 use Rattle.mesh.specs.Picture.{rowWords, fields, rowOf, table, amounts, parentWord, neWord, seWord, swWord, nwWord, northWord, eastWord, southWord, westWord, levelWord, iWord, jWord, flagsWord, statusWord, freeFlags}
 use Rattle.table.specs.Words.{wordOf, linkOf, Fits}
-use Rattle.table.specs.Carried.{carriedOf}
-use Rattle.table.proofs.CarriedWords.{status-word}
+use Rattle.carried.specs.Carried.{carriedOf}
+use Rattle.carried.proofs.CarriedWords.{status-word}
 use Rattle.table.specs.Worked.{kidWord}
 use Rattle.place_laws.proofs.SideDigits.{aside, kidBy, kid-by}
 use Rattle.picture_laws.proofs.Rows.{nil-word, table-length, table-word, amounts-length, amounts-at}

@@ -22,9 +22,9 @@ use Rattle.mesh.specs.Picture.{rowWords, levelWord, iWord, jWord, flagsWord, st
 use Rattle.mesh.specs.Decode.{digitsOf, flag, placeFrom, entryBy, entryFrom, entriesFrom, decode}
 use Rattle.mesh.specs.Mesh.{completeBit, sentencedBit, deadBit}
 use Rattle.table.specs.Words.{wordOf, flagOf, depthOf, Fits}
-use Rattle.table.specs.Carried.{carriedOf, statusOf, valueIn}
+use Rattle.carried.specs.Carried.{carriedOf, statusOf, valueIn}
 use Rattle.table.specs.Worked.{flagsFrom}
-use Rattle.table.proofs.CarriedWords.{status-word, value-listed}
+use Rattle.carried.proofs.CarriedWords.{status-word, value-listed}
 use Rattle.place_laws.proofs.Places.{place-path}
 use Rattle.number_laws.proofs.Entries.{in-list}
 use Rattle.picture_laws.proofs.Decoding.{level-back}

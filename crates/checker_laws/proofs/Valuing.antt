@@ -19,7 +19,7 @@ use Rattle.mesh.specs.Valid.{ValueRule, aboveOf}
 use Rattle.mesh.specs.Decode.{valueFrom}
 use Rattle.mesh.specs.Picture.{parentWord}
 use Rattle.table.specs.Words.{linkOf, flagOf, depthOf}
-use Rattle.table.specs.Carried.{carriedOf, statusOf, valueIn}
+use Rattle.carried.specs.Carried.{carriedOf, statusOf, valueIn}
 use Rattle.checker_laws.specs.Rowwise.{carriedAbove}
 use Rattle.place_laws.proofs.Bools.{no-is}
 use Rattle.place_laws.proofs.Kids.{is-leaf}

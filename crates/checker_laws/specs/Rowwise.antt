@@ -13,8 +13,8 @@ use Rattle.mesh.specs.Valid.{finite}
 use Rattle.mesh.specs.Mesh.{completeBit, sentencedBit}
 use Rattle.mesh.specs.Picture.{eastWord, flagsWord, iWord, jWord, neWord, northWord, nwWord, parentWord, seWord, southWord, swWord, westWord}
 use Rattle.table.specs.Words.{wordOf, linkOf, flagOf, freeAt, depthOf}
-use Rattle.table.specs.Carried.{carriedOf, isBlank, isMeasured, isCarriedDown, isZero, isNothing, sameValue}
-use Rattle.table.specs.declared.carried.Carried.{Carried}
+use Rattle.carried.specs.Carried.{carriedOf, isBlank, isMeasured, isCarriedDown, isZero, isNothing, sameValue}
+use Rattle.carried.specs.declared.Carried.{Carried}
 use Rattle.table.specs.Worked.{kidWord, sideIn, kidless, touchedIn, flagsFrom}
 
 -- a test of the numbers below n, as a loop that counts up meets them
@@ -185,7 +185,7 @@ kindOk g t cap d n = cond (ltb (depthOf t d n) d) (ghostOk t cap n) (pointOk g t
 
 module _ (g : Grid) (t : List ℤ) (cap : ℕ) (v : List Float) where
   abbrev pub usedTests : ℕ → List Bool
-  usedTests n = placeOk t cap (base g) n ∷ kidsOk t cap n ∷ sidesOk g t cap n ∷ kindOk g t cap (base g) n ∷ valueOk t cap v n ∷ []
+  usedTests n = placeOk t cap (base g) n ∷ sidesOk g t cap n ∷ kidsOk t cap n ∷ kindOk g t cap (base g) n ∷ valueOk t cap v n ∷ []
 
   unfoldable pub usedOk : ℕ → Bool
   usedOk n = every (usedTests n)

@@ -10,7 +10,7 @@ use mathlib.Core.List.{List, [], _∷_, _++_, map}
 use lib.Dec.{T}
 use lib.IntN.{ℤ, pos, subℕ}
 use lib.ListN.{length, getD, set, length-set, List·getD-eq-default}
-use Rattle.edit_laws.specs.Growing.{Rooted}
+use Rattle.edit_laws.specs.Rooted.{Rooted}
 use Rattle.mesh.specs.Tools.{all, flat}
 use Rattle.mesh.specs.Place.{Place, Grid, base, level, same, compass, sideWinds, step, parent, around, Wind}
 use Rattle.mesh.specs.Winds.{wordOfWind}
@@ -28,7 +28,7 @@ use Rattle.table.specs.Words.{wordOf, depthOf}
 use Rattle.table.specs.Worked.{kidWord, sideOf}
 use Rattle.table.proofs.Offsets.{kid-word-range}
 use Rattle.edit_laws.specs.Linked.{Flags, tableWith, withFlags}
-use Rattle.edit_laws.specs.Steps.{linkSide, placeIn, linkIn}
+use Rattle.edit_laws.specs.PatchSteps.{linkSide, placeIn, linkIn}
 use Rattle.edit_laws.proofs.Slots.{word, Slot, Hit, hit-later, Off, off-at, untouched, write, write-unless, settled}
 use Rattle.edit_laws.proofs.Linked.{linked-length, word-link, word-level, word-i, word-j, word-flags, word-status, i-of, j-of, word-free, word-nil}
 use Rattle.edit_laws.proofs.Rooted.{number-le, depth-of}

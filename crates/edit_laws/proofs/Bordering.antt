@@ -11,7 +11,7 @@ use mathlib.Core.Option.{Option, some, Option·some-injective}
 use mathlib.Core.List.{List, [], _∷_, _++_}
 use lib.Dec.{T}
 use lib.IntN.{ℤ}
-use Rattle.edit_laws.specs.Growing.{Rooted}
+use Rattle.edit_laws.specs.Rooted.{Rooted}
 use Rattle.mesh.specs.Tools.{any, digits}
 use Rattle.mesh.specs.Place.{Place, Grid, SW, N, E, S, W, base, home, toNorth, toEast, step}
 use Rattle.mesh.specs.Mesh.{Mesh, touched, flags}

@@ -8,7 +8,7 @@ use mathlib.Core.Option.{some}
 use mathlib.Core.List.{List, [], _∷_, _++_, map, append-assoc, append-nil}
 use lib.ListN.{length, length-append}
 use Rattle.number_laws.specs.Numbered.{Patches}
-use Rattle.edit_laws.specs.Growing.{bare, Grown, InTurn, Room, toward, born}
+use Rattle.edit_laws.specs.BuildSoFar.{bare, Grown, InTurn, Room, toward, born}
 use Rattle.mesh.specs.Call.{Rectangle}
 use Rattle.mesh.specs.Tools.{flat}
 use Rattle.mesh.specs.Place.{Place, Grid, base, compass, kid, Wind, NE, SE, SW, NW, In}

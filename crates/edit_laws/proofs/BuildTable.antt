@@ -11,7 +11,8 @@ use mathlib.Core.List.{List, [], _∷_, _++_, map}
 use lib.Dec.{T}
 use lib.IntN.{ℤ}
 use lib.ListN.{length, getD, length-append}
-use Rattle.edit_laws.specs.Growing.{Rooted, dark, bare, Grown, InTurn}
+use Rattle.edit_laws.specs.Rooted.{Rooted}
+use Rattle.edit_laws.specs.BuildSoFar.{dark, bare, Grown, InTurn}
 use Rattle.number_laws.specs.Numbered.{Numbered}
 use Rattle.mesh.specs.Call.{Rectangle}
 use Rattle.mesh.specs.Tools.{any, keep, digits, orElse}

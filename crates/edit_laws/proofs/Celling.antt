@@ -1,8 +1,8 @@
--- Several places get another cell or none, one after the other: the flags' word and the status of each row are written, and its value.
+-- Several places get another cell or none, one after the other: the flags of each row are written and what it carries.
 -- Assumes nothing.
 use Prim.Native.Nat.{ℕ}
 use native.Mathlib.Omega.{arith}
-use mathlib.Core.Path.{_≡_, refl, sym, ap, _∙_, fun-ext}
+use mathlib.Core.Path.{_≡_, refl, sym, ap, ap₂, _∙_, fun-ext}
 use mathlib.Core.Logic.{_≢_}
 use mathlib.Core.Bool.{Bool, true, false, _||_, cond}
 use mathlib.Core.Option.{Option, some}
@@ -11,20 +11,22 @@ use lib.Ieee.{Float}
 use lib.IntN.{ℤ}
 use lib.ListN.{set}
 use borrow.Author.Tests.{ne-eqb}
-use Rattle.edit_laws.specs.Growing.{Rooted}
+use Rattle.edit_laws.specs.Rooted.{Rooted}
 use Rattle.number_laws.specs.Numbered.{Numbered}
-use Rattle.mesh.specs.Tools.{any, orElse}
+use Rattle.mesh.specs.Tools.{any}
 use Rattle.mesh.specs.Place.{Place, Grid, same, In}
-use Rattle.mesh.specs.State.{Entry, nil, free, used, Cell, blank, status, amount, valueOf, entry, number}
+use Rattle.mesh.specs.State.{Entry, nil, free, used, Cell, amount, valueOf, placeOf, entry, number}
+use Rattle.mesh.specs.Picture.{flagsWord}
 use Rattle.mesh.specs.Request.{filled, fill}
 use Rattle.place_laws.proofs.Places.{in-here, in-there, in-one}
 use Rattle.number_laws.proofs.NumberedPlaces.{number-place}
-use Rattle.number_laws.proofs.Filling.{fill-number, fill-numbered}
+use Rattle.number_laws.proofs.Filling.{fill-number}
+use Rattle.carried.specs.Carried.{putStatus, putAmount}
 use Rattle.edit_laws.specs.Linked.{Flags, tableWith, withFlags}
-use Rattle.edit_laws.specs.Steps.{putUnlessNil}
-use Rattle.edit_laws.specs.Tables.{Spot, putCells, putValues}
+use Rattle.edit_laws.specs.PatchSteps.{putWord}
+use Rattle.edit_laws.specs.Tables.{Spot, kidAt, eachAt, putCell, putCellAmount, putCells, putAmounts}
 use Rattle.edit_laws.proofs.FreeNumbers.{Alive}
-use Rattle.edit_laws.proofs.Setting.{map-same, map-but, filled-other, filled-here, put-flags, put-status, fill-rooted, fill-first}
+use Rattle.edit_laws.proofs.Setting.{map-same, map-but, filled-other, filled-here, carriedIn, put-flags, put-status, fill-rooted, fill-first}
 use Rattle.edit_laws.proofs.Named.{AllNamed, no-more, one-more, named-same, kid-at}
 
 -- these places' flags are others
@@ -60,61 +62,54 @@ fill-same ps qs y es h = map-same (filled ps y) (filled qs y) nil es (λ n. go (
     go free = refl
     go (used p x) = rw (h p)
 
--- ---- flags and status
+-- ---- one place
 
-pub put-cells : {g : Grid} {cap : ℕ} {es : List Entry} → Rooted g cap es → (f : Flags) (x : ℕ) (y : Option Cell) {e : ℕ} {xs : List Spot} (qs : List Place)
+-- the value of each entry
+abbrev pub valuesOf : List Entry → List Float
+valuesOf es = map (λ e. amount (valueOf e)) es
+
+module _ (g : Grid) (es : List Entry) (u : Numbered es) (n : ℕ) (q : Place) (there : placeOf (entry es n) ≡ some q) (y : Option Cell) where
+  pub put-cell : (f : Flags) (x : ℕ) → putStatus (putWord (tableWith g es f) n flagsWord x) n (carriedIn y) ≡ tableWith g (fill (q ∷ []) y es) (withFlags q x f)
+  put-cell f x = ap (λ (t : List ℤ). putStatus t n (carriedIn y)) (put-flags g es u f n q there x) ∙ put-status g es u (withFlags q x f) n q there y
+
+  pub put-amount : putAmount (valuesOf es) n (carriedIn y) ≡ valuesOf (fill (q ∷ []) y es)
+  unfolding fill
+  put-amount =
+      ap (set (valuesOf es) n) (sym (ap amt (filled-here (q ∷ []) y (entry es n) q there (in-here q q [] refl))))
+      ∙ map-but amt (λ e. amt (filled (q ∷ []) y e)) nil es n (λ m w. sym (ap amt (filled-other (q ∷ []) y (entry es m) (λ p h i. w (u .once m n q (h ∙ ap some (in-one p q i)) there)))))
+      ∙ sym (map-map amt (filled (q ∷ []) y) es)
+    where
+      amt : Entry → Float
+      amt e = amount (valueOf e)
+
+-- ---- one place after the other
+
+pub cells-put : {g : Grid} {cap : ℕ} {es : List Entry} → Rooted g cap es → (f : Flags) (x : ℕ) (y : Option Cell) {e : ℕ} {xs : List Spot} (qs : List Place)
     → AllNamed es e xs (map some qs) → ((q : Place) → In q qs → number es q ≢ 0)
-    → putCells xs (tableWith g es f) cap x (status (orElse blank (λ z. z .value) y)) ≡ tableWith g (fill qs y es) (withAll qs x f)
-unfolding putCells
-put-cells {g} {cap} {es} r f x y [] no-more there = ap (λ (ds : List Entry). tableWith g ds f) (sym (fill-none y es))
-put-cells {g} {cap} {es} r f x y (q ∷ qs) (one-more {xs = xs} n ns) there =
-    let st = status (orElse blank (λ z. z .value) y) in
+    → (putCells x (carriedIn y) cap xs (tableWith g es f) ≡ tableWith g (fill qs y es) (withAll qs x f))
+    × (putAmounts x (carriedIn y) cap xs (tableWith g es f) (valuesOf es) ≡ valuesOf (fill qs y es))
+unfolding eachAt putAmounts
+cells-put {g} {cap} {es} r f x y [] no-more there = (ap (λ (ds : List Entry). tableWith g ds f) (sym (fill-none y es)), ap valuesOf (sym (fill-none y es)))
+cells-put {g} {cap} {es} r f x y (q ∷ qs) (one-more {x = spot} {xs = xs} n ns) there =
+    let c = carriedIn y in
+    let t = tableWith g es f in
     let k = number es q in
     let z : k ≢ 0 = there q (in-here q q qs refl) in
     let h = number-place es q z in
     let one = fill (q ∷ []) y es in
     let same-number : (o : Place) → number es o ≡ number one o = λ o. sym (fill-number (q ∷ []) y es o) in
-    let written : putUnlessNil (putUnlessNil (tableWith g es f) k 12 x) k 13 st ≡ tableWith g one (withFlags q x f) =
-    rw (ne-eqb k 0 z, put-flags g es (r .numbered) f k q h x) (put-status g es (r .numbered) (withFlags q x f) k q h y) in
-    ap (λ (j : ℕ). putCells xs (putUnlessNil (putUnlessNil (tableWith g es f) j 12 x) j 13 st) cap x st) (kid-at r f n)
-    ∙ ap (λ (u : List ℤ). putCells xs u cap x st) written
-    ∙ put-cells (fill-rooted (q ∷ []) y r) (withFlags q x f) x y qs (named-same (λ o d. same-number o) ns) (λ o i w. there o (in-there o q qs i) (same-number o ∙ w))
-    ∙ ap (λ (ds : List Entry). tableWith g ds (withAll qs x (withFlags q x f))) (sym (fill-first q qs y es))
-    ∙ ap (tableWith g (fill (q ∷ qs) y es)) (fun-ext (λ p. either (same p q) (any (same p) qs) (f p)))
+    let words : putCell x c t (kidAt t cap spot) ≡ tableWith g one (withFlags q x f) = rw (kid-at r f n, ne-eqb k 0 z) (put-cell g es (r .numbered) k q h y f x) in
+    let values : putCellAmount c (valuesOf es) (kidAt t cap spot) ≡ valuesOf one = rw (kid-at r f n, ne-eqb k 0 z) (put-amount g es (r .numbered) k q h y) in
+    let (a, b) = cells-put (fill-rooted (q ∷ []) y r) (withFlags q x f) x y qs (named-same (λ o d. same-number o) ns) (λ o i w. there o (in-there o q qs i) (same-number o ∙ w)) in (
+      ap (eachAt (putCell x c) cap xs) words
+          ∙ a
+          ∙ ap (λ (ds : List Entry). tableWith g ds (withAll qs x (withFlags q x f))) (sym (fill-first q qs y es))
+          ∙ ap (tableWith g (fill (q ∷ qs) y es)) (fun-ext (λ p. either (same p q) (any (same p) qs) (f p))),
+      ap₂ (putAmounts x c cap xs) words values ∙ b ∙ ap valuesOf (sym (fill-first q qs y es)),
+    )
   where
     either : (a b : Bool) (m : ℕ) → cond b x (cond a x m) ≡ cond (a || b) x m
     either true true m = refl
     either true false m = refl
     either false true m = refl
     either false false m = refl
-
--- ---- values
-
--- the value of each entry
-abbrev pub valuesOf : List Entry → List Float
-valuesOf es = map (λ e. amount (valueOf e)) es
-
-pub put-value : (es : List Entry) → Numbered es → (q : Place) (y : Option Cell) → number es q ≢ 0
-    → set (valuesOf es) (number es q) (amount (orElse blank (λ z. z .value) y)) ≡ valuesOf (fill (q ∷ []) y es)
-unfolding fill
-put-value es u q y z =
-    ap (set (valuesOf es) (number es q)) (sym (ap amt (filled-here (q ∷ []) y (entry es (number es q)) q (number-place es q z) (in-here q q [] refl))))
-    ∙ map-but amt (λ e. amt (filled (q ∷ []) y e)) nil es (number es q) (λ m w. sym (ap amt (filled-other (q ∷ []) y (entry es m) (λ p h i. w (u .once m (number es q) q (h ∙ ap some (in-one p q i)) (number-place es q z))))))
-    ∙ sym (map-map amt (filled (q ∷ []) y) es)
-  where
-    amt : Entry → Float
-    amt e = amount (valueOf e)
-
--- the table is one in which the places have the same numbers
-pub put-values : {g : Grid} {cap : ℕ} {ds : List Entry} → Rooted g cap ds → (f : Flags) (y : Option Cell) {e : ℕ} {xs : List Spot} (qs : List Place)
-    → AllNamed ds e xs (map some qs) → ((q : Place) → In q qs → number ds q ≢ 0) → (es : List Entry) → Numbered es → ((q : Place) → number ds q ≡ number es q)
-    → putValues xs (tableWith g ds f) cap (amount (orElse blank (λ z. z .value) y)) (valuesOf es) ≡ valuesOf (fill qs y es)
-unfolding putValues
-put-values r f y [] no-more there es u same-number = ap valuesOf (sym (fill-none y es))
-put-values {g} {cap} {ds} r f y (q ∷ qs) (one-more {xs = xs} n ns) there es u same-number =
-    let a = amount (orElse blank (λ z. z .value) y) in
-    let z : number es q ≢ 0 = λ w. there q (in-here q q qs refl) (same-number q ∙ w) in
-    ap (λ (k : ℕ). putValues xs (tableWith g ds f) cap a (set (valuesOf es) k a)) (kid-at r f n ∙ same-number q)
-    ∙ ap (putValues xs (tableWith g ds f) cap a) (put-value es u q y z)
-    ∙ put-values r f y qs ns (λ o i. there o (in-there o q qs i)) (fill (q ∷ []) y es) (fill-numbered (q ∷ []) y es u) (λ o. same-number o ∙ sym (fill-number (q ∷ []) y es o))
-    ∙ ap valuesOf (sym (fill-first q qs y es))

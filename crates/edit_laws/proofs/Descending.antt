@@ -11,7 +11,7 @@ use mathlib.Core.List.{List, [], _∷_, _++_, map}
 use lib.Dec.{T, eqb, eqb→eq, leb, leb→le}
 use lib.IntN.{ℤ}
 use borrow.Author.Tests.{eq-eqb, ne-eqb}
-use Rattle.edit_laws.specs.Growing.{Rooted}
+use Rattle.edit_laws.specs.Rooted.{Rooted}
 use Rattle.mesh.specs.Tools.{any, all, flat}
 use Rattle.mesh.specs.Place.{Place, Grid, parent, same}
 use Rattle.mesh.specs.State.{Entry, stands, number, numberOf}

@@ -12,7 +12,7 @@ use lib.Dec.{T, eqb}
 use lib.IntN.{ℤ}
 use lib.ListN.{set}
 use borrow.Author.Tests.{eq-eqb, ne-eqb}
-use Rattle.edit_laws.specs.Growing.{Rooted}
+use Rattle.edit_laws.specs.Rooted.{Rooted}
 use Rattle.mesh.specs.Tools.{any, orElse}
 use Rattle.mesh.specs.Place.{Place, Grid, root, same, base, parent}
 use Rattle.mesh.specs.Mesh.{touched, patch}
@@ -23,7 +23,7 @@ use Rattle.place_laws.proofs.Tree.{patch-touched, touched-patch}
 use Rattle.number_laws.proofs.Entries.{stands-in, in-stands}
 use Rattle.number_laws.proofs.NumberedPlaces.{number-place, numbered-not-zero}
 use Rattle.edit_laws.specs.Linked.{Flags, tableWith}
-use Rattle.edit_laws.specs.Steps.{takeOut}
+use Rattle.edit_laws.specs.PatchSteps.{takeOut}
 use Rattle.table.specs.Worked.{touchedIn}
 use Rattle.edit_laws.specs.Tables.{Spot, dropUntouched, eachAt}
 use Rattle.edit_laws.proofs.Changing.{swap-number, swap-same, swap-other}

@@ -13,7 +13,7 @@ use lib.Dec.{T, eqb, lit<}
 use lib.IntN.{ℤ}
 use lib.ListN.{getD}
 use borrow.Author.Tests.{eq-eqb}
-use Rattle.edit_laws.specs.Growing.{Rooted}
+use Rattle.edit_laws.specs.Rooted.{Rooted}
 use Rattle.mesh.specs.Tools.{any, digits}
 use Rattle.mesh.specs.Place.{Place, Grid, Wind, N, E, S, W, base, step, parent, around}
 use Rattle.mesh.specs.Winds.{wordOfWind}

@@ -24,7 +24,7 @@ use Rattle.table.specs.Writes.{freeRow}
 use Rattle.table_laws.proofs.LinkedRows.{kid-word-lt}
 use Rattle.free.specs.FreeMap.{switched}
 use Rattle.edit_laws.specs.Linked.{Flags, fieldsWith, tableWith}
-use Rattle.edit_laws.specs.Steps.{putWord, placeIn, linkIn, takeOut}
+use Rattle.edit_laws.specs.PatchSteps.{putWord, placeIn, linkIn, takeOut}
 use Rattle.edit_laws.proofs.Slots.{put-same, put-other}
 use Rattle.edit_laws.proofs.Linked.{word-field}
 use Rattle.edit_laws.proofs.Lengths.{unnamed, length-unnamed}

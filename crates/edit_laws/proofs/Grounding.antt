@@ -7,7 +7,8 @@ use mathlib.Core.Option.{some}
 use mathlib.Core.List.{List, [], _∷_}
 use lib.Dec.{eqb, eqb-refl, ltb}
 use lib.ListN.{length}
-use Rattle.edit_laws.specs.Growing.{Rooted, InTurn}
+use Rattle.edit_laws.specs.Rooted.{Rooted}
+use Rattle.edit_laws.specs.BuildSoFar.{InTurn}
 use Rattle.mesh.specs.Tools.{any, keep}
 use Rattle.mesh.specs.Place.{Place, Grid, same, base, In}
 use Rattle.mesh.specs.State.{Entry, placeOf, entry}
@@ -15,7 +16,7 @@ use Rattle.mesh.specs.Build.{full}
 use Rattle.place_laws.proofs.Bools.{yes-is}
 use Rattle.place_laws.proofs.Places.{in-here, in-there}
 use Rattle.edit_laws.specs.Linked.{Flags, tableWith, withFlags}
-use Rattle.edit_laws.specs.Steps.{putWord}
+use Rattle.edit_laws.specs.PatchSteps.{putWord}
 use Rattle.edit_laws.specs.Built.{eachRow, groundRow}
 use Rattle.edit_laws.proofs.Linked.{i-of, j-of}
 use Rattle.edit_laws.proofs.Setting.{put-flags}

@@ -8,7 +8,7 @@ use mathlib.Core.Bool.{Bool, true, false, cond}
 use mathlib.Core.Option.{none, some, Option·none-ne-some}
 use mathlib.Core.List.{List, [], _∷_, _++_, append-assoc, append-nil}
 use lib.ListN.{length, set, length-append}
-use Rattle.edit_laws.specs.Growing.{dark, bare, Grown, InTurn}
+use Rattle.edit_laws.specs.BuildSoFar.{dark, bare, Grown, InTurn}
 use Rattle.mesh.specs.Call.{Rectangle}
 use Rattle.mesh.specs.Tools.{keep}
 use Rattle.mesh.specs.Place.{Place, Grid, same, base, In, Distinct}
@@ -25,7 +25,7 @@ use Rattle.place_laws.proofs.Extent.{full-patch}
 use Rattle.number_laws.proofs.WrittenPlaces.{written-unnumbered, written-next, written-set, written-longer, written-at}
 use Rattle.table.specs.Words.{wordOf}
 use Rattle.edit_laws.specs.Linked.{tableWith, withFlags}
-use Rattle.edit_laws.specs.Steps.{linkIn}
+use Rattle.edit_laws.specs.PatchSteps.{linkIn}
 use Rattle.edit_laws.specs.Built.{Growth, inFull, grow}
 use Rattle.edit_laws.proofs.Linked.{i-of, j-of}
 use Rattle.edit_laws.proofs.Adding.{link-in, link-in-rooted}

@@ -10,13 +10,12 @@ use mathlib.Core.Option.{Option, none, some}
 use mathlib.Core.List.{List, [], _∷_, map}
 use lib.Dec.{T}
 use lib.IntN.{ℤ}
-use lib.ListN.{set}
 use borrow.Author.Tests.{eq-eqb, ne-eqb}
-use Rattle.edit_laws.specs.Growing.{Rooted}
+use Rattle.edit_laws.specs.Rooted.{Rooted}
 use Rattle.mesh.specs.Tools.{any, digits}
 use Rattle.mesh.specs.Place.{Place, Grid, N, E, S, W, same, base, toNorth, toEast, In, step}
 use Rattle.mesh.specs.Mesh.{patch, leaf, flags}
-use Rattle.mesh.specs.State.{State, Entry, plusZero, placeOf, stands, entry, cells, number, numberOf, placeAt, gridOf, capacity, withEntries}
+use Rattle.mesh.specs.State.{State, Entry, placeOf, stands, entry, cells, number, numberOf, placeAt, gridOf, capacity, withEntries}
 use Rattle.mesh.specs.Valid.{Valid}
 use Rattle.mesh.specs.Picture.{table, amounts}
 use Rattle.mesh.specs.Refusal.{refusal}
@@ -38,14 +37,13 @@ use Rattle.number_laws.proofs.Keeping.{Kept}
 use Rattle.number_laws.proofs.Naming.{Named, named-in}
 use Rattle.number_laws.proofs.Taking.{kill-passed, kill-kept}
 use Rattle.table_laws.proofs.LinkedRows.{touched-stands, corner-numbered}
-use Rattle.edit_laws.specs.Linked.{Flags, tableWith, withFlags, flagsOf}
-use Rattle.edit_laws.specs.Steps.{putWord}
+use Rattle.edit_laws.specs.Linked.{Flags, tableWith, flagsOf}
 use Rattle.edit_laws.specs.Tables.{cleared, droppedCorners, stillUsed, refreshLevels, killTable, killValues}
 use Rattle.edit_laws.proofs.Linked.{picture-linked, flags-of, word-free}
 use Rattle.edit_laws.proofs.Rooted.{valid-rooted}
-use Rattle.edit_laws.proofs.Setting.{flags-same, put-flags, put-status, fill-rooted}
+use Rattle.edit_laws.proofs.Setting.{flags-same, fill-rooted}
 use Rattle.edit_laws.proofs.FlagsAnew.{Ready, link-side}
-use Rattle.edit_laws.proofs.Celling.{withAll, all-alive, put-value, valuesOf}
+use Rattle.edit_laws.proofs.Celling.{withAll, all-alive, put-cell, put-amount}
 use Rattle.edit_laws.proofs.Starting.{markOf, startFlags, start-alive, picture-start, free-numbers}
 use Rattle.edit_laws.proofs.FreeNumbers.{Alive, free-at, fill-frees}
 use Rattle.edit_laws.proofs.Thinning.{thinned-nothing, thinned-place, thinned-prune}
@@ -118,8 +116,7 @@ module _ (s : State) (v : Valid s) (n : ℕ) (h : refusal (looseChecks s (kill n
 
   without-cell : cleared (tableWith g es f₀) n ≡ tableWith g between f₁
   without-cell =
-      ap (λ (t : List ℤ). putWord t n 13 0) (put-flags g es (r .numbered) f₀ n p there 0)
-      ∙ put-status g es (r .numbered) (withFlags p 0 f₀) n p there none
+      put-cell g es (r .numbered) n p there none f₀ 0
       ∙ ap (tableWith g between) (fun-ext (λ q. alone (same q p) (f₀ q)))
     where
       alone : (b : Bool) (x : ℕ) → cond b 0 x ≡ cond (b || false) 0 x
@@ -328,6 +325,5 @@ module _ (s : State) (v : Valid s) (n : ℕ) (h : refusal (looseChecks s (kill n
   pub kill-values : killValues n (amounts s) ≡ amounts (effect s (kill n))
   unfolding killValues effect amounts
   kill-values =
-      ap (λ (k : ℕ). set (valuesOf es) k plusZero) own-number
-      ∙ put-value es (r .numbered) p none (corner-numbered s v (its .is-there) c-here)
+      put-amount g es (r .numbered) n p there none
       ∙ sym (prune-values g between (cell-patch g (cells between) (mid .mesh)))

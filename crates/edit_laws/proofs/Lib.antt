@@ -23,7 +23,6 @@ pub mod Supplying
 pub mod Starting
 pub mod Nearby
 pub mod Refined
-pub mod RefinedValues
 pub mod Touching
 pub mod Thinning
 pub mod Losing

@@ -114,10 +114,6 @@ module _ (g : Grid) (es : List Entry) (f : Flags) where
     unfolding wordOf
     flags-of = ap code word-flags
 
-    pub status-of : wordOf (tableWith g es f) n 13 ≡ status (valueOf (entry es n))
-    unfolding wordOf
-    status-of = ap code word-status
-
   -- ---- a row that is not
 
   pub word-free : (n w : ℕ) → w < rowWords → entry es n ≡ free → word (tableWith g es f) n w ≡ getD freeRow w (pos 0)

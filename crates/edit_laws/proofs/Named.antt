@@ -9,7 +9,7 @@ use mathlib.Core.Option.{Option, none, some, Option·map, Option·some-injective
 use mathlib.Core.List.{List, [], _∷_, _++_, map}
 use lib.Dec.{lit<}
 use lib.ListN.{getD}
-use Rattle.edit_laws.specs.Growing.{Rooted}
+use Rattle.edit_laws.specs.Rooted.{Rooted}
 use Rattle.mesh.specs.Tools.{any}
 use Rattle.mesh.specs.Place.{Place, Grid, base, same, root, compass, toNorth, toEast, kid, kids, Wind, NE, SE, SW, NW, N, E, S, W, In, step}
 use Rattle.mesh.specs.State.{Entry, placeOf, entry, number, numberOf}

@@ -10,7 +10,7 @@ use mathlib.Core.Bool.{Bool, false, _||_}
 use mathlib.Core.Option.{Option, some}
 use mathlib.Core.List.{List, [], _∷_, _++_, map}
 use lib.Dec.{T}
-use Rattle.edit_laws.specs.Growing.{Rooted}
+use Rattle.edit_laws.specs.Rooted.{Rooted}
 use Rattle.mesh.specs.Tools.{any, digits, orElse}
 use Rattle.mesh.specs.Place.{Place, Grid, SE, SW, NW, base, same, kid, parent, toNorth, toEast, In, step, S, W}
 use Rattle.mesh.specs.Mesh.{Mesh, touched, flags}

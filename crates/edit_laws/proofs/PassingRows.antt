@@ -12,7 +12,8 @@ use mathlib.Core.List.{List, [], _∷_, _++_, map}
 use lib.Dec.{T}
 use lib.IntN.{ℤ}
 use lib.ListN.{length}
-use Rattle.edit_laws.specs.Growing.{Rooted, InTurn}
+use Rattle.edit_laws.specs.Rooted.{Rooted}
+use Rattle.edit_laws.specs.BuildSoFar.{InTurn}
 use Rattle.mesh.specs.Tools.{any, orElse}
 use Rattle.mesh.specs.Place.{Place, Grid, same, In}
 use Rattle.mesh.specs.State.{Entry, placeOf, entry, number, numberOf}

@@ -1,21 +1,24 @@
 -- An accepted refinement on the table: the nine patches are supplied where they are missing, the kids become cells with what they inherit, and
--- the rows around them are refreshed. What is left is the picture of the refined state.
+-- the rows around them are refreshed. What is left is the picture of the refined state, and the values are those of it.
 -- Assumes nothing.
 use Prim.Native.Nat.{ℕ, _≤_}
 use native.Mathlib.Omega.{arith}
-use mathlib.Core.Path.{_≡_, refl, sym, ap, _∙_, subst}
+use mathlib.Core.Path.{_≡_, refl, sym, ap, ap₂, _∙_, subst}
 use mathlib.Core.Logic.{_≢_}
 use mathlib.Core.Bool.{Bool, true, false, _||_, cond}
 use mathlib.Core.Option.{some}
 use mathlib.Core.List.{List, map}
 use lib.Dec.{T}
 use lib.IntN.{ℤ}
+use lib.Ieee.{Float}
+use lib.ListN.{length-map, List·getD-map}
+use lib.Seq.{ext-getD}
 use Rattle.number_laws.specs.Numbered.{Numbered}
 use Rattle.mesh.specs.Tools.{any, orElse}
 use Rattle.mesh.specs.Place.{Place, Grid, base, same, kids, parent, toEast, In}
-use Rattle.mesh.specs.State.{State, Entry, Cell, Value, blank, measured, carried, status, valueOf, placeOf, stands, entry, cells, number, gridOf, capacity, withEntries, contents}
+use Rattle.mesh.specs.State.{State, Entry, nil, Cell, Value, blank, measured, carried, amount, plusZero, valueOf, placeOf, stands, entry, cells, number, gridOf, capacity, withEntries, contents}
 use Rattle.mesh.specs.Valid.{Valid}
-use Rattle.mesh.specs.Picture.{table}
+use Rattle.mesh.specs.Picture.{table, amounts}
 use Rattle.mesh.specs.Refusal.{refusal}
 use Rattle.mesh.specs.Carrying.{inherited, kidCell}
 use Rattle.mesh.specs.Request.{refine, wanted, looseChecks, give, fill, effect}
@@ -28,28 +31,31 @@ use Rattle.place_laws.proofs.Wanted.{wanted-corner, wanted-distinct, kid-wanted
 use Rattle.place_laws.proofs.Frames.{grown-else}
 use Rattle.number_laws.proofs.NumberedPlaces.{valid-numbered, numbered-not-zero}
 use Rattle.number_laws.proofs.Filling.{fill-place, fill-number}
-use Rattle.number_laws.proofs.Giving.{Gave, kept-place, kept-number}
+use Rattle.number_laws.proofs.Giving.{Change, stays, taken, Gave, kept-place, kept-number}
 use Rattle.number_laws.proofs.Refining.{Refinable, refinable, have, here, kids-there, after-numbered, after-contents, after-cells, after-valid, effect-is}
-use Rattle.table.specs.Words.{wordOf, freeAt}
+use Rattle.table.specs.Words.{freeAt}
+use Rattle.carried.specs.Carried.{carriedOf, carriedFor, passedDown}
+use Rattle.carried.specs.declared.Carried.{Carried}
+use Rattle.table_laws.proofs.Pictured.{carried-there}
 use Rattle.table_laws.proofs.LinkedRows.{corner-numbered}
 use Rattle.edit_laws.specs.Linked.{Flags, tableWith, flagsOf}
-use Rattle.edit_laws.specs.Tables.{kidSpots, wantedSpots, putCells, suppliedNear, kidStatus, refineTable}
-use Rattle.edit_laws.proofs.Linked.{status-of, picture-linked}
+use Rattle.edit_laws.specs.Tables.{kidSpots, wantedSpots, putCells, putAmounts, suppliedNear, refineTable, refineValues}
+use Rattle.edit_laws.proofs.Linked.{picture-linked}
 use Rattle.edit_laws.proofs.Rooted.{valid-rooted}
 use Rattle.edit_laws.proofs.Setting.{fill-rooted}
 use Rattle.edit_laws.proofs.FlagsAnew.{bit}
 use Rattle.edit_laws.proofs.Named.{AllNamed, kidsInTurn, kids-turn, kids-named, wanted-named}
-use Rattle.edit_laws.proofs.Celling.{withAll, fill-same, put-cells}
+use Rattle.edit_laws.proofs.Celling.{withAll, fill-same, valuesOf, cells-put}
 use Rattle.edit_laws.proofs.FreeNumbers.{free-at, fill-frees}
 use Rattle.edit_laws.proofs.Supplying.{Shows, give-shows}
 use Rattle.edit_laws.proofs.Starting.{startFlags, start-stands, start-blank, start-alive, start-complete, start-sentenced, picture-start, free-numbers}
 use Rattle.edit_laws.proofs.Nearby.{Nearly, refresh-near}
 
 -- "kids of a blank cell are blank, otherwise carried"
-status-down : (w : Value) → kidStatus (status w) ≡ status (inherited w)
-status-down blank = refl
-status-down (measured y) = refl
-status-down (carried y) = refl
+passed-down : (w : Value) → passedDown (carriedFor w) ≡ carriedFor (inherited w)
+passed-down blank = refl
+passed-down (measured y) = refl
+passed-down (carried y) = refl
 
 module _ (s : State) (v : Valid s) (n : ℕ) (p : Place) (x : Cell) (r : Refinable s n p x) where
   abbrev g : Grid
@@ -93,22 +99,19 @@ module _ (s : State) (v : Valid s) (n : ℕ) (p : Place) (x : Cell) (r : Refinab
   given-own : placeOf (entry (given .entries) n) ≡ some p
   given-own = kept-place gave n p own
 
-  pub kids-stand : (q : Place) → In q (kidsInTurn p) → number (given .entries) q ≢ 0
+  kids-stand : (q : Place) → In q (kidsInTurn p) → number (given .entries) q ≢ 0
   kids-stand q i = kids-there s v n p x r q (subst T (kids-turn p q) i)
 
-  pub after-own : placeOf (entry after n) ≡ some p
+  after-own : placeOf (entry after n) ≡ some p
   after-own = fill-place (kids p) (some (kidCell x)) (given .entries) n ∙ given-own
 
-  pub after-number : (q : Place) → number after q ≡ number (given .entries) q
+  after-number : (q : Place) → number after q ≡ number (given .entries) q
   after-number = fill-number (kids p) (some (kidCell x)) (given .entries)
 
   east-stands : number after (toEast g p) ≢ 0
   east-stands z = let y = corner-numbered s v (here s v n p x r) c-east in y (sym (after-number (toEast g p) ∙ kept-number gave (toEast g p) y) ∙ z)
 
   -- ---- the flags before the rows are refreshed
-
-  status-is : kidStatus (wordOf (table s) n 13) ≡ status (inherited (x .value))
-  status-is = rw (picture-start s u) (ap kidStatus (status-of g es f n p own ∙ ap (λ (e : Entry). status (valueOf e)) (r .stood)) ∙ status-down (x .value))
 
   abbrev flagsThen : Flags
   flagsThen = withAll (kidsInTurn p) 1 f
@@ -150,18 +153,42 @@ module _ (s : State) (v : Valid s) (n : ℕ) (p : Place) (x : Cell) (r : Refinab
 
   -- ---- the kids are cells
 
-  abbrev celled : List ℤ
-  celled = putCells (kidSpots (table s) cap n) (suppliedNear (table s) cap (base g) n) cap 1 (kidStatus (wordOf (table s) n 13))
+  kids-carry : passedDown (carriedOf (table s) (amounts s) n) ≡ carriedFor (inherited (x .value))
+  kids-carry = ap passedDown (carried-there s n ∙ ap (λ (e : Entry). carriedFor (valueOf e)) (r .stood)) ∙ passed-down (x .value)
 
-  cell-table : celled ≡ tableWith g after flagsThen
+  in-turn : fill (kidsInTurn p) (some (kidCell x)) (given .entries) ≡ after
+  in-turn = fill-same (kidsInTurn p) (kids p) (some (kidCell x)) (given .entries) (kids-turn p)
+
+  cell-table : putCells 1 (passedDown (carriedOf (table s) (amounts s) n)) cap (kidSpots (table s) cap n) (suppliedNear (table s) cap (base g) n) ≡ tableWith g after flagsThen
   cell-table =
-      rw (supplied-table .is-table, status-is)
-      (put-cells (supplied-table .rooted) f 1 (some (kidCell x)) (kidsInTurn p) (kids-named (supplied-table .rooted) f n p given-own) kids-stand
-      ∙ ap (λ (ds : List Entry). tableWith g ds flagsThen) (fill-same (kidsInTurn p) (kids p) (some (kidCell x)) (given .entries) (kids-turn p)))
+      ap₂ (λ (c : Carried) (t : List ℤ). putCells 1 c cap (kidSpots t cap n) t) kids-carry (supplied-table .is-table)
+      ∙ cells-put (supplied-table .rooted) f 1 (some (kidCell x)) (kidsInTurn p) (kids-named (supplied-table .rooted) f n p given-own) kids-stand .0
+      ∙ ap (λ (ds : List Entry). tableWith g ds flagsThen) in-turn
+
+  abbrev value : Entry → Float
+  value e = amount (valueOf e)
+
+  -- new patches have no value
+  given-values : valuesOf (given .entries) ≡ valuesOf es
+  given-values =
+      ext-getD plusZero (valuesOf (given .entries)) (valuesOf es) (length-map (given .entries) value ∙ gave .long-same ∙ sym (length-map es value))
+      (λ k l. List·getD-map value (given .entries) k nil ∙ one k (gave .change k) ∙ sym (List·getD-map value es k nil))
+    where
+      one : (k : ℕ) → Change (wanted g p) (entry es k) (entry (given .entries) k) → value (entry (given .entries) k) ≡ value (entry es k)
+      one k (stays e) = ap value e
+      one k (taken q a b i) = ap value b ∙ sym (ap value a)
+
+  refined-values : refineValues (table s) (amounts s) cap (base g) n ≡ amounts (withEntries s after)
+  unfolding refineValues amounts
+  refined-values =
+      ap₂ (λ (c : Carried) (t : List ℤ). putAmounts 1 c cap (kidSpots t cap n) t (valuesOf es)) kids-carry (supplied-table .is-table)
+      ∙ ap (putAmounts 1 (carriedFor (inherited (x .value))) cap (kidSpots (table s) cap n) (tableWith g (given .entries) f)) (sym given-values)
+      ∙ cells-put (supplied-table .rooted) f 1 (some (kidCell x)) (kidsInTurn p) (kids-named (supplied-table .rooted) f n p given-own) kids-stand .1
+      ∙ ap valuesOf in-turn
 
   -- ---- the flags around them
 
-  refined : refineTable (table s) cap (base g) n ≡ table (withEntries s after)
+  refined : refineTable (table s) (amounts s) cap (base g) n ≡ table (withEntries s after)
   unfolding refineTable
   refined =
       rw cell-table
@@ -179,8 +206,11 @@ module _ (s : State) (v : Valid s) (n : ℕ) (p : Place) (x : Cell) (r : Refinab
 -- ---- an accepted refinement
 
 module _ (s : State) (v : Valid s) (n : ℕ) (ok : refusal (looseChecks s (refine n)) ≡ 0) where
-  pub refine-table : refineTable (table s) (capacity s) (base (gridOf s)) n ≡ table (effect s (refine n))
+  pub refine-table : refineTable (table s) (amounts s) (capacity s) (base (gridOf s)) n ≡ table (effect s (refine n))
   refine-table = let (p, x, r) = refinable s v n ok in rw (effect-is s v n p x r) (refined s v n p x r)
+
+  pub refine-values : refineValues (table s) (amounts s) (capacity s) (base (gridOf s)) n ≡ amounts (effect s (refine n))
+  refine-values = let (p, x, r) = refinable s v n ok in rw (effect-is s v n p x r) (refined-values s v n p x r)
 
   -- the free numbers are those that the new patches leave
   pub refine-free : freeAt (suppliedNear (table s) (capacity s) (base (gridOf s)) n) ≡ freeAt (table (effect s (refine n)))

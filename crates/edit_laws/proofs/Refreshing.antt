@@ -8,7 +8,7 @@ use mathlib.Core.Bool.{Bool}
 use mathlib.Core.Option.{some}
 use mathlib.Core.List.{List}
 use borrow.Author.Tests.{ne-eqb}
-use Rattle.edit_laws.specs.Growing.{Rooted}
+use Rattle.edit_laws.specs.Rooted.{Rooted}
 use Rattle.mesh.specs.Tools.{digits}
 use Rattle.mesh.specs.Place.{Place, Grid, base}
 use Rattle.mesh.specs.Mesh.{flags}

@@ -4,18 +4,18 @@
 use Prim.Native.Nat.{ℕ, _≤_}
 use native.Mathlib.Omega.{arith}
 use native.Mathlib.Decide.{decLe}
-use mathlib.Core.Path.{_≡_, refl, sym, ap, _∙_, subst}
+use mathlib.Core.Path.{_≡_, sym, ap, _∙_, subst}
 use mathlib.Core.Logic.{_≢_}
 use mathlib.Core.Bool.{Bool, false, cond}
 use mathlib.Core.Option.{none, some}
 use mathlib.Core.List.{List, map}
 use lib.Dec.{T}
 use lib.IntN.{ℤ}
-use Rattle.edit_laws.specs.Growing.{Rooted}
+use Rattle.edit_laws.specs.Rooted.{Rooted}
 use Rattle.mesh.specs.Tools.{any}
 use Rattle.mesh.specs.Place.{Place, Grid, same, base, kids, toEast, In}
 use Rattle.mesh.specs.Mesh.{Mesh, patch, leaf}
-use Rattle.mesh.specs.State.{State, Entry, plusZero, placeOf, stands, entry, cells, number, placeAt, gridOf, capacity, withEntries, contents}
+use Rattle.mesh.specs.State.{State, Entry, placeOf, stands, entry, cells, number, placeAt, gridOf, capacity, withEntries, contents}
 use Rattle.mesh.specs.Valid.{Valid}
 use Rattle.mesh.specs.Picture.{table, amounts}
 use Rattle.mesh.specs.Refusal.{refusal}
@@ -26,6 +26,7 @@ use Rattle.place_laws.proofs.Near.{c-east, corner-depth}
 use Rattle.place_laws.proofs.Tree.{cell-patch}
 use Rattle.place_laws.proofs.Wanted.{corner-wanted, kid-wanted}
 use Rattle.table.specs.Words.{freeAt}
+use Rattle.carried.specs.Carried.{nothing}
 use Rattle.number_laws.proofs.Entries.{stands-in}
 use Rattle.number_laws.proofs.NumberedPlaces.{numbered-not-zero}
 use Rattle.number_laws.proofs.Filling.{fill-place, fill-number, fill-stands}
@@ -35,13 +36,13 @@ use Rattle.number_laws.proofs.Naming.{Named}
 use Rattle.number_laws.proofs.Taking.{remove-passed, remove-kept}
 use Rattle.table_laws.proofs.LinkedRows.{touched-stands, corner-numbered}
 use Rattle.edit_laws.specs.Linked.{Flags, tableWith}
-use Rattle.edit_laws.specs.Tables.{kidSpots, wantedSpots, emptied, dropUntouched, eachAt, droppedNear, refreshNear, putValues, removeTable, removeValues}
+use Rattle.edit_laws.specs.Tables.{kidSpots, wantedSpots, emptied, dropUntouched, eachAt, droppedNear, refreshNear, putAmounts, removeTable, removeValues}
 use Rattle.edit_laws.proofs.Linked.{picture-linked}
 use Rattle.edit_laws.proofs.Rooted.{valid-rooted}
 use Rattle.edit_laws.proofs.Setting.{fill-rooted}
 use Rattle.edit_laws.proofs.Named.{kidsInTurn, kids-turn, kids-named, wanted-named}
 use Rattle.edit_laws.proofs.PassingRows.{among-all}
-use Rattle.edit_laws.proofs.Celling.{withAll, all-alive, fill-same, put-cells, put-values, valuesOf}
+use Rattle.edit_laws.proofs.Celling.{withAll, all-alive, fill-same, cells-put, valuesOf}
 use Rattle.edit_laws.proofs.Starting.{startFlags, start-alive, picture-start, free-numbers}
 use Rattle.edit_laws.proofs.FreeNumbers.{free-at, fill-frees}
 use Rattle.edit_laws.proofs.Emptied.{emptied-complete, emptied-sentenced, emptied-away}
@@ -138,7 +139,7 @@ module _ (s : State) (v : Valid s) (n : ℕ) (h : refusal (looseChecks s (remove
   without-cells : emptied (table s) cap n ≡ tableWith g between f₁
   without-cells =
       ap (λ (t : List ℤ). emptied t cap n) (picture-start s (r .numbered))
-      ∙ put-cells r f₀ 0 none (kidsInTurn p) (kids-named r f₀ n p there) kids-there
+      ∙ cells-put r f₀ 0 none (kidsInTurn p) (kids-named r f₀ n p there) kids-there .0
       ∙ ap (λ (ds : List Entry). tableWith g ds f₁) (fill-same (kidsInTurn p) (kids p) none es (kids-turn p))
 
   near₁ : Nearly g between p c f₁
@@ -211,7 +212,7 @@ module _ (s : State) (v : Valid s) (n : ℕ) (h : refusal (looseChecks s (remove
   pub remove-values : removeValues (table s) (capacity s) n (amounts s) ≡ amounts (effect s (remove n))
   unfolding removeValues effect amounts
   remove-values =
-      ap (λ (t : List ℤ). putValues (kidSpots t cap n) t cap plusZero (valuesOf es)) (picture-start s (r .numbered))
-      ∙ put-values r f₀ none (kidsInTurn p) (kids-named r f₀ n p there) kids-there es (r .numbered) (λ q. refl)
+      ap (λ (t : List ℤ). putAmounts 0 nothing cap (kidSpots t cap n) t (valuesOf es)) (picture-start s (r .numbered))
+      ∙ cells-put r f₀ 0 none (kidsInTurn p) (kids-named r f₀ n p there) kids-there .1
       ∙ ap valuesOf (fill-same (kidsInTurn p) (kids p) none es (kids-turn p))
       ∙ sym (prune-values g between (cell-patch g (cells between) (mid .mesh)))

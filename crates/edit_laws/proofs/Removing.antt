@@ -10,7 +10,7 @@ use mathlib.Core.List.{List, [], _∷_, map}
 use lib.Dec.{T}
 use lib.IntN.{ℤ, pos}
 use lib.ListN.{length, getD, set, length-set}
-use Rattle.edit_laws.specs.Growing.{Rooted}
+use Rattle.edit_laws.specs.Rooted.{Rooted}
 use Rattle.mesh.specs.Tools.{all, flat}
 use Rattle.mesh.specs.Place.{Place, Grid, root, compass, sideWinds, step, parent, around, Wind}
 use Rattle.mesh.specs.Winds.{wordOfWind}
@@ -27,7 +27,7 @@ use Rattle.table.specs.Worked.{kidWord}
 use Rattle.table.specs.Writes.{putRow, freeRow}
 use Rattle.table.proofs.Offsets.{kid-word-range}
 use Rattle.edit_laws.specs.Linked.{Flags, rowWith, tableWith}
-use Rattle.edit_laws.specs.Steps.{putWord, dropSide, takeOut}
+use Rattle.edit_laws.specs.PatchSteps.{putWord, dropSide, takeOut}
 use Rattle.edit_laws.proofs.Slots.{word, Slot, Hit, Off, off-at, untouched, write, write-unless, settled, put-length, put-same, put-other}
 use Rattle.edit_laws.proofs.Linked.{row-length, linked-length, linked-word, i-of, j-of, word-free, word-nil}
 use Rattle.edit_laws.proofs.Rooted.{number-le, link-of}

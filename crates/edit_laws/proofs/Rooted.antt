@@ -1,5 +1,5 @@
--- Entries that make a tree under the root, whatever their cells: what the links of their table need. Then a link is the number of a place, and
--- the level's word gives the depth back.
+-- The entries of a valid state make a tree under the root. Where entries do, a link is the number of a place, and the level's word gives the depth
+-- back.
 -- Assumes nothing.
 use Prim.Native.Nat.{ℕ, suc, _+_, _-_, _≤_, _<_}
 use native.Mathlib.Omega.{arith}
@@ -11,7 +11,7 @@ use lib.Dec.{T}
 use lib.IntN.{subℕ}
 use lib.ListN.{getD}
 use borrow.Author.Tests.{lt-ltb, le-ltb, le-leb}
-use Rattle.edit_laws.specs.Growing.{Rooted}
+use Rattle.edit_laws.specs.Rooted.{Rooted}
 use Rattle.mesh.specs.Place.{Place, Grid, base, level, around}
 use Rattle.mesh.specs.Mesh.{patch}
 use Rattle.mesh.specs.State.{State, Entry, placeOf, entry, cells, number, numberOf, gridOf, capacity}

@@ -1,4 +1,4 @@
--- One field of one row is set: the flags of a place become others, or the status becomes that of another cell. The links do not know either.
+-- One field of one row is set: the flags of a place become others, or what it carries becomes that of another cell. The links do not know either.
 -- Assumes nothing.
 use Prim.Native.Nat.{ℕ, zero, suc, _+_, _*_, _<_}
 use native.Mathlib.Omega.{arith}
@@ -9,20 +9,22 @@ use mathlib.Core.Option.{Option, some}
 use mathlib.Core.List.{List, [], _∷_, _++_, map, map-map}
 use lib.IntN.{ℤ, pos}
 use lib.ListN.{length, getD, set, List·getD-map}
-use Rattle.edit_laws.specs.Growing.{Rooted}
+use Rattle.edit_laws.specs.Rooted.{Rooted}
 use Rattle.number_laws.specs.Numbered.{Numbered}
 use Rattle.mesh.specs.Tools.{any, flat, orElse}
 use Rattle.mesh.specs.Place.{Place, Grid, same, around, In}
-use Rattle.mesh.specs.State.{Entry, nil, free, used, Cell, blank, status, placeOf, cellOf, entry, number}
-use Rattle.mesh.specs.Picture.{rowWords}
+use Rattle.mesh.specs.State.{Entry, nil, free, used, Cell, blank, placeOf, cellOf, entry, number}
+use Rattle.mesh.specs.Picture.{rowWords, statusWord}
 use Rattle.mesh.specs.Request.{filled, fill}
 use Rattle.place_laws.proofs.Bools.{yes-is, no-is}
 use Rattle.place_laws.proofs.Places.{same-is, same-refl, in-here, in-one}
 use Rattle.number_laws.proofs.Entries.{place-used}
 use Rattle.number_laws.proofs.Filling.{fill-length, fill-place, fill-number, fill-stands, fill-numbered}
 use Rattle.picture_laws.proofs.Rows.{map-even, set-flat}
+use Rattle.carried.specs.Carried.{carriedFor, putStatus}
+use Rattle.carried.specs.declared.Carried.{Carried}
 use Rattle.edit_laws.specs.Linked.{Flags, fieldsWith, rowWith, tableWith, withFlags}
-use Rattle.edit_laws.specs.Steps.{putWord}
+use Rattle.edit_laws.specs.PatchSteps.{putWord}
 use Rattle.edit_laws.proofs.Linked.{row-length}
 
 -- ---- rows of entries, one of them changed
@@ -78,6 +80,10 @@ module _ (g : Grid) (es : List Entry) where
 
 -- ---- another cell, or none
 
+-- what its row carries
+abbrev pub carriedIn : Option Cell → Carried
+carriedIn y = carriedFor (orElse blank (λ x. x .value) y)
+
 -- the rows know the entries by their numbers alone
 pub row-numbers : (g : Grid) (es ds : List Entry) (f : Flags) → ((p : Place) → number ds p ≡ number es p) → (e : Entry) → rowWith g ds f e ≡ rowWith g es f e
 unfolding rowWith
@@ -92,17 +98,14 @@ pub filled-here : (ps : List Place) (y : Option Cell) (e : Entry) (q : Place) �
 filled-here ps y e q h i = ap (filled ps y) (place-used e q h) ∙ rw (yes-is (any (same q) ps) i)
 
 module _ (g : Grid) (es : List Entry) (u : Numbered es) (f : Flags) (n : ℕ) (q : Place) (there : placeOf (entry es n) ≡ some q) (y : Option Cell) where
-  abbrev statusThen : ℕ
-  statusThen = status (orElse blank (λ x. x .value) y)
-
-  own-status : (e : Entry) → e ≡ used q (cellOf e) → set (rowWith g es f e) 13 (pos statusThen) ≡ rowWith g es f (used q y)
+  own-status : (e : Entry) → e ≡ used q (cellOf e) → set (rowWith g es f e) statusWord (carriedIn y .status) ≡ rowWith g es f (used q y)
   unfolding rowWith around fieldsWith
   own-status e h = rw h
 
-  pub put-status : putWord (tableWith g es f) n 13 (status (orElse blank (λ x. x .value) y)) ≡ tableWith g (fill (q ∷ []) y es) f
+  pub put-status : putStatus (tableWith g es f) n (carriedIn y) ≡ tableWith g (fill (q ∷ []) y es) f
   unfolding tableWith fill
   put-status =
-      set-row (rowWith g es f) (λ e. rowWith g (fill (q ∷ []) y es) f (filled (q ∷ []) y e)) (row-length g es f) es n 13 (pos statusThen) (omega arith)
+      set-row (rowWith g es f) (λ e. rowWith g (fill (q ∷ []) y es) f (filled (q ∷ []) y e)) (row-length g es f) es n statusWord (carriedIn y .status) (omega arith)
       (λ m z. sym (row (entry es m) ∙ ap (rowWith g es f) (filled-other (q ∷ []) y (entry es m) (λ p h i. others-apart g es u f n q there m z p h (in-one p q i)))))
       (own-status (entry es n) (place-used (entry es n) q there) ∙ sym (row (entry es n) ∙ ap (rowWith g es f) (filled-here (q ∷ []) y (entry es n) q there (in-here q q [] refl))))
       ∙ ap flat (sym (map-map (rowWith g (fill (q ∷ []) y es) f) (filled (q ∷ []) y) es))

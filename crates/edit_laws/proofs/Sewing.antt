@@ -13,7 +13,8 @@ use lib.Dec.{eqb}
 use lib.IntN.{ℤ, pos}
 use lib.ListN.{length, getD}
 use borrow.Author.Tests.{eq-eqb, ne-eqb}
-use Rattle.edit_laws.specs.Growing.{Rooted, InTurn}
+use Rattle.edit_laws.specs.Rooted.{Rooted}
+use Rattle.edit_laws.specs.BuildSoFar.{InTurn}
 use Rattle.mesh.specs.Place.{Place, Grid, at, root, base, level, lap, isRing, then, step, around, N, E, S, W, In}
 use Rattle.mesh.specs.Seam.{opened}
 use Rattle.mesh.specs.State.{Entry, nil, free, used, placeOf, entry, number, numberOf}
@@ -28,7 +29,7 @@ use Rattle.table.specs.Worked.{kidWord, downTo}
 use Rattle.table.proofs.Offsets.{kid-word-range}
 use Rattle.table_laws.proofs.DownRows.{KidsNamed, down-to}
 use Rattle.edit_laws.specs.Linked.{Flags, fieldsWith, tableWith}
-use Rattle.edit_laws.specs.Steps.{putWord}
+use Rattle.edit_laws.specs.PatchSteps.{putWord}
 use Rattle.edit_laws.specs.Built.{eachRow, seamRow}
 use Rattle.edit_laws.proofs.Slots.{word, Slot, Hit, hit-early, hit-later, hit-cases, Off, off-at, untouched, write, settled}
 use Rattle.edit_laws.proofs.Linked.{linked-length, word-link, word-field, word-i, word-j, word-nil}

@@ -13,7 +13,7 @@ use lib.Seq.{length-take-le, getD-set-same, getD-set-other, getD-append-add, get
 use borrow.Author.Tests.{eq-eqb, ne-eqb}
 use Rattle.mesh.specs.Picture.{rowWords}
 use Rattle.table.specs.Writes.{putRow}
-use Rattle.edit_laws.specs.Steps.{putUnlessNil}
+use Rattle.edit_laws.specs.PatchSteps.{putUnlessNil}
 
 -- the word w of the row n, as it stands in the table
 abbrev pub word : List ℤ → ℕ → ℕ → ℤ

@@ -9,7 +9,7 @@ use mathlib.Core.Bool.{Bool, true, false, cond}
 use mathlib.Core.List.{List, [], _∷_, _++_}
 use lib.Dec.{T}
 use lib.ListN.{length, length-append}
-use Rattle.edit_laws.specs.Growing.{dark, bare, InTurn, Room, KidsToGrow, LevelToGrow, LevelsToGrow, Able, toward, born}
+use Rattle.edit_laws.specs.BuildSoFar.{dark, bare, InTurn, Room, KidsToGrow, LevelToGrow, LevelsToGrow, Able, toward, born}
 use Rattle.mesh.specs.Call.{Rectangle}
 use Rattle.mesh.specs.Place.{Place, Grid, root, base, compass, kid, Wind, NE, SE, SW, NW, In}
 use Rattle.mesh.specs.Seam.{opened, lastJ}

@@ -9,7 +9,8 @@ use mathlib.Core.List.{List, [], _∷_, _++_, map}
 use lib.Dec.{T}
 use lib.IntN.{ℤ, pos, subℕ}
 use lib.ListN.{replicate}
-use Rattle.edit_laws.specs.Growing.{Rooted, dark, bare, Grown}
+use Rattle.edit_laws.specs.Rooted.{Rooted}
+use Rattle.edit_laws.specs.BuildSoFar.{dark, bare, Grown}
 use Rattle.mesh.specs.Call.{Rectangle}
 use Rattle.mesh.specs.Tools.{flat}
 use Rattle.mesh.specs.Place.{Place, Grid, root, base, level, step, kid, around, Wind, N, E, S, W, NE, SE, SW, NW}

@@ -12,7 +12,7 @@ use mathlib.Core.List.{List, [], _∷_, map}
 use lib.IntN.{ℤ}
 use lib.ListN.{set}
 use borrow.Author.Tests.{eq-eqb, ne-eqb}
-use Rattle.edit_laws.specs.Growing.{Rooted}
+use Rattle.edit_laws.specs.Rooted.{Rooted}
 use Rattle.mesh.specs.Place.{Place, Grid, base, same, parent, Wind, In, Distinct}
 use Rattle.mesh.specs.State.{State, Entry, used, placeOf, isFree, entry, number, numberOf, freeCount, nextFree}
 use Rattle.mesh.specs.Request.{supply, give}
@@ -24,7 +24,7 @@ use Rattle.number_laws.proofs.NumberedPlaces.{number-place}
 use Rattle.number_laws.proofs.Giving.{Next, next-free, lacking, lacking-append, lacking-after, Gave, supply-gave, kept-number}
 use Rattle.table.specs.Words.{freeAt}
 use Rattle.edit_laws.specs.Linked.{Flags, tableWith, withFlags}
-use Rattle.edit_laws.specs.Steps.{linkIn}
+use Rattle.edit_laws.specs.PatchSteps.{linkIn}
 use Rattle.free.specs.Free.{nextIn}
 use Rattle.free.proofs.FirstFree.{search-hit}
 use Rattle.edit_laws.specs.Tables.{Spot, kidAt, supplied, suppliedAll}

@@ -13,7 +13,7 @@ use lib.IntN.{ℤ}
 use lib.ListN.{set}
 use borrow.Author.Tests.{ne-eqb, eqb-false}
 use Rattle.table.specs.Worked.{kidless, touchedIn}
-use Rattle.edit_laws.specs.Growing.{Rooted}
+use Rattle.edit_laws.specs.Rooted.{Rooted}
 use Rattle.mesh.specs.Tools.{any, all}
 use Rattle.mesh.specs.Place.{Place, Grid, root, same, base, kid, kids, parent, In, Distinct}
 use Rattle.mesh.specs.Mesh.{touched, patch}
@@ -27,7 +27,7 @@ use Rattle.place_laws.proofs.Tree.{patch-touched, ghost-kid}
 use Rattle.number_laws.proofs.Entries.{stands-in}
 use Rattle.number_laws.proofs.NumberedPlaces.{number-place, numbered-not-zero}
 use Rattle.edit_laws.specs.Linked.{Flags, tableWith}
-use Rattle.edit_laws.specs.Steps.{takeOut}
+use Rattle.edit_laws.specs.PatchSteps.{takeOut}
 use Rattle.edit_laws.specs.Tables.{dropUp, dropCorner}
 use Rattle.edit_laws.proofs.FlagsAnew.{Ready, link-parent}
 use Rattle.edit_laws.proofs.Named.{kid-link}

@@ -16,7 +16,7 @@ use Rattle.mesh.specs.Picture.{rowWords}
 use Rattle.picture_laws.proofs.Links.{wind-lt}
 use Rattle.table.specs.Words.{code, wordOf, linkOf}
 use Rattle.table.specs.Worked.{sideOf}
-use Rattle.edit_laws.specs.Steps.{putWord, putUnlessNil, linkSide, dropSide}
+use Rattle.edit_laws.specs.PatchSteps.{putWord, putUnlessNil, linkSide, dropSide}
 
 -- what is read after a write is what was written or what was there
 set-either : {A : Type 0} (P : A → Type 0) (l : List A) (i j : ℕ) (a d : A) → P a → P (getD l j d) → P (getD (set l i a) j d)

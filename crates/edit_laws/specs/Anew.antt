@@ -11,7 +11,7 @@ use Rattle.mesh.specs.Picture.{eastWord, flagsWord, northWord, southWord, westW
 use Rattle.mesh.specs.Mesh.{bdyWallHBit, bdyWallVBit, completeBit, grnWallHBit, grnWallVBit, sentencedBit, wallHBit, wallVBit}
 use Rattle.table.specs.Words.{linkOf, flagOf}
 use Rattle.table.specs.Worked.{cellIn, boundaryH, boundaryV, greenH, greenV, flagList, pointsCell, wallsAlone}
-use Rattle.edit_laws.specs.Steps.{putWord}
+use Rattle.edit_laws.specs.PatchSteps.{putWord}
 
 -- a row's own walls, without the points and cells that the walls around them make
 unfoldable pub wallsAnew : List ℤ → ℕ → ℕ → ℕ → Bool → List Bool

@@ -14,7 +14,7 @@ use Rattle.mesh.specs.Picture.{rowWords, flagsWord, iWord, jWord, northWord, so
 use Rattle.table.specs.Words.{wordOf}
 use Rattle.table.specs.Worked.{downTo}
 use Rattle.table.specs.Writes.{freeRow, nilRow}
-use Rattle.edit_laws.specs.Steps.{putWord, linkIn}
+use Rattle.edit_laws.specs.PatchSteps.{putWord, linkIn}
 use Rattle.edit_laws.specs.Anew.{wallRow, pointRow}
 
 -- a table, and the next number

@@ -1,7 +1,8 @@
 -- The steps of a request on a table, and the tables between two steps.
 pub mod Linked
-pub mod Steps
+pub mod PatchSteps
 pub mod Anew
 pub mod Tables
 pub mod Built
-pub mod Growing
+pub mod Rooted
+pub mod BuildSoFar

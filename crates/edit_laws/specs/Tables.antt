@@ -4,16 +4,15 @@ use Prim.Native.Nat.{ℕ, zero, suc, _+_}
 use mathlib.Core.Bool.{not, _||_, cond}
 use mathlib.Core.List.{List, [], _∷_, _++_}
 use lib.Dec.{eqb}
-use lib.ListN.{set, getD}
 use lib.IntN.{ℤ}
 use lib.Ieee.{Float}
-use Rattle.mesh.specs.State.{plusZero}
-use Rattle.mesh.specs.Picture.{eastWord, flagsWord, neWord, northWord, nwWord, parentWord, seWord, southWord, statusWord, swWord, westWord, freeFlags}
+use Rattle.mesh.specs.Picture.{eastWord, flagsWord, neWord, northWord, nwWord, parentWord, seWord, southWord, swWord, westWord, freeFlags}
 use Rattle.table.specs.Words.{wordOf, linkOf}
-use Rattle.table.specs.Carried.{putStatus, putAmount, nothing}
+use Rattle.carried.specs.Carried.{carriedOf, putStatus, putAmount, nothing, passedDown}
+use Rattle.carried.specs.declared.Carried.{Carried}
 use Rattle.table.specs.Worked.{kidless, touchedIn, kidWord}
 use Rattle.free.specs.Free.{nextIn}
-use Rattle.edit_laws.specs.Steps.{putWord, putUnlessNil, linkIn, takeOut}
+use Rattle.edit_laws.specs.PatchSteps.{putWord, linkIn, takeOut}
 use Rattle.edit_laws.specs.Anew.{wallRow, pointRow}
 
 -- ---- rows near a cell
@@ -60,14 +59,20 @@ eachAt f cap (x ∷ xs) t = eachAt f cap xs (f t (kidAt t cap x))
 unfoldable pub refreshNear : List ℤ → ℕ → ℕ → ℕ → List ℤ
 refreshNear t cap d n = eachAt (pointRow cap) cap (wantedSpots t cap n ++ outsideSpots t cap n) (eachAt (wallRow cap d) cap (wantedSpots t cap n) t)
 
--- the flags' word and the status word of each of these kids
-unfoldable pub putCells : List Spot → List ℤ → ℕ → ℕ → ℕ → List ℤ
-putCells [] t cap f st = t
-putCells (x ∷ xs) t cap f st = let k = kidAt t cap x in putCells xs (putUnlessNil (putUnlessNil t k flagsWord f) k statusWord st) cap f st
+-- the flags of the row k and what it carries, unless there is no row: the words, and the values
+abbrev pub putCell : ℕ → Carried → List ℤ → ℕ → List ℤ
+putCell f c t k = cond (eqb k 0) t (putStatus (putWord t k flagsWord f) k c)
 
-unfoldable pub putValues : List Spot → List ℤ → ℕ → Float → List Float → List Float
-putValues [] t cap y v = v
-putValues (x ∷ xs) t cap y v = putValues xs t cap y (set v (kidAt t cap x) y)
+abbrev pub putCellAmount : Carried → List Float → ℕ → List Float
+putCellAmount c v k = cond (eqb k 0) v (putAmount v k c)
+
+-- the same for each of these kids
+abbrev pub putCells : ℕ → Carried → ℕ → List Spot → List ℤ → List ℤ
+putCells f c cap xs t = eachAt (putCell f c) cap xs t
+
+unfoldable pub putAmounts : ℕ → Carried → ℕ → List Spot → List ℤ → List Float → List Float
+putAmounts f c cap [] t v = v
+putAmounts f c cap (x ∷ xs) t v = let k = kidAt t cap x in putAmounts f c cap xs (putCell f c t k) (putCellAmount c v k)
 
 -- ---- refine
 
@@ -85,16 +90,12 @@ suppliedAll cap d (x ∷ xs) t = suppliedAll cap d xs (supplied cap d x t)
 abbrev pub suppliedNear : List ℤ → ℕ → ℕ → ℕ → List ℤ
 suppliedNear t cap d n = suppliedAll cap d (wantedSpots t cap n) t
 
--- "kids of a blank cell are blank, otherwise carried"
-abbrev pub kidStatus : ℕ → ℕ
-kidStatus st = cond (eqb st 0) 0 2
+-- the kids are cells, with what the cell n passes down
+unfoldable pub refineTable : List ℤ → List Float → ℕ → ℕ → ℕ → List ℤ
+refineTable t v cap d n = refreshNear (putCells 1 (passedDown (carriedOf t v n)) cap (kidSpots t cap n) (suppliedNear t cap d n)) cap d n
 
-unfoldable pub refineTable : List ℤ → ℕ → ℕ → ℕ → List ℤ
-refineTable t cap d n = refreshNear (putCells (kidSpots t cap n) (suppliedNear t cap d n) cap 1 (kidStatus (wordOf t n statusWord))) cap d n
-
--- the values, with the words after the refinement
-unfoldable pub refineValues : List ℤ → ℕ → ℕ → List Float → List Float
-refineValues t cap n v = cond (eqb (wordOf t n statusWord) 0) v (putValues (kidSpots t cap n) t cap (getD v n plusZero) v)
+unfoldable pub refineValues : List ℤ → List Float → ℕ → ℕ → ℕ → List Float
+refineValues t v cap d n = putAmounts 1 (passedDown (carriedOf t v n)) cap (kidSpots t cap n) (suppliedNear t cap d n) v
 
 -- ---- remove
 
@@ -104,7 +105,7 @@ dropUntouched cap t n = cond (eqb n 0 || touchedIn t cap n) t (takeOut t cap n)
 
 -- the kids are no cells
 abbrev pub emptied : List ℤ → ℕ → ℕ → List ℤ
-emptied t cap n = putCells (kidSpots t cap n) t cap 0 0
+emptied t cap n = putCells 0 nothing cap (kidSpots t cap n) t
 
 -- and the patches go that no cell touches any more
 abbrev pub droppedNear : List ℤ → ℕ → ℕ → List ℤ
@@ -114,7 +115,7 @@ unfoldable pub removeTable : List ℤ → ℕ → ℕ → ℕ → List ℤ
 removeTable t cap d n = refreshNear (droppedNear t cap n) cap d n
 
 unfoldable pub removeValues : List ℤ → ℕ → ℕ → List Float → List Float
-removeValues t cap n v = putValues (kidSpots t cap n) t cap plusZero v
+removeValues t cap n v = putAmounts 0 nothing cap (kidSpots t cap n) t v
 
 -- ---- kill
 

@@ -1,12 +1,11 @@
 // The calls of `grid` for C and Rust: the header by pointer, a list as a pointer and a length, every answer but the refusal through a pointer. Each
 // exported entry is thin: it copies the header out and calls the core above it, and a build or a tape puts back the header that the core leaves.
 ghost use mathlib.Core.Path.{_≡_};
-ghost use Rattle.mesh.specs.State.{status, amount};
 ghost use Rattle.header.specs.Headers.{lentOf};
-ghost use Rattle.lookup.specs.LookupRows.{valueOfReading};
 ghost use Rattle.face.specs.Outputs.{fourOf, Builds, Tapes, Checks, Scans, Looks, Pages};
 use header::Header;
-use lookup::Reading;
+use lookup::amount_of;
+use lookup::status_of;
 
 // The header at exit, and the refusal or 0.
 struct Left {
@@ -190,28 +189,6 @@ pub extern "C" fn grid_scan(
         out,
         count,
     )
-}
-
-// "Status: 0 blank, 1 measured, 2 carried down from the parent."
-fn status_of(reading: Reading) -> u32
-    ensures { λ r. ⌜ r ≡ status (valueOfReading reading) ⌝ }
-{
-    match reading {
-        Reading::Measured(_) => 1,
-        Reading::Carried(_) => 2,
-        Reading::Blank => 0,
-    }
-}
-
-// "Status 0 has the bits of +0."
-fn amount_of(reading: Reading) -> f64
-    ensures { λ r. ⌜ r ≡ amount (valueOfReading reading) ⌝ }
-{
-    match reading {
-        Reading::Measured(x) => x,
-        Reading::Carried(x) => x,
-        Reading::Blank => 0.0,
-    }
 }
 
 fn lookup_core(

@@ -1,19 +1,17 @@
 -- The first checks of a call: where one refuses, the call's own do not matter; where none does, the call by rows is the call's.
 -- Assumes nothing.
-use Prim.Native.Nat.{ℕ, _+_, _*_, _/_, _≤_}
+use Prim.Native.Nat.{ℕ, _+_, _≤_}
 use native.Mathlib.Omega.{arith}
 use mathlib.Core.Path.{_≡_, sym, ap, _∙_}
 use mathlib.Core.Logic.{_≢_}
-use mathlib.Core.Bool.{Bool, true, false, _&&_}
 use mathlib.Core.List.{List, _++_}
-use lib.Dec.{leb, leb→le, le→leb}
 use lib.ListN.{length}
 use Rattle.mesh.specs.Picture.{Lent, picture}
 use Rattle.mesh.specs.Tape.{Run, run}
 use Rattle.mesh.specs.Refusal.{Check, refusal}
 use Rattle.mesh.specs.State.{blank}
 use Rattle.mesh.specs.Scan.{scanChecks}
-use Rattle.mesh.specs.Lookup.{beyond, lookupChecks}
+use Rattle.mesh.specs.Lookup.{lookupChecks}
 use Rattle.mesh.specs.Decode.{decode}
 use Rattle.mesh.specs.Call.{lentChecks, checkCall, Taped, tapeCall, Wrote, Found, scanCall, lookupCall, pageCall}
 use Rattle.place_laws.proofs.Base.{base-range}
@@ -23,11 +21,11 @@ use Rattle.scan.specs.ScanRows.{Few, rowScanOut}
 use Rattle.lookup.specs.LookupRows.{rowLookupOut}
 use Rattle.call_laws.proofs.Scanned.{scan-call, few-lent, walkable-lent}
 use Rattle.call_laws.proofs.Looked.{lookup-call}
-use Rattle.mesh.specs.Place.{Grid, isRing, base}
-use Rattle.page.specs.PageRows.{leavesFrom, rowOut}
+use Rattle.mesh.specs.Place.{base}
+use Rattle.leaves.specs.LeavesFrom.{leavesFrom}
+use Rattle.page.specs.PageRows.{rowOut}
 use Rattle.call_laws.proofs.Paged.{page-call, page-few}
 use Rattle.mesh.specs.Page.{pageChecks}
-use Rattle.place_laws.proofs.Bools.{bool-ext}
 use Rattle.number_laws.proofs.Checks.{kept}
 use Rattle.demand_laws.proofs.Refusals.{unless-refused, unless-accepted}
 use Rattle.picture_laws.proofs.Accepted.{lent-rectangle}
@@ -77,23 +75,8 @@ pub lent-few : (cap : ℕ) (l : Lent) (n : ℕ) (o : List ℕ) (k : ℕ) {from t
     → from′ ≡ from → to′ ≡ to → Few (l .words) cap d n o k from′ to′
 lent-few cap l n o k {from} {to} {from′} {to′} d ok e f g = rw (e, f, g) (few-lent n o k from to cap l ok)
 
-module _ (cap : ℕ) (l : Lent) (x y : ℕ) (ok : checkCall cap l ≡ 0) where
-  -- past the last row of a ring
-  pub lookup-beyond : beyond (l .header .grid) y ≡ true → record { refusal = 19; leaf = 0; value = blank } ≡ lookupCall cap l x y
-  lookup-beyond b = sym (lookup-call x y cap l ok ∙ rw b)
-
-  pub lookup-done : (d : ℕ) (w : Found) → beyond (l .header .grid) y ≡ false → d ≡ base (l .header .grid) → w ≡ rowLookupOut (l .words) (l .values) cap d x y → w ≡ lookupCall cap l x y
-  lookup-done d w b e h = h ∙ ap (λ (d : ℕ). rowLookupOut (l .words) (l .values) cap d x y) e ∙ sym (lookup-call x y cap l ok ∙ rw b)
-
--- as a load is asked for, by rows of level 0
-pub beyond-is : (g : Grid) (y : ℕ) {b : Bool} → b ≡ isRing g → (b && leb (g .rows) (y / 4096)) ≡ beyond g y
-beyond-is g y e = rw e (ap (λ (c : Bool). isRing g && c) (bool-ext (leb (g .rows) (y / 4096)) (leb (g .rows * 4096) y) (λ t. le→leb _ _ (low (leb→le _ _ t))) (λ t. le→leb _ _ (high (leb→le _ _ t)))))
-  where
-    low : g .rows ≤ y / 4096 → g .rows * 4096 ≤ y
-    low h = omega arith
-
-    high : g .rows * 4096 ≤ y → g .rows ≤ y / 4096
-    high h = omega arith
+pub lookup-done : (cap : ℕ) (l : Lent) (x y d : ℕ) (w : Found) → checkCall cap l ≡ 0 → d ≡ base (l .header .grid) → w ≡ rowLookupOut (l .header .grid) (l .words) (l .values) cap d x y → w ≡ lookupCall cap l x y
+lookup-done cap l x y d w ok e h = h ∙ ap (λ (d : ℕ). rowLookupOut (l .header .grid) (l .words) (l .values) cap d x y) e ∙ sym (lookup-call x y cap l ok)
 
 -- a page call that they let through
 pub page-listed : (cap : ℕ) (l : Lent) (d : ℕ) → checkCall cap l ≡ 0 → cap ≤ 4095 → d ≡ base (l .header .grid) → length (leavesFrom (l .words) cap (d + 12) 1) ≤ 4096

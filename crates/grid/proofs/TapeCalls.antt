@@ -13,7 +13,7 @@ use Rattle.header.specs.Headers.{lentOf, withMark}
 use Rattle.header.specs.declared.Header.{Header}
 use Rattle.demand_laws.proofs.Refusals.{unless-refused}
 use Rattle.picture_laws.proofs.Accepted.{lent-sizes, lent-sound}
-use Rattle.tape.specs.Drawn.{lists, Pictured}
+use Rattle.apply.specs.Drawn.{lists, Pictured}
 use Rattle.tape.specs.Ran.{Ran}
 use Rattle.tape.proofs.TapeCalled.{pictured, ran-call}
 use Rattle.grid.specs.Calls.{tapedOf, Tapes}

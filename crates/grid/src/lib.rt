@@ -1,14 +1,12 @@
 // The public calls of the grid library. Every call takes any lists of any length and any header, and refuses by number; none has a `requires`.
 ghost use mathlib.Core.Path.{_≡_};
 ghost use Rattle.mesh.specs.Refusal.{refusal};
-ghost use Rattle.mesh.specs.Lookup as Lookup;
 ghost use Rattle.mesh.specs.Call.{checkCall, scanCall, lookupCall, pageCall, buildChecks};
 ghost use Rattle.header.specs.Headers.{headerOf, lentOf};
 ghost use Rattle.lookup.specs.LookupRows.{foundOf};
 ghost use Rattle.grid.specs.Calls.{wroteOf, Builds, Tapes};
 use header::Header;
 use header::fresh;
-use header::is_ring;
 use header::with_mark;
 use lookup::Found;
 use lookup::Reading;
@@ -74,13 +72,6 @@ pub fn scan(
     }
 }
 
-// Whether a load, in 1/4096 of a level-0 cell, lies past the last row of a ring.
-fn beyond(header: Header, load: u32) -> bool
-    ensures { λ r. ⌜ r ≡ Lookup.beyond (headerOf header .grid) load ⌝ }
-{
-    is_ring(header) & (header.rows <= load / 4096)
-}
-
 // The leaf that holds a point, given in 1/4096 of a level-0 cell, and its value.
 pub fn lookup(header: Header, table: &[i32], values: &[f64], capacity: u32, x: u32, y: u32) -> Found
     ensures { λ r. ⌜ foundOf r ≡ lookupCall capacity (lentOf header (now (table .entry)) (now (values .entry))) x y ⌝ }
@@ -93,15 +84,8 @@ pub fn lookup(header: Header, table: &[i32], values: &[f64], capacity: u32, x: u
             reading: Reading::Blank,
         };
     }
-    if beyond(header, y) {
-        return Found {
-            refusal: 19,
-            leaf: 0,
-            reading: Reading::Blank,
-        };
-    }
     let d = header::ground_depth(header);
-    lookup::lookup_out(table, values, capacity as usize, d, x, y)
+    lookup::lookup_out(header, table, values, capacity as usize, d, x, y)
 }
 
 // The dossier page.
@@ -124,13 +108,13 @@ pub fn page(header: Header, table: &[i32], values: &[f64], capacity: u32, out: &
 fn build_refusal(table: &[i32], values: &[f64], capacity: u32, header: Header) -> u32
     ensures { λ r. ⌜ r ≡ refusal (buildChecks capacity (lentOf header (now (table .entry)) (now (values .entry))) (headerOf header .grid)) ⌝ }
 {
-    let early = checker::lent::first_refusal(header, table, values, capacity);
+    let early = checker::first_checks::first_refusal(header, table, values, capacity);
     if early != 0 {
         return early;
     }
     let cap = capacity as usize;
     let d = header::ground_depth(header);
-    if cap < build::count::patches_in(header, d) {
+    if cap < count::patches_in(header, d) {
         return 11;
     }
     0

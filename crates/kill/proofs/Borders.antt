@@ -15,13 +15,14 @@ use lib.IntN.{ℤ}
 use Rattle.mesh.specs.Tools.{all}
 use Rattle.mesh.specs.Picture.{linkWords, eastWord, flagsWord, northWord, southWord, westWord, neWord, seWord, swWord, nwWord}
 use Rattle.table.specs.Words.{linkOf}
-use Rattle.table.specs.Carried.{putStatus, nothing}
-use Rattle.edit_laws.specs.Steps.{putWord}
+use Rattle.carried.specs.Carried.{putStatus, nothing}
+use Rattle.table.proofs.LinkRanges.{link-within}
+use Rattle.edit_laws.specs.PatchSteps.{putWord}
 use Rattle.edit_laws.specs.Anew.{wallRow, pointRow}
 use Rattle.edit_laws.specs.Tables.{Border, eachKid, eachDown, alongCorners, alongBorder, refreshLevel, refreshLevels, dropCorner, cleared, droppedCorners, killTable}
 use Rattle.place_laws.proofs.Bools.{yes-is, is-yes, or-left, or-right, or-cases, and-left, and-right, neither}
 use Rattle.place_laws.proofs.Lists.{all-at, all-weaken}
-use Rattle.kill.specs.Borders.{isLink, passRow, bareDown, BareCorners, BareBorder, stillBorder, cornersDropped}
+use Rattle.kill.specs.Borders.{isLink, passRow, bareDown, BareCorners, BareBorder, stillBorder, OtherCorners}
 
 -- ---- down by kids
 
@@ -255,26 +256,37 @@ levels-end b t cap d n e k = levels-bare b t cap d n (e + 1) (border-up k)
 pub cell-cleared : (t : List ℤ) (n : ℕ) {t₁ t₂ : List ℤ} → t₁ ≡ putWord t n flagsWord 0 → t₂ ≡ putStatus t₁ n nothing → t₂ ≡ cleared t n
 cell-cleared t n h1 h2 = rw (h2, h1)
 
+pub corners-read : {t : List ℤ} {cap n north east both : ℕ} → north ≡ linkOf t cap n northWord → east ≡ linkOf t cap n eastWord → both ≡ linkOf t cap east northWord → OtherCorners t cap n north east both
+corners-read a b c = record { is-north = a; is-east = b; is-both = c }
+
+module _ {t : List ℤ} {cap n north east both : ℕ} (k : OtherCorners t cap n north east both) where
+  pub north-in : north ≤ cap
+  north-in = omega (arith, k .is-north, link-within t cap n northWord)
+
+  pub east-in : east ≤ cap
+  east-in = omega (arith, k .is-east, link-within t cap n eastWord)
+
+  pub both-in : both ≤ cap
+  both-in = omega (arith, k .is-both, link-within t cap east northWord)
+
 module _ (t : List ℤ) (cap d n : ℕ) where
-  pub corners-gone : (north east both : ℕ) {t₁ t₂ t₃ t₄ t₅ : List ℤ} →
+  pub corners-gone : {north east both : ℕ} {t₁ t₂ t₃ t₄ t₅ : List ℤ} →
+      OtherCorners t cap n north east both →
       t₁ ≡ cleared t n →
       t₂ ≡ dropCorner t₁ cap d both →
       t₃ ≡ dropCorner t₂ cap d north →
       t₄ ≡ dropCorner t₃ cap d east →
       t₅ ≡ dropCorner t₄ cap d n →
-      t₅ ≡ cornersDropped t cap d n north east both
-  corners-gone north east both h1 h2 h3 h4 h5 = rw (h5, h4, h3, h2, h1)
+      t₅ ≡ droppedCorners t cap d n
+  corners-gone k h1 h2 h3 h4 h5 = rw (h5, h4, h3, h2, h1, k .is-both, k .is-east, k .is-north)
 
-  module _ {north east both : ℕ} {t₁ : List ℤ} (h1 : north ≡ linkOf t cap n northWord) (h2 : east ≡ linkOf t cap n eastWord) (h3 : both ≡ linkOf t cap east northWord)
-      (h4 : t₁ ≡ cornersDropped t cap d n north east both) where
-    pub all-dropped : t₁ ≡ droppedCorners t cap d n
-    all-dropped = rw (h4, h3, h2, h1)
-
-    pub killed : {south west : ℕ} {t₂ : List ℤ} (b : Border) →
-        south ≡ linkOf t cap n southWord →
-        west ≡ linkOf t cap n westWord →
-        b ≡ stillBorder t₁ n north east both south west →
-        t₂ ≡ refreshLevels 13 b 0 t₁ cap d →
-        t₂ ≡ killTable t cap d n
-    unfolding killTable
-    killed b h5 h6 h7 h8 = rw (h8, h7, all-dropped, h6, h5, h3, h2, h1)
+  pub killed : {north east both south west : ℕ} {t₁ t₂ : List ℤ} (b : Border) →
+      OtherCorners t cap n north east both →
+      south ≡ linkOf t cap n southWord →
+      west ≡ linkOf t cap n westWord →
+      t₁ ≡ droppedCorners t cap d n →
+      b ≡ stillBorder t₁ n north east both south west →
+      t₂ ≡ refreshLevels 13 b 0 t₁ cap d →
+      t₂ ≡ killTable t cap d n
+  unfolding killTable
+  killed b k h1 h2 h3 h4 h5 = rw (h5, h4, h3, h2, h1, k .is-both, k .is-east, k .is-north)

@@ -1,16 +1,17 @@
 -- The rows along the border of a level-0 cell, as the code goes through them, and that none stands there.
 -- Assumes nothing.
 use Prim.Native.Nat.{ℕ, zero, suc, _≤_}
+use mathlib.Core.Path.{_≡_}
 use mathlib.Core.Bool.{Bool, true, false, _||_}
 use mathlib.Core.List.{List, [], _∷_}
 use lib.Dec.{T, eqb, ltb}
 use lib.IntN.{ℤ}
 use Rattle.mesh.specs.Tools.{all}
-use Rattle.mesh.specs.Picture.{linkWords, neWord, seWord, swWord, nwWord}
+use Rattle.mesh.specs.Picture.{linkWords, neWord, seWord, swWord, nwWord, northWord, eastWord}
 use Rattle.table.specs.Words.{linkOf}
 use Rattle.edit_laws.specs.Anew.{wallRow, pointRow}
 use Rattle.edit_laws.specs.Tables as Tables
-use Rattle.edit_laws.specs.Tables.{stillUsed, dropCorner, cleared}
+use Rattle.edit_laws.specs.Tables.{stillUsed}
 use Rattle.kill.specs.declared.Border.{Border}
 
 -- a word of a row that is a link
@@ -60,6 +61,8 @@ abbrev pub stillBorder : List ℤ → ℕ → ℕ → ℕ → ℕ → ℕ → �
 stillBorder t n north east both south west =
     record { own = stillUsed t n; north = stillUsed t north; east = stillUsed t east; both = stillUsed t both; south = south; west = west }
 
--- the row n is no cell, and its corners go that no cell touches
-abbrev pub cornersDropped : List ℤ → ℕ → ℕ → ℕ → ℕ → ℕ → ℕ → List ℤ
-cornersDropped t cap d n north east both = dropCorner (dropCorner (dropCorner (dropCorner (cleared t n) cap d both) cap d north) cap d east) cap d n
+-- the three corners of the cell n beside its own, as they were read
+pub record OtherCorners (t : List ℤ) (cap n north east both : ℕ) : Type 0 where
+  pub is-north : north ≡ linkOf t cap n northWord
+  pub is-east : east ≡ linkOf t cap n eastWord
+  pub is-both : both ≡ linkOf t cap east northWord

@@ -8,17 +8,15 @@ ghost use Rattle.mesh.specs.Tools.{all};
 ghost use Rattle.mesh.specs.Picture.{rowWords};
 ghost use Rattle.table.specs.Words.{linkOf, freeAt};
 ghost use Rattle.table.specs.Plain.{Plain};
-ghost use Rattle.table.specs.Worked.{kidless};
 ghost use Rattle.free.specs.FreeMap.{Mapped};
 ghost use Rattle.edit_laws.specs.Tables.{dropUp, dropCorner, cleared, droppedCorners, eachDown, alongCorners, refreshLevel, refreshLevels, stillUsed, killTable, killValues};
-ghost use Rattle.kill.specs.Borders.{isLink, passRow, bareDown, BareCorners, BareBorder, Within, borderOf, stillBorder, cornersDropped};
+ghost use Rattle.kill.specs.Borders.{isLink, passRow, bareDown, BareCorners, BareBorder, Within, borderOf, stillBorder, OtherCorners};
+use carried::blank;
+use carried::put_carried;
 use free::map::Spare;
 use patch::anew::point_row;
 use patch::anew::wall_row;
 use patch::freed::free_row;
-use patch::links::touched_row;
-use table::carried::blank;
-use table::carried::put_carried;
 use table::flag_bits::FREE;
 use table::plain::link;
 use table::words::EAST;
@@ -32,6 +30,8 @@ use table::words::SOUTH;
 use table::words::SW_KID;
 use table::words::WEST;
 use table::words::word;
+use table::worked::kidless;
+use table::worked::touched;
 use table::writes::put;
 
 // The words of the kids in a byte each.
@@ -42,18 +42,6 @@ const SE: u8 = SE_KID as u8;
 const SW: u8 = SW_KID as u8;
 
 const NW: u8 = NW_KID as u8;
-
-// Whether the row n has no kid.
-fn kidless(t: &[i32], cap: usize, n: usize) -> bool
-    requires { ⌜ Plain (now t) cap × (n ≤ cap) ⌝ }
-    ensures { λ r. ⌜ r ≡ kidless (now (t .entry)) cap n ⌝ }
-{
-    let a = link(t, cap, n, NE_KID);
-    let b = link(t, cap, n, SE_KID);
-    let c = link(t, cap, n, SW_KID);
-    let e = link(t, cap, n, NW_KID);
-    (a == 0) & ((b == 0) & ((c == 0) & (e == 0)))
-}
 
 // A ghost without a kid goes, and then its parent if that has none left, up to so many levels.
 fn drop_up(t: &mut [i32], cap: usize, map: &mut [u64; 64], s: Spare, levels: u32, n: usize) -> Spare
@@ -86,7 +74,7 @@ fn drop_corner(t: &mut [i32], cap: usize, map: &mut [u64; 64], s: Spare, d: u32,
     if n == 0 {
         return s;
     }
-    if touched_row(t, cap, n) {
+    if touched(t, cap, n) {
         return s;
     }
     let p = link(t, cap, n, PARENT);
@@ -237,8 +225,8 @@ fn clear_cell(
     east: usize,
     both: usize,
 ) -> Spare
-    requires { ⌜ Plain (now t) cap × (cap < length (now v)) × (n ≤ cap) × (north ≤ cap) × (east ≤ cap) × (both ≤ cap) × Mapped (freeAt (cleared (now t) n)) (now map) (s .top) (s .count) ⌝ }
-    ensures { λ r. ⌜ (now (t .exit) ≡ cornersDropped (now (t .entry)) cap d n north east both) × (now (v .exit) ≡ killValues n (now (v .entry))) × Plain (now (t .exit)) cap × Mapped (freeAt (now (t .exit))) (now (map .exit)) (r .top) (r .count) ⌝ }
+    requires { ⌜ Plain (now t) cap × (cap < length (now v)) × (n ≤ cap) × OtherCorners (now t) cap n north east both × Mapped (freeAt (cleared (now t) n)) (now map) (s .top) (s .count) ⌝ }
+    ensures { λ r. ⌜ (now (t .exit) ≡ droppedCorners (now (t .entry)) cap d n) × (now (v .exit) ≡ killValues n (now (v .entry))) × Plain (now (t .exit)) cap × Mapped (freeAt (now (t .exit))) (now (map .exit)) (r .top) (r .count) ⌝ }
 {
     put(t, n, FLAGS, 0);
     put_carried(t, v, n, blank());

@@ -11,8 +11,8 @@ use mathlib.Core.List.{List, [], _∷_, _++_, append-assoc}
 use lib.Dec.{T, eqb, ltb, eqb→eq}
 use lib.ListN.{length, getD, length-append}
 use Rattle.mesh.specs.Page.{decimalIn, decimal, hexIn, letter}
-use Rattle.table.specs.Carried.{statusOf, isBlank, isMeasured}
-use Rattle.table.specs.declared.carried.Carried.{Carried}
+use Rattle.carried.specs.Carried.{statusOf, isBlank, isMeasured}
+use Rattle.carried.specs.declared.Carried.{Carried}
 use Rattle.place_laws.proofs.Bools.{and-left, and-right}
 use Rattle.lines.specs.LineRows.{hexDigit}
 use Rattle.lines.proofs.Puts.{places, length-places}

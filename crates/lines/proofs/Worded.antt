@@ -14,8 +14,8 @@ use Rattle.mesh.specs.State.{Header}
 use Rattle.mesh.specs.Page.{decimal, hexIn, letter, line, space, lineFeed, modeWord, headLine, total, footLine}
 use Rattle.mesh.specs.Picture.{levelWord, iWord, jWord}
 use Rattle.table.specs.Words.{wordOf}
-use Rattle.table.specs.Carried.{carriedOf, statusOf}
-use Rattle.table.specs.declared.carried.Carried.{Carried}
+use Rattle.carried.specs.Carried.{carriedOf, statusOf}
+use Rattle.carried.specs.declared.Carried.{Carried}
 use Rattle.lines.specs.Puts.{Put}
 use Rattle.lines.specs.LineRows.{bitsOf, lineEnd, rowLine, linesOf}
 use Rattle.lines.proofs.Puts.{total-append, take-more, put-length}

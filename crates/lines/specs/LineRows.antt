@@ -12,8 +12,8 @@ use Rattle.mesh.specs.Valid.{finite}
 use Rattle.mesh.specs.Picture.{iWord, jWord, levelWord}
 use Rattle.mesh.specs.Page.{letter, hexIn, line, lineOf}
 use Rattle.table.specs.Words.{wordOf}
-use Rattle.table.specs.Carried.{carriedOf, statusOf}
-use Rattle.table.specs.declared.carried.Carried.{Carried}
+use Rattle.carried.specs.Carried.{carriedOf, statusOf}
+use Rattle.carried.specs.declared.Carried.{Carried}
 use Rattle.table.specs.Plain.{Sized}
 
 -- the bits of a value; 0 where it is not finite, which no sound table has

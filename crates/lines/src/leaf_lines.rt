@@ -6,17 +6,17 @@ ghost use lib.ListN.{length, getD};
 ghost use lib.Ieee.{Float};
 ghost use Rattle.mesh.specs.Picture.{rowWords};
 ghost use Rattle.mesh.specs.Page.{letter, total};
-ghost use Rattle.table.specs.Carried.{statusOf};
+ghost use Rattle.carried.specs.Carried.{statusOf};
 ghost use Rattle.lines.specs.Puts.{Put};
 ghost use Rattle.lines.specs.LineRows.{bitsOf, lineEnd, rowLine, linesOf, Listed};
 use crate::numerals::digits;
 use crate::numerals::put_byte;
 use crate::numerals::put_hex;
 use crate::numerals::put_number;
-use table::carried::Carried;
-use table::carried::carried_at;
-use table::carried::is_blank;
-use table::carried::is_measured;
+use carried::Carried;
+use carried::carried_at;
+use carried::is_blank;
+use carried::is_measured;
 use table::words::INDEX_I;
 use table::words::INDEX_J;
 use table::words::LEVEL;
@@ -25,7 +25,7 @@ use table::words::word;
 fn bits(x: f64) -> u64
     ensures { λ r. ⌜ r ≡ bitsOf x ⌝ }
 {
-    if table::values::is_finite(x) {
+    if carried::values::is_finite(x) {
         return f64::to_bits(x);
     }
     0

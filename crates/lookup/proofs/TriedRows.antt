@@ -11,7 +11,7 @@ use lib.IntN.{ℤ}
 use borrow.Author.Tests.{le-leb, lt-leb, eq-eqb, ne-eqb}
 use Rattle.mesh.proofs.Tries.{tried-own}
 use Rattle.mesh.specs.Lookup.{tried, firstFound}
-use Rattle.lookup.specs.LookupRows.{rowAt, rowLookup}
+use Rattle.lookup.specs.LookupRows.{rowAt, rowFound}
 
 module _ (t : List ℤ) (cap d u v : ℕ) where
   -- ---- one try
@@ -39,20 +39,20 @@ module _ (t : List ℤ) (cap d u v : ℕ) where
     own : try 0 0 ≡ n
     own = tried-own (rowAt t cap d) u v ∙ sym e
 
-    pub found-own : n ≢ 0 → n ≡ rowLookup t cap d u v
+    pub found-own : n ≢ 0 → n ≡ rowFound t cap d u v
     unfolding firstFound
     found-own h = rw (own, ne-eqb n 0 h)
 
     module _ (z : n ≡ 0) {left : ℕ} (f : left ≡ try 1 0) where
-      pub found-left : left ≢ 0 → left ≡ rowLookup t cap d u v
+      pub found-left : left ≢ 0 → left ≡ rowFound t cap d u v
       unfolding firstFound
       found-left h = rw (own, eq-eqb n 0 z, ← f, ne-eqb left 0 h)
 
       module _ (y : left ≡ 0) {below : ℕ} (g : below ≡ try 0 1) where
-        pub found-below : below ≢ 0 → below ≡ rowLookup t cap d u v
+        pub found-below : below ≢ 0 → below ≡ rowFound t cap d u v
         unfolding firstFound
         found-below h = rw (own, eq-eqb n 0 z, ← f, eq-eqb left 0 y, ← g, ne-eqb below 0 h)
 
-        pub found-both : below ≡ 0 → {both : ℕ} → both ≡ try 1 1 → both ≡ rowLookup t cap d u v
+        pub found-both : below ≡ 0 → {both : ℕ} → both ≡ try 1 1 → both ≡ rowFound t cap d u v
         unfolding firstFound
         found-both x {both} k = rw (own, eq-eqb n 0 z, ← f, eq-eqb left 0 y, ← g, eq-eqb below 0 x, ← k) (last-one both)

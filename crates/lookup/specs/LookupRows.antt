@@ -8,10 +8,11 @@ use lib.IntN.{ℤ}
 use lib.Ieee.{Float}
 use Rattle.mesh.specs.State.{Value, blank, measured, carried}
 use Rattle.mesh.specs.Refusal.{_if_, refusal}
-use Rattle.mesh.specs.Lookup.{firstFound}
+use Rattle.mesh.specs.Place.{Grid}
+use Rattle.mesh.specs.Lookup.{firstFound, beyond}
 use Rattle.mesh.specs.Call.{Found, unless}
 use Rattle.table.specs.Words.{linkOf}
-use Rattle.table.specs.Carried.{carriedOf, valueIn}
+use Rattle.carried.specs.Carried.{carriedOf, valueIn}
 use Rattle.table.specs.Worked.{kidWord}
 use Rattle.walk.specs.WalkRows.{leafRow}
 use Rattle.lookup.specs.declared.Found.{Found as Answer}
@@ -30,15 +31,19 @@ module _ (t : List ℤ) (cap d : ℕ) where
   rowAt u v = cond (ltb u (2 ^ (d + 12)) && ltb v (2 ^ (d + 12))) (rowFind t cap u v (d + 12) 1) 0
 
   -- "the first leaf found": that of the point, or else of the points it is tried again at
-  abbrev pub rowLookup : ℕ → ℕ → ℕ
-  rowLookup u v = firstFound rowAt u v
+  abbrev pub rowFound : ℕ → ℕ → ℕ
+  rowFound u v = firstFound rowAt u v
+
+-- none "at once for a load of rows × 4096 or more"
+abbrev pub rowLookup : Grid → List ℤ → ℕ → ℕ → ℕ → ℕ → ℕ
+rowLookup g t cap d u v = cond (beyond g v) 0 (rowFound t cap d u v)
 
 -- ---- the call
 
-module _ (t : List ℤ) (v : List Float) where
+module _ (g : Grid) (t : List ℤ) (v : List Float) where
   unfoldable pub rowLookupOut : ℕ → ℕ → ℕ → ℕ → Found
   rowLookupOut cap d x y =
-      let n = rowLookup t cap d x y in
+      let n = rowLookup g t cap d x y in
       unless (refusal ((19 if eqb n 0) ∷ [])) (λ k. record { refusal = k; leaf = 0; value = blank }) (record { refusal = 0; leaf = n; value = valueIn (carriedOf t v n) })
 
 -- the answer, as the call's definition says it

@@ -3,16 +3,21 @@ ghost use mathlib.Core.Path.{_≡_};
 ghost use Prim.Native.Nat.{_/_, _%_, _^_, _<_, _≤_};
 ghost use Rattle.table.specs.Words.{linkOf};
 ghost use Rattle.table.specs.Worked.{kidWord};
-ghost use Rattle.table.specs.Carried.{valueIn};
+ghost use Rattle.carried.specs.Carried.{valueIn};
+ghost use Rattle.mesh.specs.State.{status, amount};
+ghost use Rattle.mesh.specs.Lookup as Lookup;
 ghost use Rattle.mesh.specs.Lookup.{tried};
-ghost use Rattle.lookup.specs.LookupRows.{rowAt, rowLookup, valueOfReading, foundOf, rowLookupOut};
+ghost use Rattle.header.specs.Headers.{headerOf};
+ghost use Rattle.lookup.specs.LookupRows.{rowAt, rowFound, rowLookup, valueOfReading, foundOf, rowLookupOut};
 ghost use Rattle.table.specs.Plain.{Plain};
 ghost use Rattle.walk.specs.Walkable.{Walkable};
 ghost use lib.ListN.{length};
-use table::carried::Carried;
-use table::carried::carried_at;
-use table::carried::is_blank;
-use table::carried::is_measured;
+use carried::Carried;
+use carried::carried_at;
+use carried::is_blank;
+use carried::is_measured;
+use header::Header;
+use header::is_ring;
 use table::plain;
 use table::worked::kid_word;
 use walk::leaf;
@@ -63,10 +68,10 @@ fn try_at(t: &[i32], cap: usize, d: u32, u: u32, v: u32, left: u32, down: u32) -
     leaf_at(t, cap, d, u - left, v - down)
 }
 
-// The leaf that a lookup finds, or 0: where one holds the point nothing else is tried.
-pub fn lookup_row(t: &[i32], cap: usize, d: u32, u: u32, v: u32) -> usize
+// The leaf that the tries find, or 0: where one holds the point nothing else is tried.
+fn found_row(t: &[i32], cap: usize, d: u32, u: u32, v: u32) -> usize
     requires { ⌜ Walkable (now t) cap d × (1 ≤ cap) × (d ≤ 19) ⌝ }
-    ensures { λ r. ⌜ (r ≤ cap) × (r ≡ rowLookup (now (t .entry)) cap d u v) ⌝ }
+    ensures { λ r. ⌜ (r ≤ cap) × (r ≡ rowFound (now (t .entry)) cap d u v) ⌝ }
 {
     let own = leaf_at(t, cap, d, u, v);
     if own != 0 {
@@ -81,6 +86,24 @@ pub fn lookup_row(t: &[i32], cap: usize, d: u32, u: u32, v: u32) -> usize
         return below;
     }
     try_at(t, cap, d, u, v, 1, 1)
+}
+
+// Whether a load, in 1/4096 of a level-0 cell, lies past the last row of a ring.
+fn beyond(header: Header, load: u32) -> bool
+    ensures { λ r. ⌜ r ≡ Lookup.beyond (headerOf header .grid) load ⌝ }
+{
+    is_ring(header) & (header.rows <= load / 4096)
+}
+
+// The leaf that a lookup finds, or 0.
+fn lookup_row(header: Header, t: &[i32], cap: usize, d: u32, u: u32, v: u32) -> usize
+    requires { ⌜ Walkable (now t) cap d × (1 ≤ cap) × (d ≤ 19) ⌝ }
+    ensures { λ r. ⌜ (r ≤ cap) × (r ≡ rowLookup (headerOf header .grid) (now (t .entry)) cap d u v) ⌝ }
+{
+    if beyond(header, v) {
+        return 0;
+    }
+    found_row(t, cap, d, u, v)
 }
 
 // A leaf's value, as measured, as carried down from its parent, or none.
@@ -110,12 +133,34 @@ fn value_of(c: Carried) -> Reading
     Reading::Carried(c.value)
 }
 
-// The leaf that a lookup finds, and its value.
-pub fn lookup_out(t: &[i32], v: &[f64], cap: usize, d: u32, x: u32, y: u32) -> Found
-    requires { ⌜ Walkable (now t) cap d × (cap < length (now v)) × (1 ≤ cap) × (d ≤ 19) ⌝ }
-    ensures { λ r. ⌜ foundOf r ≡ rowLookupOut (now (t .entry)) (now (v .entry)) cap d x y ⌝ }
+// "Status: 0 blank, 1 measured, 2 carried down from the parent."
+pub fn status_of(reading: Reading) -> u32
+    ensures { λ r. ⌜ r ≡ status (valueOfReading reading) ⌝ }
 {
-    let n = lookup_row(t, cap, d, x, y);
+    match reading {
+        Reading::Measured(_) => 1,
+        Reading::Carried(_) => 2,
+        Reading::Blank => 0,
+    }
+}
+
+// "Status 0 has the bits of +0."
+pub fn amount_of(reading: Reading) -> f64
+    ensures { λ r. ⌜ r ≡ amount (valueOfReading reading) ⌝ }
+{
+    match reading {
+        Reading::Measured(x) => x,
+        Reading::Carried(x) => x,
+        Reading::Blank => 0.0,
+    }
+}
+
+// The leaf that a lookup finds, and its value.
+pub fn lookup_out(header: Header, t: &[i32], v: &[f64], cap: usize, d: u32, x: u32, y: u32) -> Found
+    requires { ⌜ Walkable (now t) cap d × (cap < length (now v)) × (1 ≤ cap) × (d ≤ 19) ⌝ }
+    ensures { λ r. ⌜ foundOf r ≡ rowLookupOut (headerOf header .grid) (now (t .entry)) (now (v .entry)) cap d x y ⌝ }
+{
+    let n = lookup_row(header, t, cap, d, x, y);
     if n == 0 {
         return Found {
             refusal: 19,

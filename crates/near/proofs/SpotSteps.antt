@@ -1,16 +1,28 @@
 -- Steps over a list of kids' places, one after the other.
 -- Assumes nothing.
-use mathlib.Core.Path.{_≡_, refl, sym, ap, _∙_}
+use mathlib.Core.Path.{_≡_, refl, sym, ap, ap₂, _∙_}
+use mathlib.Core.Logic.{_≢_}
 use mathlib.Core.List.{List, [], _∷_, _++_}
 use Prim.Native.Nat.{ℕ}
-use lib.ListN.{set}
+use borrow.Author.Tests.{eq-eqb, ne-eqb}
 use lib.IntN.{ℤ}
 use lib.Ieee.{Float}
 use Rattle.table.specs.Words.{linkOf}
-use Rattle.edit_laws.specs.Steps.{putUnlessNil}
+use Rattle.carried.specs.Carried.{putStatus, putAmount}
+use Rattle.carried.specs.declared.Carried.{Carried}
+use Rattle.edit_laws.specs.PatchSteps.{putWord}
 use Rattle.edit_laws.specs.Anew.{wallRow, pointRow}
-use Rattle.edit_laws.specs.Tables.{Spot, kidAt, kidSpots, wantedSpots, outsideSpots, eachAt, refreshNear, putCells, putValues, supplied, suppliedAll}
+use Rattle.edit_laws.specs.Tables.{Spot, kidAt, kidSpots, wantedSpots, outsideSpots, eachAt, refreshNear, putCell, putCellAmount, putAmounts, supplied, suppliedAll}
 use Rattle.near.specs.NearSpots.{cornerSpots, sideSpots}
+
+-- ---- a cell
+
+module _ (f : ℕ) (c : Carried) (t : List ℤ) (v : List Float) (n : ℕ) {k : ℕ} (e : k ≡ n) where
+  pub cell-none : k ≡ 0 → (t ≡ putCell f c t n) × (v ≡ putCellAmount c v n)
+  cell-none z = (rw (← e, eq-eqb k 0 z), rw (← e, eq-eqb k 0 z))
+
+  pub cell-put : {u r : List ℤ} {w : List Float} → k ≢ 0 → u ≡ putWord t k 12 f → r ≡ putStatus u k c → w ≡ putAmount v k c → (r ≡ putCell f c t n) × (w ≡ putCellAmount c v n)
+  cell-put z a b h = (rw (← e, ne-eqb k 0 z, b, a), rw (← e, ne-eqb k 0 z) h)
 
 -- ---- one place more
 
@@ -23,18 +35,18 @@ module _ (cap d : ℕ) (x : Spot) (xs : List Spot) where
   unfolding suppliedAll
   supply-more t e h = h ∙ ap (suppliedAll cap d xs) e
 
-module _ (cap f st : ℕ) (x : Spot) where
-  pub cell-put : (t : List ℤ) {u r : List ℤ} {k : ℕ} → k ≡ kidAt t cap x → u ≡ putUnlessNil t k 12 f → r ≡ putUnlessNil u k 13 st → r ≡ putCells (x ∷ []) t cap f st
-  unfolding putCells
-  cell-put t a e h = rw (h, e, a)
+module _ (f : ℕ) (c : Carried) (cap : ℕ) (t : List ℤ) (v : List Float) where
+  pub amounts-more : (x : Spot) (xs : List Spot) {u : List ℤ} {w r : List Float} →
+      u ≡ putCell f c t (kidAt t cap x) →
+      w ≡ putCellAmount c v (kidAt t cap x) →
+      r ≡ putAmounts f c cap xs u w →
+      r ≡ putAmounts f c cap (x ∷ xs) t v
+  unfolding putAmounts
+  amounts-more x xs e h i = i ∙ ap₂ (putAmounts f c cap xs) e h
 
-  pub cells-more : (xs : List Spot) (t : List ℤ) {u r : List ℤ} → u ≡ putCells (x ∷ []) t cap f st → r ≡ putCells xs u cap f st → r ≡ putCells (x ∷ xs) t cap f st
-  unfolding putCells
-  cells-more xs t e h = h ∙ ap (λ z. putCells xs z cap f st) e
-
-pub values-more : (t : List ℤ) (cap : ℕ) (y : Float) (x : Spot) (xs : List Spot) (v : List Float) {u r : List Float} {k : ℕ} → k ≡ kidAt t cap x → u ≡ set v k y → r ≡ putValues xs t cap y u → r ≡ putValues (x ∷ xs) t cap y v
-unfolding putValues
-values-more t cap y x xs v a e h = h ∙ ap (putValues xs t cap y) (e ∙ ap (λ k. set v k y) a)
+  pub amounts-none : v ≡ putAmounts f c cap [] t v
+  unfolding putAmounts
+  amounts-none = refl
 
 pub each-none : (f : List ℤ → ℕ → List ℤ) (cap : ℕ) (t : List ℤ) → t ≡ eachAt f cap [] t
 unfolding eachAt
@@ -43,14 +55,6 @@ each-none f cap t = refl
 pub supply-none : (cap d : ℕ) (t : List ℤ) → t ≡ suppliedAll cap d [] t
 unfolding suppliedAll
 supply-none cap d t = refl
-
-pub cells-none : (cap f st : ℕ) (t : List ℤ) → t ≡ putCells [] t cap f st
-unfolding putCells
-cells-none cap f st t = refl
-
-pub values-none : (t : List ℤ) (cap : ℕ) (y : Float) (v : List Float) → v ≡ putValues [] t cap y v
-unfolding putValues
-values-none t cap y v = refl
 
 -- ---- two lists
 

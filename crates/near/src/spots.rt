@@ -1,23 +1,23 @@
 // Steps at the kids near a cell: its own four; the corners north, east and north-east; the sides south and west.
 ghost use mathlib.Core.Path.{_≡_};
-ghost use mathlib.Core.List.{[], _∷_, _++_};
+ghost use mathlib.Core.List.{_++_};
 ghost use Prim.Native.Nat.{_<_, _≤_};
 ghost use lib.ListN.{length};
 ghost use Rattle.edit_laws.specs.Anew.{wallRow, pointRow};
-ghost use Rattle.edit_laws.specs.Tables.{kidAt, kidSpots, eachAt, refreshNear, putCells, putValues};
+ghost use Rattle.edit_laws.specs.Tables.{kidAt, kidSpots, eachAt, refreshNear, putCell, putCellAmount, putCells, putAmounts};
 ghost use Rattle.near.specs.NearSpots.{kidSpot, cornerSpots, sideSpots};
 ghost use Rattle.table.specs.Plain.{Plain};
+use carried::Carried;
+use carried::put_carried;
 use patch::anew::point_row;
 use patch::anew::wall_row;
-use patch::links::put_unless_nil;
 use table::plain;
 use table::words::EAST;
 use table::words::FLAGS;
 use table::words::NORTH;
 use table::words::SOUTH;
-use table::words::STATUS;
 use table::words::WEST;
-use table::writes::put_value;
+use table::writes::put;
 use winds::NE;
 use winds::NW;
 use winds::SE;
@@ -134,34 +134,26 @@ pub fn refresh_near(t: &mut [i32], cap: usize, d: u32, n: usize)
     point_sides(t, cap, south, west);
 }
 
-// The flags' word and the status word of a kid.
-fn put_cell(t: &mut [i32], cap: usize, p: usize, w: usize, f: u32, st: u32)
-    requires { ⌜ Plain (now t) cap × (p ≤ cap) × (w < 4) × (f < 2147483648) × (st < 2147483648) ⌝ }
-    ensures { λ _. ⌜ (now (t .exit) ≡ putCells (kidSpot p w ∷ []) (now (t .entry)) cap f st) × Plain (now (t .exit)) cap ⌝ }
+// The flags of a kid and what it carries.
+fn put_cell(t: &mut [i32], v: &mut [f64], cap: usize, p: usize, w: usize, f: u32, c: Carried)
+    requires { ⌜ Plain (now t) cap × (cap < length (now v)) × (p ≤ cap) × (w < 4) × (f < 2147483648) ⌝ }
+    ensures { λ _. ⌜ (now (t .exit) ≡ putCell f c (now (t .entry)) (kidAt (now (t .entry)) cap (kidSpot p w))) × (now (v .exit) ≡ putCellAmount c (now (v .entry)) (kidAt (now (t .entry)) cap (kidSpot p w))) × Plain (now (t .exit)) cap ⌝ }
 {
     let k = kid(t, cap, p, w);
-    put_unless_nil(t, k, FLAGS, f);
-    put_unless_nil(t, k, STATUS, st);
+    if k == 0 {
+        return;
+    }
+    put(t, k, FLAGS, f);
+    put_carried(t, v, k, c);
 }
 
-// The flags' word and the status word of the four kids.
-pub fn put_cells(t: &mut [i32], cap: usize, n: usize, f: u32, st: u32)
-    requires { ⌜ Plain (now t) cap × (n ≤ cap) × (f < 2147483648) × (st < 2147483648) ⌝ }
-    ensures { λ _. ⌜ (now (t .exit) ≡ putCells (kidSpots (now (t .entry)) cap n) (now (t .entry)) cap f st) × Plain (now (t .exit)) cap ⌝ }
+// The flags of the four kids and what they carry.
+pub fn put_cells(t: &mut [i32], v: &mut [f64], cap: usize, n: usize, f: u32, c: Carried)
+    requires { ⌜ Plain (now t) cap × (cap < length (now v)) × (n ≤ cap) × (f < 2147483648) ⌝ }
+    ensures { λ _. ⌜ (now (t .exit) ≡ putCells f c cap (kidSpots (now (t .entry)) cap n) (now (t .entry))) × (now (v .exit) ≡ putAmounts f c cap (kidSpots (now (t .entry)) cap n) (now (t .entry)) (now (v .entry))) × Plain (now (t .exit)) cap ⌝ }
 {
-    put_cell(t, cap, n, SW, f, st);
-    put_cell(t, cap, n, SE, f, st);
-    put_cell(t, cap, n, NW, f, st);
-    put_cell(t, cap, n, NE, f, st);
-}
-
-// The value y for the four kids.
-pub fn put_values(t: &[i32], cap: usize, n: usize, v: &mut [f64], y: f64)
-    requires { ⌜ Plain (now t) cap × (n ≤ cap) × (cap < length (now v)) ⌝ }
-    ensures { λ _. ⌜ now (v .exit) ≡ putValues (kidSpots (now (t .entry)) cap n) (now (t .entry)) cap y (now (v .entry)) ⌝ }
-{
-    put_value(v, kid(t, cap, n, SW), y);
-    put_value(v, kid(t, cap, n, SE), y);
-    put_value(v, kid(t, cap, n, NW), y);
-    put_value(v, kid(t, cap, n, NE), y);
+    put_cell(t, v, cap, n, SW, f, c);
+    put_cell(t, v, cap, n, SE, f, c);
+    put_cell(t, v, cap, n, NW, f, c);
+    put_cell(t, v, cap, n, NE, f, c);
 }

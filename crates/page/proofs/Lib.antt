@@ -1,3 +1,2 @@
--- The leaves of a page, and the page put line by line.
-pub mod LeafRows
+-- The page put line by line.
 pub mod PagePut

@@ -1,26 +1,16 @@
 -- The dossier page as the code makes it from the rows of a table and the values.
 -- Assumes nothing.
 use Prim.Native.Nat.{ℕ, _+_, _%_, _^_}
-use mathlib.Core.Bool.{cond}
-use mathlib.Core.List.{List, [], _∷_, _++_}
+use mathlib.Core.List.{List, _++_}
 use lib.ListN.{length}
 use lib.IntN.{ℤ}
 use lib.Ieee.{Float}
 use Rattle.mesh.specs.State.{Header}
-use Rattle.mesh.specs.Picture.{neWord, nwWord, seWord, swWord}
 use Rattle.mesh.specs.Page.{headLine, footLine, total}
 use Rattle.mesh.specs.Call.{Wrote, writing}
-use Rattle.walk.specs.WalkRows.{leafRow, rowWalk}
+use Rattle.leaves.specs.LeavesFrom.{leavesFrom}
 use Rattle.page.specs.declared.pages.PageOut.{PageOut}
 use Rattle.lines.specs.LineRows.{linesOf}
-
--- "one line for each leaf in order SW, NW, SE, NE": the leaves from the row n on, so many levels down
-unfoldable pub leavesFrom : List ℤ → ℕ → ℕ → ℕ → List ℕ
-leavesFrom t cap l n = rowWalk t cap (leafRow t cap) (swWord ∷ nwWord ∷ seWord ∷ neWord ∷ []) l n
-
--- the row itself, if it is a leaf
-unfoldable pub ownLeaf : List ℤ → ℕ → ℕ → List ℕ
-ownLeaf t cap n = cond (leafRow t cap n) (n ∷ []) []
 
 -- all lines but the last, for the leaves ns
 unfoldable pub bodyOf : Header → List ℤ → List Float → List ℕ → List ℕ

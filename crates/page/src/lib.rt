@@ -1,3 +1,2 @@
 // The dossier page: its leaves are found once, its length is counted, and then it is put into the output.
-pub mod leaves;
 pub mod pages;

@@ -13,7 +13,7 @@ use Rattle.table.specs.Words.{linkOf, freeAt}
 use Rattle.table.specs.Plain.{Plain}
 use Rattle.table.specs.Worked.{kidless, touchedIn}
 use Rattle.free.specs.FreeMap.{switched, Mapped}
-use Rattle.edit_laws.specs.Steps.{takeOut}
+use Rattle.edit_laws.specs.PatchSteps.{takeOut}
 use Rattle.edit_laws.proofs.FreeNumbers.{take-out-free}
 use Rattle.edit_laws.specs.Tables.{dropUntouched, dropUp, dropCorner}
 

@@ -16,7 +16,7 @@ use Rattle.table.specs.FlagDigits.{four, pair}
 use Rattle.table.specs.Words.{linkOf, flagOf}
 use Rattle.table.specs.Worked.{boundaryAt, boundaryH, boundaryV, greenH, greenV}
 use Rattle.table.proofs.Paired.{meet}
-use Rattle.edit_laws.specs.Steps.{putWord}
+use Rattle.edit_laws.specs.PatchSteps.{putWord}
 use Rattle.edit_laws.specs.Anew.{wallsAnew, pointsAnew, wallRow, pointRow}
 
 module _ (t : List ℤ) (cap d n : ℕ) where

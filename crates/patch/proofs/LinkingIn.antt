@@ -20,7 +20,7 @@ use Rattle.table.specs.Worked.{kidWord, sideBy}
 use Rattle.table.specs.Writes.{putRow, freeRow}
 use Rattle.table.proofs.Offsets.{side-digits}
 use Rattle.table_laws.proofs.LinkedRows.{kid-word-lt}
-use Rattle.edit_laws.specs.Steps.{putWord, putUnlessNil, linkSide, placeIn, linkIn, dropSide, takeOut}
+use Rattle.edit_laws.specs.PatchSteps.{putWord, putUnlessNil, linkSide, placeIn, linkIn, dropSide, takeOut}
 use Rattle.edit_laws.proofs.WrittenWord.{word-other, word-here, wind-word}
 use Rattle.patch.specs.LinkBy.{linkBy}
 use Rattle.patch.proofs.Opposite.{own-word, opposite-word}

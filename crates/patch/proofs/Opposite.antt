@@ -9,7 +9,7 @@ use Rattle.winds.specs.WindTable.{compassOf, compassAt}
 use Rattle.winds.specs.declared.Compass.{Compass}
 use Rattle.mesh.proofs.Winds.{rule}
 use Rattle.table.proofs.Offsets.{at}
-use Rattle.table.proofs.PutRows.{getD-any}
+use Rattle.carried.proofs.CarriedWords.{getD-any}
 use mathlib.Core.List.{map}
 
 compass-at : (i : ℕ) → i < 8 → compassAt i ≡ compassOf (getD winds i NE)

@@ -4,26 +4,26 @@ use mathlib.Core.Path.{_≡_, refl, ap}
 use mathlib.Core.Logic.{_≢_}
 use mathlib.Core.Bool.{Bool, true, false, cond}
 use mathlib.Core.Option.{none}
-use mathlib.Core.List.{List, [], _∷_}
+use mathlib.Core.List.{List}
 use Prim.Native.Nat.{ℕ, zero, suc, _+_, _*_, _≤_, _<_}
 use native.Mathlib.Omega.{arith}
 use native.Mathlib.Decide.{ℕ-discrete}
 use lib.Dec.{eqb}
 use lib.ListN.{length, getD, set, length-set}
 use lib.IntN.{ℤ, pos, subℕ}
-use Rattle.edit_laws.specs.Growing.{Rooted}
+use Rattle.edit_laws.specs.Rooted.{Rooted}
 use Rattle.mesh.specs.Place.{Place, Grid, Wind, compass, around}
 use Rattle.mesh.specs.Winds.{wordOfWind}
-use Rattle.mesh.specs.Picture.{rowWords, flagsWord, linkWords}
+use Rattle.mesh.specs.Picture.{rowWords, flagsWord, statusWord, linkWords}
 use Rattle.mesh.specs.State.{Entry, nil, free, used, placeOf, entry}
 use Rattle.table.specs.Words.{code, wordOf, linkOf, depthOf}
-use Rattle.table.specs.Carried.{putStatus, nothing}
+use Rattle.carried.specs.Carried.{putStatus}
+use Rattle.carried.specs.declared.Carried.{Carried}
 use Rattle.table.specs.Worked.{kidWord, sideBy}
 use Rattle.table.specs.Writes.{putRow, freeRow}
 use Rattle.table.proofs.LinkRanges.{link-within}
 use Rattle.table_laws.proofs.LinkedRows.{kid-word-lt}
-use Rattle.edit_laws.specs.Steps.{putWord, putUnlessNil, placeIn, dropSide}
-use Rattle.edit_laws.specs.Tables.{Spot, kidAt, putCells}
+use Rattle.edit_laws.specs.PatchSteps.{putWord, placeIn, dropSide}
 use Rattle.edit_laws.specs.Linked.{Flags, tableWith}
 use Rattle.edit_laws.proofs.Slots.{put-length, put-same, put-other}
 use Rattle.edit_laws.proofs.WrittenWord.{word-other, word-either, wind-word}
@@ -69,14 +69,9 @@ plain-named n w x p e l h = rw e (plain-link p n w x l h)
 pub plain-put : {t u : List ℤ} {cap : ℕ} (n x : ℕ) → Plain t cap → u ≡ putWord t n flagsWord x → x < 2147483648 → Plain u cap
 plain-put {cap = cap} n x p e h = rw e (plain-flags p n x h)
 
--- ---- cells
-
-pub plain-cell : {t u : List ℤ} {cap : ℕ} (f st : ℕ) (x : Spot) → Plain t cap → u ≡ putCells (x ∷ []) t cap f st → f < 2147483648 → Plain u cap
-unfolding putCells
-plain-cell {t} {cap = cap} f st x p e h =
-    let k = kidAt t cap x in
-    let q : Plain (putUnlessNil t k flagsWord f) cap = plain-either p (eqb k 0) (plain-flags p k f h) in
-    rw e (plain-either q (eqb k 0) (plain-else q k 13 (pos st) (omega arith) (λ e. omega arith) (omega arith)))
+-- a row gets other flags, and carries something else
+pub plain-cell : {t u v : List ℤ} {cap : ℕ} (n x : ℕ) (c : Carried) → Plain t cap → u ≡ putWord t n flagsWord x → v ≡ putStatus u n c → x < 2147483648 → Plain v cap
+plain-cell n x c p e h l = rw h (plain-else (plain-put n x p e l) n statusWord (c .status) (omega arith) (λ e. omega arith) (omega arith))
 
 -- ---- a patch that comes
 
@@ -140,10 +135,6 @@ plain-freed {t} {cap = cap} k p e fits =
     flag : (m : ℕ) → m ≤ cap → Dec (m ≡ k) → wordOf (putRow t k freeRow) m flagsWord < 2147483648
     flag m h (yes e) = rw (e, put-same t freeRow k refl fits 12 (omega arith)) (omega arith)
     flag m h (no e) = rw (put-other t freeRow k refl fits m 12 (omega arith) e) (p .flags m h)
-
--- a cell that is killed
-pub plain-killed : {t u v : List ℤ} {cap : ℕ} (n : ℕ) → Plain t cap → u ≡ putWord t n flagsWord 0 → v ≡ putStatus u n nothing → Plain v cap
-plain-killed n p e h = rw h (plain-else (plain-put n 0 p e (omega arith)) n 13 (pos 0) (omega arith) (λ e. omega arith) (omega arith))
 
 -- ---- a linked table, and a picture
 

@@ -5,7 +5,7 @@ use mathlib.Core.List.{List}
 use lib.IntN.{ℤ}
 use Rattle.mesh.specs.Place.{Wind}
 use Rattle.table.specs.Worked.{sideBy}
-use Rattle.edit_laws.specs.Steps.{nameEach}
+use Rattle.edit_laws.specs.PatchSteps.{nameEach}
 
 -- the row k, a kid of the row p whose digits are l and m
 unfoldable pub linkBy : List ℤ → ℕ → ℕ → ℕ → ℕ → ℕ → Wind → List ℤ

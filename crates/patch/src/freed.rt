@@ -4,7 +4,7 @@ ghost use Prim.Native.Nat.{_≤_};
 ghost use Rattle.table.specs.Plain.{Plain};
 ghost use Rattle.table.specs.Words.{freeAt};
 ghost use Rattle.free.specs.FreeMap.{Mapped};
-ghost use Rattle.edit_laws.specs.Steps.{takeOut};
+ghost use Rattle.edit_laws.specs.PatchSteps.{takeOut};
 use crate::links::take_out;
 use free::map::Spare;
 use free::map::give;

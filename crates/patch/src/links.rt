@@ -6,20 +6,15 @@ ghost use Rattle.mesh.specs.Place.{NE};
 ghost use Rattle.mesh.specs.Winds.{winds};
 ghost use Rattle.mesh.specs.Picture.{rowWords};
 ghost use Rattle.table.specs.Plain.{Plain};
-ghost use Rattle.table.specs.Worked.{touchedIn};
-ghost use Rattle.edit_laws.specs.Steps.{putUnlessNil, placeIn, linkIn, dropSide, takeOut};
+ghost use Rattle.edit_laws.specs.PatchSteps.{putUnlessNil, placeIn, linkIn, dropSide, takeOut};
 ghost use Rattle.patch.specs.LinkBy.{linkBy};
 ghost use Rattle.patch.specs.Small.{Small};
-use table::flag_bits::COMPLETE;
 use table::plain;
-use table::plain::flag;
 use table::plain::link;
 use table::words::FLAGS;
 use table::words::INDEX_I;
 use table::words::INDEX_J;
 use table::words::PARENT;
-use table::words::SOUTH;
-use table::words::WEST;
 use table::words::word;
 use table::worked::kid_word;
 use table::worked::side_by;
@@ -32,7 +27,7 @@ use winds::S;
 use winds::W;
 
 // Writes x as the word w of the row n, unless n is 0.
-pub fn put_unless_nil(t: &mut [i32], n: usize, w: usize, x: u32)
+fn put_unless_nil(t: &mut [i32], n: usize, w: usize, x: u32)
     requires { ⌜ (n * rowWords + w < length (now t)) × (x < 2147483648) ⌝ }
     ensures { λ _. ⌜ now (t .exit) ≡ putUnlessNil (now (t .entry)) n w x ⌝ }
 {
@@ -106,17 +101,4 @@ pub fn take_out(t: &mut [i32], cap: usize, k: usize)
     drop_side(t, cap, k, S);
     drop_side(t, cap, k, W);
     clear_row(t, k);
-}
-
-// Whether a cell touches the patch of the row n.
-pub fn touched_row(t: &[i32], cap: usize, n: usize) -> bool
-    requires { ⌜ Plain (now t) cap × (n ≤ cap) ⌝ }
-    ensures { λ r. ⌜ r ≡ touchedIn (now (t .entry)) cap n ⌝ }
-{
-    let west = link(t, cap, n, WEST);
-    let south = link(t, cap, n, SOUTH);
-    let both = link(t, cap, west, SOUTH);
-    flag(t, cap, COMPLETE, n)
-        | (flag(t, cap, COMPLETE, west)
-            | (flag(t, cap, COMPLETE, south) | flag(t, cap, COMPLETE, both)))
 }

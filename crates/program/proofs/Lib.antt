@@ -1,5 +1,4 @@
 -- What is printed, branch by branch; that it is never longer than the program's output; and that `print` has one outcome.
-pub mod Head
 pub mod PrintedTape
 pub mod Printed
 pub mod LineLengths

@@ -1,18 +1,25 @@
--- How long lines and pages are: a decimal has at most 20 digits, and so a leaf's line at most 103 bytes.
+-- The line of a refusal, and how long lines and pages are: a decimal has at most 20 digits, and so a leaf's line at most 103 bytes.
 -- Assumes nothing.
 use Prim.Native.Nat.{ℕ, _+_, _*_, _%_, _^_, _≤_}
 use native.Mathlib.Omega.{arith}
 use mathlib.Core.Path.{_≡_}
-use mathlib.Core.List.{List, [], _∷_, map}
+use mathlib.Core.List.{List, [], _∷_, _++_, map, append-assoc}
 use lib.ListN.{length, length-append}
 use lib.IntN.{natAbs}
 use Rattle.mesh.specs.Tools.{flat}
 use Rattle.mesh.specs.Place.{level}
 use Rattle.mesh.specs.State.{State, placeAt, gridOf}
-use Rattle.mesh.specs.Page.{decimal, line, leaves, leafLine, footLine, total, body, page}
+use Rattle.mesh.specs.Page.{decimal, line, space, lineFeed, leaves, leafLine, footLine, total, body, page}
 use Rattle.mesh.specs.Program.{refusedLine}
 use Rattle.lines.proofs.Decimals.{decimal-long, hex-long}
 use Rattle.lines.proofs.Worded.{head-short}
+
+-- ---- the line of a refusal, word by word
+
+pub refused-line : (n o : ℕ)
+    → (114 ∷ 101 ∷ 102 ∷ 117 ∷ 115 ∷ 101 ∷ 100 ∷ 32 ∷ []) ++ (decimal n ++ (space ∷ [])) ++ (97 ∷ 116 ∷ 32 ∷ []) ++ decimal o ++ (lineFeed ∷ []) ≡ refusedLine n o
+unfolding refusedLine line
+refused-line n o = simp append-assoc
 
 -- ---- digits and lines
 

@@ -29,7 +29,7 @@ use Rattle.call_laws.proofs.Called.{checks-after}
 use Rattle.grid.specs.declared.Built.{Built}
 use Rattle.grid.specs.declared.Taped.{Taped}
 use Rattle.grid.specs.Calls.{tapedOf, Builds, Tapes}
-use Rattle.program.proofs.Head.{head-sizes}
+use Rattle.input.proofs.Head.{head-sizes}
 use Rattle.program.proofs.PrintedTape.{started, ran, started-valid, ran-valid}
 
 -- the page call on the picture of a valid state

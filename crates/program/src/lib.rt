@@ -11,6 +11,7 @@ ghost use Rattle.grid.specs.Calls.{wroteOf};
 use grid::Wrote;
 use header::OPEN;
 use header::fresh;
+use input::head_refusal;
 use lines::numerals::digits;
 use lines::numerals::put_byte;
 use lines::numerals::put_decimal;
@@ -24,9 +25,6 @@ const CAPACITY: u32 = 1000;
 const WORDS: usize = ROW_WORDS * 1001;
 
 const VALUES: usize = 1001;
-
-// The longest input that is accepted.
-const LONGEST: usize = 60000;
 
 // Puts the line `refused n at o`.
 fn put_refused(out: &mut [u8], n: u32, o: u32) -> usize
@@ -54,25 +52,6 @@ fn write_refused(out: &mut [u8], n: u32, o: usize) -> Wrote
     }
     let count = put_refused(out, n, offset);
     Wrote { refusal: 0, count }
-}
-
-// The refusal of the input before the build, or 0.
-fn head_refusal(input: &[u8]) -> u32
-    ensures { λ r. ⌜ r ≡ refusal (inputChecks (now (input .entry))) ⌝ }
-{
-    if LONGEST < input.len() {
-        return 20;
-    }
-    if input.len() == 0 {
-        return 4;
-    }
-    if input[0] != 7 {
-        return 5;
-    }
-    if input.len() < 3 {
-        return 4;
-    }
-    0
 }
 
 // Prints on a table and values of the capacity, whose old contents do not matter.

@@ -30,7 +30,7 @@ use Rattle.checker_laws.proofs.Climbing.{said-small}
 use Rattle.checker_laws.proofs.Reading.{flags-small}
 use Rattle.readable.specs.Readable.{linked}
 use Rattle.readable.specs.Readable.{positive, plainRow, Readable, Levelled}
-use Rattle.readable.proofs.Below.{below-more, below-fails, below-all}
+use Rattle.readable.proofs.CountingUp.{below-more, below-fails, below-all}
 
 -- ---- one row
 
@@ -59,13 +59,13 @@ module _ (t : List ℤ) (cap : ℕ) where
       rw (names n parentWord (h parentWord (omega arith)), names n neWord (h neWord (omega arith)), names n seWord (h seWord (omega arith)), names n swWord (h swWord (omega arith)), names n nwWord (h nwWord (omega arith)), names n northWord (h northWord (omega arith)), names n eastWord (h eastWord (omega arith)), names n southWord (h southWord (omega arith)), names n westWord (h westWord (omega arith)))
 
   module _ (d n : ℕ) where
-    pub plain-row-is : {a i j k : Bool} {e : ℕ} →
+    pub plain-row-is : {a e i j k : Bool} →
         a ≡ linked t cap n →
-        e ≡ depthOf t d n →
+        e ≡ leb (depthOf t d n) (d + 12) →
         i ≡ positive t n iWord →
         j ≡ positive t n jWord →
         k ≡ positive t n flagsWord →
-        (a && leb e (d + 12) && i && j && k) ≡ plainRow t cap d n
+        (a && e && i && j && k) ≡ plainRow t cap d n
     unfolding plainRow
     plain-row-is a e i j k = rw (a, e, i, j, k)
 

@@ -1,19 +1,19 @@
 -- Words that are read as they stand: what the test of a sign says, and what depth a level is.
 -- Assumes nothing.
 use mathlib.Core.Path.{_≡_, sym, _∙_}
-use mathlib.Core.Bool.{true, not, cond}
+use mathlib.Core.Bool.{true, not, _&&_, cond}
 use mathlib.Core.List.{List}
-use Prim.Native.Nat.{ℕ, _+_, _-_, _*_, _≤_, _<_}
+use Prim.Native.Nat.{ℕ, suc, _+_, _-_, _*_, _≤_, _<_}
 use native.Mathlib.Omega.{arith}
-use native.Mathlib.Decide.{decLt, ℕ-discrete}
-use lib.Dec.{eqb, ltb}
+use native.Mathlib.Decide.{decLe, decLt, ℕ-discrete}
+use lib.Dec.{eqb, leb, ltb}
 use lib.ListN.{getD}
 use lib.IntN.{ℤ, pos, negsuc, natAbs}
-use lib.Signed.{leZ}
+use lib.Signed.{leZ, ltZ}
 use mir.Syntax.{w32}
 use mir.Val.{SFits, toZ, ofZ}
-use mir.Facts.{toZ-ofZ}
-use borrow.Author.Tests.{eq-eqb, ne-eqb, le-leb, lt-ltb, le-ltb}
+use mir.Facts.{toZ-ofZ, toZ-neg}
+use borrow.Author.Tests.{eq-eqb, ne-eqb, le-leb, lt-leb, lt-ltb, le-ltb}
 use Rattle.mesh.specs.Picture.{rowWords, levelWord}
 use Rattle.table.specs.Words.{code, wordOf, depthFrom, depthOf}
 use Rattle.readable.specs.Readable.{Levelled}
@@ -26,6 +26,29 @@ sign-is {z} f = rw (toZ-ofZ f) (go z f)
     go : (z : ℤ) → SFits w32 z → leZ (pos 0) z ≡ ltb (code z) 2147483648
     go (pos n) f = le-leb 0 n (omega arith) ∙ sym (lt-ltb n 2147483648 (f .sfits))
     go (negsuc n) f = sym (le-ltb (2147483648 + n) 2147483648 (omega arith))
+
+-- a test of a level
+pub level-test : (d : ℕ) → d ≤ 32 → {z : ℤ} → SFits w32 z → (ltZ (toZ w32 (4294967295 - d)) (toZ w32 (ofZ w32 z)) && leZ (toZ w32 (ofZ w32 z)) (pos 12)) ≡ leb (depthFrom d (code z)) (d + 12)
+level-test d h {z} f =
+    let e : 4294967295 - d ≡ 4294967296 - suc d = omega arith in
+    let s : d < 2147483648 = omega arith in
+    rw (toZ-ofZ f, e, toZ-neg w32 d s) (go z f)
+  where
+    high : (n : ℕ) → Dec (n ≤ 12) → leb n 12 ≡ leb (n + d) (d + 12)
+    high n (yes l) = le-leb n 12 l ∙ sym (le-leb (n + d) (d + 12) (omega arith))
+    high n (no l) = lt-leb n 12 (omega (arith, l)) ∙ sym (lt-leb (n + d) (d + 12) (omega (arith, l)))
+
+    low : (n : ℕ) → Dec (n < d) → (ltb n d && true) ≡ leb (cond (ltb n d) (d - 1 - n) (d + 13)) (d + 12)
+    low n (yes l) = rw (lt-ltb n d l) (sym (le-leb (d - 1 - n) (d + 12) (omega arith)))
+    low n (no l) = rw (le-ltb n d (omega (arith, l))) (sym (lt-leb (d + 13) (d + 12) (omega arith)))
+
+    go : (z : ℤ) → SFits w32 z → (ltZ (negsuc d) z && leZ z (pos 12)) ≡ leb (depthFrom d (code z)) (d + 12)
+    go (pos n) f =
+        let s : n < 2147483648 = f .sfits in
+        rw (lt-ltb n 2147483648 s) (high n (decLe n 12))
+    go (negsuc n) f =
+        let c : 2147483648 + n - 2147483648 ≡ n = omega arith in
+        rw (le-ltb (2147483648 + n) 2147483648 (omega arith), c) (low n (decLt n d))
 
 -- the level at its place in the list
 pub depth-there : (t : List ℤ) (d n b : ℕ) {z : ℤ} → z ≡ getD t (n * rowWords + levelWord) (pos 0) → depthOf t d n ≤ b → depthFrom d (code z) ≤ b

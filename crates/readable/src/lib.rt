@@ -1,14 +1,13 @@
 // Words that are read as they stand, once every row has been looked at.
 ghost use mathlib.Core.Path.{_≡_};
 ghost use Prim.Native.Nat.{_+_, _*_, _≤_, _<_, suc};
+ghost use lib.Dec.{leb};
 ghost use lib.ListN.{length};
 ghost use Rattle.mesh.specs.Picture.{flagsWord, levelWord, rowWords};
-ghost use Rattle.table.specs.Plain.{Plain, Sized};
-ghost use Rattle.table.specs.Words.{wordOf, depthOf};
-ghost use Rattle.table.specs.Worked.{kidless};
+ghost use Rattle.table.specs.Plain.{Sized};
+ghost use Rattle.table.specs.Words.{code, wordOf, depthFrom, depthOf};
 ghost use Rattle.checker_laws.specs.Rowwise.{below};
 ghost use Rattle.readable.specs.Readable.{linked, positive, plainRow, Readable, Levelled};
-use table::plain::link;
 use table::plain::word;
 use table::words::EAST;
 use table::words::FLAGS;
@@ -50,13 +49,21 @@ fn linked_ok(t: &[i32], cap: usize, n: usize) -> bool
         & named(t, cap, n, WEST)
 }
 
+// Whether x is a level that a row can have, from that of the root to 12.
+fn is_level(d: u32, x: i32) -> bool
+    requires { ⌜ d ≤ 32 ⌝ }
+    ensures { λ r. ⌜ r ≡ leb (depthFrom d (code x)) (d + 12) ⌝ }
+{
+    (!(d as i32) < x) & (x <= 12)
+}
+
 // Whether the row n can be read as it stands.
 fn plain_row(t: &[i32], cap: usize, d: u32, n: usize) -> bool
     requires { ⌜ Sized (now t) cap × (n ≤ cap) × (d ≤ 32) ⌝ }
     ensures { λ r. ⌜ r ≡ plainRow (now (t .entry)) cap d n ⌝ }
 {
     linked_ok(t, cap, n)
-        & (table::words::depth(t, d, n) <= d + 12)
+        & is_level(d, raw(t, n, LEVEL))
         & is_positive(t, n, INDEX_I)
         & is_positive(t, n, INDEX_J)
         & is_positive(t, n, FLAGS)
@@ -97,15 +104,4 @@ pub fn depth(t: &[i32], cap: usize, d: u32, n: usize) -> u32
     let y = !x;
     let below = y as u32;
     d - 1 - below
-}
-
-// Whether no kid word names a row.
-pub fn kidless(t: &[i32], cap: usize, n: usize) -> bool
-    requires { ⌜ Plain (now t) cap × (n ≤ cap) ⌝ }
-    ensures { λ r. ⌜ r ≡ kidless (now (t .entry)) cap n ⌝ }
-{
-    (link(t, cap, n, NE_KID) == 0)
-        & (link(t, cap, n, SE_KID) == 0)
-        & (link(t, cap, n, SW_KID) == 0)
-        & (link(t, cap, n, NW_KID) == 0)
 }

@@ -12,7 +12,7 @@ use Rattle.table.specs.Words.{code, wordOf, depthFrom, depthOf}
 use Rattle.table.specs.Worked.{kidWord}
 use Rattle.table.proofs.LinkRanges.{depth-back, level-of}
 use Rattle.table_laws.proofs.LinkedRows.{kid-word-lt}
-use Rattle.edit_laws.specs.Steps.{putWord, placeIn, linkIn}
+use Rattle.edit_laws.specs.PatchSteps.{putWord, placeIn, linkIn}
 use Rattle.edit_laws.proofs.WrittenWord.{word-other, word-either, Keeps, keeps-put, keeps-then, keeps-side}
 use Rattle.patch.specs.Small.{Small, AllSmall, Doubled}
 

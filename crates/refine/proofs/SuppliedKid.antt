@@ -17,7 +17,7 @@ use Rattle.free.specs.FreeMap.{firstFrom, Maps, Mapped}
 use Rattle.free.specs.Free.{nextIn}
 use Rattle.free.proofs.Switching.{mapped-some}
 use Rattle.free.proofs.FreeRows.{next-in, next-within, next-free}
-use Rattle.edit_laws.specs.Steps.{linkIn}
+use Rattle.edit_laws.specs.PatchSteps.{linkIn}
 use Rattle.edit_laws.specs.Tables.{spot, kidAt, supplied}
 use Rattle.edit_laws.proofs.FreeNumbers.{link-in-free}
 use Rattle.refine.specs.Took.{Took, Without}

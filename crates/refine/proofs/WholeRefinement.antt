@@ -1,16 +1,14 @@
 -- A refinement whole: each table is the one before with what a step does, and the places are those of the table at the start.
 -- Assumes nothing.
 use mathlib.Core.Path.{_≡_, sym, ap, _∙_}
-use mathlib.Core.Logic.{_≢_}
 use mathlib.Core.List.{List}
 use Prim.Native.Nat.{ℕ}
-use borrow.Author.Tests.{eq-eqb, ne-eqb}
 use lib.IntN.{ℤ}
-use lib.ListN.{getD}
 use lib.Ieee.{Float}
-use Rattle.mesh.specs.State.{plusZero}
-use Rattle.table.specs.Words.{wordOf, linkOf}
-use Rattle.edit_laws.specs.Tables.{kidSpots, suppliedAll, suppliedNear, putCells, putValues, refreshNear, kidStatus, refineTable, refineValues}
+use Rattle.table.specs.Words.{linkOf}
+use Rattle.carried.specs.Carried.{carriedOf, passedDown}
+use Rattle.carried.specs.declared.Carried.{Carried}
+use Rattle.edit_laws.specs.Tables.{kidSpots, suppliedAll, suppliedNear, putCells, putAmounts, refreshNear, refineTable, refineValues}
 use Rattle.near.specs.NearSpots.{cornerSpots}
 use Rattle.near.proofs.SpotSteps.{wanted-is, supply-append}
 
@@ -20,15 +18,11 @@ module _ (t : List ℤ) (cap d n : ℕ) {north east both : ℕ} {t₁ t₂ : Lis
   pub all-supplied : t₂ ≡ suppliedNear t cap d n
   all-supplied = h5 ∙ ap (suppliedAll cap d (cornerSpots north east both)) h4 ∙ sym (supply-append cap d (kidSpots t cap n) (cornerSpots north east both) t) ∙ sym (ap (λ xs. suppliedAll cap d xs t) (wanted-is t cap n h1 h2 h3))
 
-  pub refined : {w st : ℕ} {t₃ t₄ : List ℤ} → w ≡ wordOf t n 13 → st ≡ kidStatus w → t₃ ≡ putCells (kidSpots t₂ cap n) t₂ cap 1 st → t₄ ≡ refreshNear t₃ cap d n → t₄ ≡ refineTable t cap d n
+module _ (t : List ℤ) (v : List Float) (cap d n : ℕ) {t₁ : List ℤ} {own kid : Carried} (h1 : t₁ ≡ suppliedNear t cap d n) (h2 : own ≡ carriedOf t v n) (h3 : kid ≡ passedDown own) where
+  pub refined : {t₂ t₃ : List ℤ} → t₂ ≡ putCells 1 kid cap (kidSpots t₁ cap n) t₁ → t₃ ≡ refreshNear t₂ cap d n → t₃ ≡ refineTable t v cap d n
   unfolding refineTable
-  refined h6 h7 h8 h9 = rw (← all-supplied, ← h6, ← h7, ← h8, h9)
+  refined h4 h5 = rw (← h1, ← h2, ← h3, ← h4, h5)
 
-module _ (t : List ℤ) (cap n : ℕ) (v : List Float) where
-  pub values-blank : {w : ℕ} → w ≡ wordOf t n 13 → w ≡ 0 → v ≡ refineValues t cap n v
+  pub refined-values : {u : List Float} → u ≡ putAmounts 1 kid cap (kidSpots t₁ cap n) t₁ v → u ≡ refineValues t v cap d n
   unfolding refineValues
-  values-blank e h = rw (eq-eqb (wordOf t n 13) 0 (sym e ∙ h))
-
-  pub values-carried : {w : ℕ} {y : Float} {u : List Float} → w ≡ wordOf t n 13 → w ≢ 0 → y ≡ getD v n plusZero → u ≡ putValues (kidSpots t cap n) t cap y v → u ≡ refineValues t cap n v
-  unfolding refineValues
-  values-carried e h i j = rw (ne-eqb (wordOf t n 13) 0 (λ z. h (e ∙ z)), j, i)
+  refined-values h4 = rw (← h1, ← h2, ← h3, h4)

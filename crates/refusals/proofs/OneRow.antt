@@ -25,7 +25,7 @@ use Rattle.mesh.specs.Refusal.{refusal}
 use Rattle.mesh.specs.Carrying.{sentencedCell, measuredCell}
 use Rattle.mesh.specs.Request.{sentence, setValue, looseChecks, effect, fill, filled, newCell}
 use Rattle.table.specs.Words.{wordOf, flagOf}
-use Rattle.table.specs.Carried.{putStatus, putAmount, measuredAs}
+use Rattle.carried.specs.Carried.{putStatus, putAmount, measuredAs}
 use Rattle.place_laws.proofs.Bools.{yes-is, is-yes, no-is}
 use Rattle.place_laws.proofs.Lists.{map-set}
 use Rattle.place_laws.proofs.Places.{in-one, same-refl}

@@ -7,16 +7,16 @@ ghost use Rattle.near.specs.NearSpots.{cornerSpots};
 ghost use Rattle.table.specs.Plain.{Plain};
 ghost use Rattle.table.specs.Words.{freeAt};
 ghost use Rattle.free.specs.FreeMap.{Mapped};
+use carried::blank;
 use free::map::Spare;
 use near::spots::kid;
 use near::spots::put_cells;
-use near::spots::put_values;
 use near::spots::refresh_near;
 use patch::freed::free_row;
-use patch::links::touched_row;
 use table::plain::link;
 use table::words::EAST;
 use table::words::NORTH;
+use table::worked::touched;
 use winds::NE;
 use winds::NW;
 use winds::SE;
@@ -30,7 +30,7 @@ fn drop_untouched(t: &mut [i32], cap: usize, map: &mut [u64; 64], s: Spare, n: u
     if n == 0 {
         return s;
     }
-    if touched_row(t, cap, n) {
+    if touched(t, cap, n) {
         return s;
     }
     free_row(t, cap, map, s, n)
@@ -76,36 +76,6 @@ fn drop_corners(
 }
 
 // Removes the kids of the row n. The map is that of the table when they are no cells, and then that of the table without the rows that go.
-pub fn remove_table(
-    t: &mut [i32],
-    cap: usize,
-    map: &mut [u64; 64],
-    s: Spare,
-    d: u32,
-    n: usize,
-) -> Spare
-    requires { ⌜ Plain (now t) cap × (n ≤ cap) × (d ≤ 32) × Mapped (freeAt (emptied (now t) cap n)) (now map) (s .top) (s .count) ⌝ }
-    ensures { λ r. ⌜ (now (t .exit) ≡ removeTable (now (t .entry)) cap d n) × Mapped (freeAt (droppedNear (now (t .entry)) cap n)) (now (map .exit)) (r .top) (r .count) ⌝ }
-{
-    put_cells(t, cap, n, 0, 0);
-    let north = link(t, cap, n, NORTH);
-    let east = link(t, cap, n, EAST);
-    let both = link(t, cap, east, NORTH);
-    let a = drop_kids(t, cap, map, s, n);
-    let b = drop_corners(t, cap, map, a, north, east, both);
-    refresh_near(t, cap, d, n);
-    b
-}
-
-// The values, with the words before the removal.
-pub fn remove_values(t: &[i32], cap: usize, n: usize, v: &mut [f64])
-    requires { ⌜ Plain (now t) cap × (n ≤ cap) × (cap < length (now v)) ⌝ }
-    ensures { λ _. ⌜ now (v .exit) ≡ removeValues (now (t .entry)) cap n (now (v .entry)) ⌝ }
-{
-    put_values(t, cap, n, v, 0.0);
-}
-
-// Removes the kids of the row n, their values too.
 pub fn remove(
     t: &mut [i32],
     v: &mut [f64],
@@ -118,6 +88,12 @@ pub fn remove(
     requires { ⌜ Plain (now t) cap × (cap < length (now v)) × (n ≤ cap) × (d ≤ 32) × Mapped (freeAt (emptied (now t) cap n)) (now map) (s .top) (s .count) ⌝ }
     ensures { λ r. ⌜ (now (t .exit) ≡ removeTable (now (t .entry)) cap d n) × (now (v .exit) ≡ removeValues (now (t .entry)) cap n (now (v .entry))) × Mapped (freeAt (droppedNear (now (t .entry)) cap n)) (now (map .exit)) (r .top) (r .count) ⌝ }
 {
-    remove_values(t, cap, n, v);
-    remove_table(t, cap, map, s, d, n)
+    put_cells(t, v, cap, n, 0, blank());
+    let north = link(t, cap, n, NORTH);
+    let east = link(t, cap, n, EAST);
+    let both = link(t, cap, east, NORTH);
+    let a = drop_kids(t, cap, map, s, n);
+    let b = drop_corners(t, cap, map, a, north, east, both);
+    refresh_near(t, cap, d, n);
+    b
 }

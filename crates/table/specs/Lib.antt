@@ -3,5 +3,4 @@ pub mod FlagDigits
 pub mod Words
 pub mod Worked
 pub mod Writes
-pub mod Carried
 pub mod Plain

@@ -1,10 +1,8 @@
-// The lent table: every read and write of its words and values.
-pub mod carried;
+// The lent table: every read and write of its words.
 pub mod down;
 pub mod flag_bits;
 pub mod pairs;
 pub mod plain;
-pub mod values;
 pub mod words;
 pub mod worked;
 pub mod writes;

@@ -1,4 +1,4 @@
-// The words that are worked out from other rows' words: neighbours, and flags by their weights.
+// The words that are worked out from other rows' words: neighbours, whether there are kids and cells nearby, and flags by their weights.
 ghost use mathlib.Core.Path.{_≡_};
 ghost use mathlib.Core.Bool.{cond};
 ghost use Prim.Native.Nat.{_*_, _<_, _≤_};
@@ -8,8 +8,16 @@ ghost use Rattle.mesh.specs.Winds.{winds};
 ghost use Rattle.table.specs.FlagDigits.{four};
 ghost use Rattle.table.specs.Plain.{Plain};
 ghost use Rattle.table.specs.Words.{linkOf};
-ghost use Rattle.table.specs.Worked.{kidWord, staysIn, sideBy};
-use crate::plain;
+ghost use Rattle.table.specs.Worked.{kidWord, staysIn, sideBy, kidless, touchedIn};
+use crate::flag_bits::COMPLETE;
+use crate::plain::flag;
+use crate::plain::link;
+use crate::words::NE_KID;
+use crate::words::NW_KID;
+use crate::words::SE_KID;
+use crate::words::SOUTH;
+use crate::words::SW_KID;
+use crate::words::WEST;
 
 // The word of the kid whose column ends in the digit l and whose row ends in the digit m.
 pub fn kid_word(l: u32, m: u32) -> usize
@@ -31,7 +39,7 @@ fn hub(t: &[i32], cap: usize, p: usize, w: usize, stays: bool) -> usize
     requires { ⌜ Plain (now t) cap × (p ≤ cap) × (w < 9) ⌝ }
     ensures { λ r. ⌜ (r ≤ cap) × (r ≡ cond stays p (linkOf (now (t .entry)) cap p w)) ⌝ }
 {
-    if stays { p } else { plain::link(t, cap, p, w) }
+    if stays { p } else { link(t, cap, p, w) }
 }
 
 // The row that is the neighbour in the wind at place w of the table of winds: p is the parent, and the place ends in the digits l and m.
@@ -43,7 +51,32 @@ pub fn side_by(t: &[i32], cap: usize, p: usize, l: u32, m: u32, w: usize) -> usi
     let a = l + c.east;
     let b = m + c.north;
     let q = hub(t, cap, p, w + 1, stays_in(a) & stays_in(b));
-    plain::link(t, cap, q, kid_word((a + 1) % 2, (b + 1) % 2))
+    link(t, cap, q, kid_word((a + 1) % 2, (b + 1) % 2))
+}
+
+// Whether the row n has no kid.
+pub fn kidless(t: &[i32], cap: usize, n: usize) -> bool
+    requires { ⌜ Plain (now t) cap × (n ≤ cap) ⌝ }
+    ensures { λ r. ⌜ r ≡ kidless (now (t .entry)) cap n ⌝ }
+{
+    let a = link(t, cap, n, NE_KID);
+    let b = link(t, cap, n, SE_KID);
+    let c = link(t, cap, n, SW_KID);
+    let e = link(t, cap, n, NW_KID);
+    (a == 0) & ((b == 0) & ((c == 0) & (e == 0)))
+}
+
+// Whether a cell touches the patch of the row n.
+pub fn touched(t: &[i32], cap: usize, n: usize) -> bool
+    requires { ⌜ Plain (now t) cap × (n ≤ cap) ⌝ }
+    ensures { λ r. ⌜ r ≡ touchedIn (now (t .entry)) cap n ⌝ }
+{
+    let west = link(t, cap, n, WEST);
+    let south = link(t, cap, n, SOUTH);
+    let both = link(t, cap, west, SOUTH);
+    flag(t, cap, COMPLETE, n)
+        | (flag(t, cap, COMPLETE, west)
+            | (flag(t, cap, COMPLETE, south) | flag(t, cap, COMPLETE, both)))
 }
 
 // The number whose four binary digits these are, lowest first.

@@ -1,4 +1,4 @@
-// Writes of words, rows and values.
+// Writes of words and rows.
 ghost use mathlib.Core.Path.{_≡_};
 ghost use Prim.Native.Nat.{_+_, _*_, _<_, _≤_};
 ghost use lib.ListN.{length, set};
@@ -68,12 +68,4 @@ pub fn nil_row(t: &mut [i32], n: usize)
 {
     let x = [0i32; ROW_WORDS];
     put_row(t, n, x);
-}
-
-// Writes the value of the row n.
-pub fn put_value(v: &mut [f64], n: usize, x: f64)
-    requires { ⌜ n < length (now v) ⌝ }
-    ensures { λ _. ⌜ now (v .exit) ≡ set (now (v .entry)) n x ⌝ }
-{
-    v[n] = x;
 }

@@ -19,8 +19,8 @@ use Rattle.mesh.specs.Mesh.{derived, flags}
 use Rattle.mesh.specs.State.{State, Entry, nil, free, used, placeOf, cellOf, isSentenced, valueOf, amount, entry, cells, number, numberOf, gridOf, capacity}
 use Rattle.mesh.specs.Picture.{rowWords, statusWord, fields, rowOf, table, amounts}
 use Rattle.table.specs.Words.{code, wordOf, linkOf, flagOf, depthOf}
-use Rattle.table.specs.Carried.{carriedOf, carriedFor}
-use Rattle.table.specs.declared.carried.Carried.{Carried}
+use Rattle.carried.specs.Carried.{carriedOf, carriedFor}
+use Rattle.carried.specs.declared.Carried.{Carried}
 use Rattle.table.proofs.LinkRanges.{depth-back}
 use Rattle.number_laws.proofs.Entries.{place-used, in-list}
 use Rattle.number_laws.proofs.NumberedPlaces.{number-place}

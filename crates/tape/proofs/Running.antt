@@ -12,9 +12,9 @@ use Rattle.mesh.specs.State.{State, Header}
 use Rattle.mesh.specs.Picture.{Lent}
 use Rattle.mesh.specs.Tape.{runFrom, run}
 use Rattle.mesh.proofs.Runs.{run-end}
-use Rattle.tape.specs.Drawn.{lists, Drawn, Pictured, Standing}
+use Rattle.apply.specs.Drawn.{lists, Drawn, Pictured, Standing}
 use Rattle.tape.specs.Ran.{Turned, Ran}
-use Rattle.tape.proofs.Tamed.{drawn-tame, drawn-ranged}
+use Rattle.apply.proofs.Tamed.{drawn-tame, drawn-ranged}
 
 -- the run from s goes on from a state that is pictured now
 pub record Present (s : State) (cap d : ℕ) (l : Header → Lent) (bytes : List ℕ) (at done mark₀ mark : ℕ) : Type 0 where

@@ -14,9 +14,9 @@ use Rattle.picture_laws.proofs.Parts.{picture-header, picture-words, picture-va
 use Rattle.picture_laws.proofs.Accepted.{sound-capacity}
 use Rattle.demand_laws.proofs.Tapes.{run-led}
 use Rattle.demand_laws.proofs.PicturedCalls.{tape-runs}
-use Rattle.tape.specs.Drawn.{lists, Drawn, Pictured}
+use Rattle.apply.specs.Drawn.{lists, Drawn, Pictured}
 use Rattle.tape.specs.Ran.{Ran}
-use Rattle.tape.proofs.Drawing.{drawn-words, drawn-values}
+use Rattle.apply.proofs.Drawing.{drawn-words, drawn-values}
 
 module _ (cap : ℕ) (l : Lent) (o : Sound l) (z : Sizes cap l) {d : ℕ} (deep : d ≡ base (l .header .grid)) where
   abbrev s : State

@@ -1,12 +1,12 @@
 -- One request of a tape, from its kind byte on: an unknown kind, a short body, a refusal, or the next kind byte with another state.
 -- Assumes nothing.
-use Prim.Native.Nat.{ℕ, _+_, _-_, _≤_, _<_}
+use Prim.Native.Nat.{ℕ, zero, suc, _+_, _-_, _≤_, _<_}
 use native.Mathlib.Omega.{arith}
 use native.Mathlib.Numerals.{add-one}
 use mathlib.Core.Path.{_≡_, refl, sym, ap, _∙_}
 use mathlib.Core.Logic.{_≢_}
 use mathlib.Core.Option.{none, some, map-eq-none-iff, map-eq-some-iff}
-use mathlib.Core.List.{List, _∷_}
+use mathlib.Core.List.{List, [], _∷_}
 use lib.ListN.{length, drop, getD, length-drop}
 use lib.Seq.{drop-cons, drop-drop}
 use borrow.Author.Tests.{lt-ltb, le-ltb, ne-eqb}
@@ -15,12 +15,12 @@ use Rattle.mesh.specs.Picture.{Lent}
 use Rattle.mesh.specs.Refusal.{refusal}
 use Rattle.mesh.specs.Request.{Request, checks, effect, marked, refused, accepted, request}
 use Rattle.mesh.specs.Tape.{Kind, kind, asks, stop, next, stepBy, runFrom}
-use Rattle.mesh.proofs.Runs.{run-stop, run-next}
-use Rattle.tape.specs.Applied.{Applied}
-use Rattle.tape.specs.Asked.{bodyLength, Whole, AppliedAt}
+use Rattle.mesh.proofs.Runs.{run-over, run-stop, run-next}
+use Rattle.apply.specs.Applied.{Applied}
+use Rattle.kinds.specs.BodyLengths.{bodyLength}
+use Rattle.apply.specs.Asked.{Whole, AppliedAt}
 use Rattle.tape.specs.Ran.{Turned}
-use Rattle.tape.proofs.Drawing.{request-accepted, accepted-done}
-use Rattle.tape.proofs.Bodies.{run-body}
+use Rattle.apply.proofs.Drawing.{request-accepted, accepted-done}
 
 -- ---- a request by its refusal
 
@@ -42,6 +42,15 @@ row-of k len e = let (x, a, b) = map-eq-some-iff (λ (x : Kind). x .len) (kind k
 no-row : (k : ℕ) → none ≡ bodyLength k → kind k ≡ none
 unfolding bodyLength
 no-row k e = map-eq-none-iff (λ (x : Kind). x .len) (kind k) .0 (sym e)
+
+-- ---- a run over a body
+
+run-body : (l : ℕ) (s : State) (n o : ℕ) (bs : List ℕ) → l ≤ length bs → runFrom l s n o bs ≡ runFrom 0 s n (o + l) (drop l bs)
+run-body zero s n o bs h = let e : o ≡ o + 0 = omega arith in ap (λ (i : ℕ). runFrom 0 s n i bs) e
+run-body (suc l) s n o [] h = absurd (omega arith)
+run-body (suc l) s n o (b ∷ bs) h =
+    let e : o + 1 + l ≡ o + suc l = omega arith in
+    run-over s n o l b bs ∙ run-body l s n (o + 1) bs (omega arith) ∙ ap (λ (i : ℕ). runFrom 0 s n i (drop l bs)) e
 
 -- ---- the bytes from a kind byte on
 

@@ -8,7 +8,7 @@ use lib.ListN.{length, drop}
 use Rattle.mesh.specs.State.{State, Header}
 use Rattle.mesh.specs.Picture.{Lent}
 use Rattle.mesh.specs.Tape.{runFrom, run}
-use Rattle.tape.specs.Drawn.{Drawn}
+use Rattle.apply.specs.Drawn.{Drawn}
 
 -- ---- one request
 

@@ -3,13 +3,13 @@ ghost use Prim.Native.Nat.{_<_};
 ghost use lib.ListN.{length};
 ghost use Rattle.table.specs.Words.{freeAt};
 ghost use Rattle.free.specs.FreeMap.{Mapped};
-ghost use Rattle.tape.specs.Drawn.{lists, Standing, Pictured};
+ghost use Rattle.apply.specs.Drawn.{lists, Standing, Pictured};
 ghost use Rattle.tape.specs.Ran.{Turned, Ran};
-use crate::apply::request;
-use crate::bytes::Body;
-use crate::bytes::body_of;
+use apply::request;
 use free::load::load;
 use free::map::Spare;
+use kinds::Body;
+use kinds::body_of;
 
 // The refusal, 0 for none, the offset of the next kind byte, and what is kept beside the map.
 pub struct Turn {

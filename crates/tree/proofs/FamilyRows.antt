@@ -15,7 +15,7 @@ use Rattle.table.specs.Words.{wordOf, linkOf, freeAt, depthOf}
 use Rattle.table.specs.Worked.{kidWord, kidless, sideBy}
 use Rattle.checker_laws.specs.Rowwise.{rootOk, childOk, placeOk, kidOk, kidsOk}
 use Rattle.tree.specs.SideTests.{sidesBy}
-use Rattle.readable.proofs.KidlessRows.{bare-links}
+use Rattle.table.proofs.KidlessRows.{bare-links}
 
 -- ---- the place
 

@@ -8,7 +8,6 @@ ghost use Rattle.checker_laws.specs.Rowwise.{rootOk, childOk, placeOk, kidOk, k
 ghost use Rattle.readable.specs.Readable.{Readable, Levelled};
 use readable::depth;
 use readable::index;
-use readable::kidless;
 use table::plain::link;
 use table::words::INDEX_I;
 use table::words::INDEX_J;
@@ -19,6 +18,7 @@ use table::words::SE_KID;
 use table::words::SW_KID;
 use table::words::is_free;
 use table::words::says;
+use table::worked::kidless;
 
 // The root has no parent.
 pub fn root_ok(t: &[i32], cap: usize, d: u32, n: usize) -> bool

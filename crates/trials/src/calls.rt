@@ -1,19 +1,19 @@
 // The calls, each on as much of the lists as the numbers say. The sums that are told are those of the whole lists, so that what is not lent is
 // seen to stay.
 use crate::lent;
-use crate::lists::word;
-use crate::report::end_line;
-use crate::report::mix;
-use crate::report::mix_value;
-use crate::report::tell;
-use crate::report::tell_bytes;
-use crate::report::tell_lists;
-use crate::report::tell_shorts;
-use crate::report::tell_value;
 use header::Header;
 use header::fresh;
 use header::with_mark;
 use lookup::Reading;
+use reports::lists::word;
+use reports::report::end_line;
+use reports::report::mix;
+use reports::report::mix_value;
+use reports::report::tell;
+use reports::report::tell_bytes;
+use reports::report::tell_lists;
+use reports::report::tell_shorts;
+use reports::report::tell_value;
 ghost use Prim.Native.Nat.{_≤_, _<_};
 ghost use lib.ListN.{length};
 

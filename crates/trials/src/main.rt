@@ -18,15 +18,12 @@
 //
 // A run has at most 4,096 bytes of items. Items past the end of what they change are passed over.
 mod calls;
-mod input;
 mod lent;
-mod lists;
-mod report;
 
 use crate::calls::call;
-use crate::input::short;
-use crate::lists::run;
 use libc::STDIN_FILENO;
+use reports::input::short;
+use reports::lists::run;
 ghost use Prim.Native.Nat.{_≤_, _<_};
 ghost use lib.ListN.{length};
 

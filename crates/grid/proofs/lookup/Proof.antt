@@ -1,10 +1,10 @@
--- `grid::lookup` meets its contract: the first checks refuse, or the point lies past the last row of a ring, or the lookup by rows is the call's.
+-- `grid::lookup` meets its contract: the first checks refuse, or the lookup by rows is the call's.
 -- Assumes nothing.
 use borrow.Author.Needs.{needs}
 use native.Mathlib.Omega.{arith}
 use mathlib.Core.Path.{sym, _∙_}
 use Rattle.picture_laws.proofs.Accepted.{lent-sizes}
-use Rattle.grid.proofs.First.{shallow, lent-walkable, lookup-first, lookup-beyond, lookup-done}
+use Rattle.grid.proofs.First.{shallow, lent-walkable, lookup-first, lookup-done}
 use Rattle.grid.proofs.lookup.Statement.{statement}
 use Rattle.grid.proofs.lookup.Tie as tie
 
@@ -14,35 +14,21 @@ check-requires c κs = search needs
 returns : tie.Need-returns
 returns c = lookup-first _ _ (c .before .check .result) (c .before .check .ensures) (c .if1 .taken) _ _
 
-beyond-requires : tie.Need-beyond-requires
-beyond-requires c κs = search needs
-
-returns-2 : tie.Need-returns-2
-returns-2 c = lookup-beyond _ _ _ _ (sym (c .before .before .before .check .ensures) ∙ c .before .before .if1 .left) (sym (c .before .beyond .ensures) ∙ c .if2 .taken)
-
 ground-depth-requires : tie.Need-ground-depth-requires
 ground-depth-requires c κs = search needs
 
 lookup-out-requires : tie.Need-lookup-out-requires
 lookup-out-requires c κs =
-    let ok = sym (c .before .before .before .before .check .ensures) ∙ c .before .before .before .if1 .left in
+    let ok = sym (c .before .before .check .ensures) ∙ c .before .if1 .left in
     let s = lent-sizes _ _ ok in
     let e = c .ground-depth .ensures in
     (lent-walkable _ _ _ ok e, omega (arith, s .values), omega (arith, s .low), omega (arith, shallow _ _ ok, e))
 
-returns-3 : tie.Need-returns-3
-returns-3 c =
-    let k = c .before .before .before .before in
-    lookup-done _ _ _ _ (sym (k .before .check .ensures) ∙ k .if1 .left) _ _ (sym (c .before .before .before .beyond .ensures) ∙ c .before .before .if2 .left) (c .before .ground-depth .ensures) (c .lookup-out .ensures)
+returns-2 : tie.Need-returns-2
+returns-2 c =
+    let k = c .before .before in
+    lookup-done _ _ _ _ _ _ (sym (k .before .check .ensures) ∙ k .if1 .left) (c .before .ground-depth .ensures) (c .lookup-out .ensures)
 
 pub lookup-spec : {M : Type 1} → statement M
 lookup-spec =
-    tie.close
-    (tie.spec
-    check-requires
-    returns
-    beyond-requires
-    returns-2
-    ground-depth-requires
-    lookup-out-requires
-    returns-3)
+    tie.close (tie.spec check-requires returns ground-depth-requires lookup-out-requires returns-2)

@@ -1,10 +1,12 @@
 -- `kill::clear_cell` meets its contract.
 -- Assumes nothing.
 use mathlib.Core.Path.{_∙_}
+use native.Mathlib.Omega.{arith}
 use borrow.Author.Needs.{needs}
-use Rattle.kill.proofs.Borders.{cell-cleared, corners-gone}
+use Rattle.carried.specs.Carried.{nothing}
+use Rattle.kill.proofs.Borders.{cell-cleared, north-in, east-in, both-in, corners-gone}
 use Rattle.edit_laws.specs.Tables.{killValues}
-use Rattle.patch.proofs.PlainKept.{plain-killed}
+use Rattle.patch.proofs.PlainKept.{plain-cell}
 use Rattle.patch.proofs.DroppedRows.{map-of}
 use Rattle.kill.proofs.clear_cell.Statement.{statement}
 use Rattle.kill.proofs.clear_cell.Tie as tie
@@ -25,16 +27,19 @@ drop-corner-requires c κs =
     let b₃ = b₂ .before .before .before in
     let pre = b₃ .pre in
     let (bare, _) = rw (b₁ .before .blank .ensures) at (b₁ .put-carried .ensures) in
-    (plain-killed _ (pre .0) (b₂ .put .ensures) bare, pre .5, map-of (cell-cleared (b₃ .args .t .now) _ (b₂ .put .ensures) bare) (pre .6))
+    (plain-cell _ _ nothing (pre .0) (b₂ .put .ensures) bare (omega arith), both-in (pre .3), map-of (cell-cleared (b₃ .args .t .now) _ (b₂ .put .ensures) bare) (pre .4))
 
 drop-corner-requires-2 : tie.Need-drop-corner-requires-2
-drop-corner-requires-2 c κs = search needs
+drop-corner-requires-2 c κs =
+    let b = c .before .before .before in
+    let (_, p, mapped) = b .drop-corner .ensures in
+    (p, north-in (b .before .before .before .before .before .before .before .before .before .before .before .before .before .before .pre .3), mapped)
 
 drop-corner-requires-3 : tie.Need-drop-corner-requires-3
 drop-corner-requires-3 c κs =
     let b = c .before .before .before in
     let (_, p, mapped) = b .drop-corner2 .ensures in
-    (p, b .before .before .before .before .before .before .before .before .before .before .before .before .before .before .before .before .before .before .pre .4, mapped)
+    (p, east-in (b .before .before .before .before .before .before .before .before .before .before .before .before .before .before .before .before .before .before .pre .3), mapped)
 
 drop-corner-requires-4 : tie.Need-drop-corner-requires-4
 drop-corner-requires-4 c κs =
@@ -66,7 +71,7 @@ returns c =
     let b₇ = b₆ .before .before .before in
     let (bare, w) = rw (b₅ .before .blank .ensures) at (b₅ .put-carried .ensures) in
     let (e, p, mapped) = b₁ .drop-corner4 .ensures in
-    (corners-gone (b₇ .args .t .now) _ _ _ _ _ _ (cell-cleared (b₇ .args .t .now) _ (b₆ .put .ensures) bare) (b₄ .drop-corner .ensures .0) (b₃ .drop-corner2 .ensures .0) (b₂ .drop-corner3 .ensures .0) e, w, p, mapped)
+    (corners-gone (b₇ .args .t .now) _ _ _ (b₇ .pre .3) (cell-cleared (b₇ .args .t .now) _ (b₆ .put .ensures) bare) (b₄ .drop-corner .ensures .0) (b₃ .drop-corner2 .ensures .0) (b₂ .drop-corner3 .ensures .0) e, w, p, mapped)
 
 pub clear-cell-spec : {M : Type 1} → statement M
 clear-cell-spec =

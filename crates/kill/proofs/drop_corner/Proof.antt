@@ -8,8 +8,8 @@ use Rattle.kill.proofs.drop_corner.Tie as tie
 returns : tie.Need-returns
 returns c = let pre = c .before .pre in (corner-nil _ _ _ _ (c .if1 .taken), pre .0, pre .2)
 
-touched-row-requires : tie.Need-touched-row-requires
-touched-row-requires c κs = search needs
+touched-requires : tie.Need-touched-requires
+touched-requires c κs = search needs
 
 same-length : tie.Need-same-length
 same-length c = search needs
@@ -18,7 +18,7 @@ returns-2 : tie.Need-returns-2
 returns-2 c =
     let b = c .before .before .before in
     let pre = b .before .pre in
-    (corner-kept _ _ _ _ (b .if1 .left) (c .before .touched-row .ensures) (c .if2 .taken), pre .0, pre .2)
+    (corner-kept _ _ _ _ (b .if1 .left) (c .before .touched .ensures) (c .if2 .taken), pre .0, pre .2)
 
 link-requires : tie.Need-link-requires
 link-requires c κs = search needs
@@ -41,14 +41,14 @@ returns-3 c =
     let b₅ = b₄ .before in
     let b₆ = b₅ .before .before in
     let (e, p, mapped) = b₁ .drop-up .ensures in
-    (corner-gone _ _ _ _ (b₆ .if1 .left) (b₅ .touched-row .ensures) (b₄ .if2 .left) (b₃ .link .ensures .1) (b₂ .free-row .ensures .0) e, p, mapped)
+    (corner-gone _ _ _ _ (b₆ .if1 .left) (b₅ .touched .ensures) (b₄ .if2 .left) (b₃ .link .ensures .1) (b₂ .free-row .ensures .0) e, p, mapped)
 
 pub drop-corner-spec : {M : Type 1} → statement M
 drop-corner-spec =
     tie.close
     (tie.spec
     returns
-    touched-row-requires
+    touched-requires
     same-length
     returns-2
     link-requires

@@ -3,7 +3,7 @@
 use mathlib.Core.Path.{sym}
 use borrow.Author.Needs.{needs}
 use Rattle.patch.proofs.DroppedRows.{map-of}
-use Rattle.kill.proofs.Borders.{all-dropped, killed}
+use Rattle.kill.proofs.Borders.{corners-read, killed}
 use Rattle.kill.proofs.kill.Statement.{statement}
 use Rattle.kill.proofs.kill.Tie as tie
 
@@ -23,7 +23,12 @@ link-requires-5 : tie.Need-link-requires-5
 link-requires-5 c κs = search needs
 
 clear-cell-requires : tie.Need-clear-cell-requires
-clear-cell-requires c κs = search needs
+clear-cell-requires c κs =
+    let b₁ = c .before .before .before .before .before .before .before in
+    let b₂ = b₁ .before .before in
+    let b₃ = b₂ .before .before in
+    let pre = b₃ .before .before .before .pre in
+    (pre .0, pre .1, pre .2, corners-read (b₃ .link .ensures .1) (b₂ .link2 .ensures .1) (b₁ .link3 .ensures .1), pre .4)
 
 still-border-requires : tie.Need-still-border-requires
 still-border-requires c κs =
@@ -58,8 +63,8 @@ returns c =
     let b₇ = b₆ .before .before in
     let b₈ = b₇ .before .before in
     let (e, w, _, mapped) = b₃ .clear-cell .ensures in
-    let all = all-dropped _ _ _ _ (b₈ .link .ensures .1) (b₇ .link2 .ensures .1) (b₆ .link3 .ensures .1) e in
-    (killed _ _ _ _ (b₈ .link .ensures .1) (b₇ .link2 .ensures .1) (b₆ .link3 .ensures .1) e _ (b₅ .link4 .ensures .1) (b₄ .link5 .ensures .1) (b₂ .still-border .ensures .1) (b₁ .refresh-levels .ensures), w, map-of (sym all) mapped)
+    let k = corners-read (b₈ .link .ensures .1) (b₇ .link2 .ensures .1) (b₆ .link3 .ensures .1) in
+    (killed _ _ _ _ _ k (b₅ .link4 .ensures .1) (b₄ .link5 .ensures .1) e (b₂ .still-border .ensures .1) (b₁ .refresh-levels .ensures), w, map-of (sym e) mapped)
 
 pub kill-spec : {M : Type 1} → statement M
 kill-spec =

@@ -11,7 +11,7 @@ lookup-row-requires c κs = search needs
 returns : tie.Need-returns
 returns c =
     let a = c .before .before .before .args in
-    found-none _ _ _ (a .d) (a .x) (a .y) _ (c .before .lookup-row .ensures .1) (c .if1 .taken)
+    found-none _ _ _ _ (a .d) (a .x) (a .y) _ (c .before .lookup-row .ensures .1) (c .if1 .taken)
 
 carried-at-requires : tie.Need-carried-at-requires
 carried-at-requires c κs = search needs
@@ -19,15 +19,15 @@ carried-at-requires c κs = search needs
 value-of-requires : tie.Need-value-of-requires
 value-of-requires c κs = search needs
 
-cast-t12 : tie.Need-cast-t12
-cast-t12 c = search needs
+cast-t13 : tie.Need-cast-t13
+cast-t13 c = search needs
 
 returns-2 : tie.Need-returns-2
 returns-2 c =
     let a = c .before .before .before .before .before .args in
-    found-leaf _ _ _ (a .d) (a .x) (a .y) _ (c .before .before .before .lookup-row .ensures .1) (c .before .before .if1 .left) (c .before .carried-at .ensures) _ (c .value-of .ensures)
+    found-leaf _ _ _ _ (a .d) (a .x) (a .y) _ (c .before .before .before .lookup-row .ensures .1) (c .before .before .if1 .left) (c .before .carried-at .ensures) _ (c .value-of .ensures)
 
 pub lookup-out-spec : {M : Type 1} → statement M
 lookup-out-spec =
     tie.close
-    (tie.spec lookup-row-requires returns carried-at-requires value-of-requires cast-t12 returns-2)
+    (tie.spec lookup-row-requires returns carried-at-requires value-of-requires cast-t13 returns-2)

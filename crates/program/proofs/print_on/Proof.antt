@@ -1,6 +1,6 @@
 -- `program::print_on` meets its contract: the build, the tape and the page on lists that picture the state, or the refusal of one of the first two.
 -- Assumes nothing.
-use Rattle.program.proofs.Head.{head-sizes}
+use Rattle.input.proofs.Head.{head-sizes}
 use Rattle.program.proofs.Printed.{prints, build-refused, offset-low, tape-refused, tape-printed}
 use native.Mathlib.Omega.{arith}
 use borrow.Author.Needs.{needs}

@@ -4,7 +4,7 @@ use native.Mathlib.Omega.{arith}
 use borrow.Author.Needs.{needs}
 use Rattle.lines.proofs.Puts.{put-more, put-as, text-put}
 use Rattle.lines.proofs.Worded.{number-put}
-use Rattle.program.proofs.Head.{refused-line}
+use Rattle.program.proofs.LineLengths.{refused-line}
 use Rattle.program.proofs.LineLengths.{refused-size}
 use Rattle.program.proofs.put_refused.Tie as tie
 use Rattle.program.proofs.put_refused.Statement.{statement}

@@ -4,7 +4,7 @@ use Prim.Native.Nat.{_+_, _-_, _≤_}
 use mathlib.Core.Path.{_≡_, ap, _∙_}
 use lib.ListN.{length, take, set, replicate}
 use Rattle.mesh.specs.State.{plusZero}
-use Rattle.table.proofs.Bits.{plus-zero}
+use Rattle.carried.proofs.Bits.{plus-zero}
 use Rattle.build.proofs.Empty.{values-none, values-on, values-done}
 use native.Mathlib.Omega.{arith}
 use Rattle.build.proofs.fill.blank_values.Statement.{statement}

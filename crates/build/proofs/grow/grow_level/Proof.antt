@@ -4,7 +4,7 @@ use borrow.Author.Needs.{needs}
 use Prim.Native.Nat.{_-_, _≤_}
 use mathlib.Core.Path.{_≡_, refl, sym, _∙_}
 use lib.ListN.{length}
-use Rattle.edit_laws.specs.Growing.{LevelToGrow}
+use Rattle.edit_laws.specs.BuildSoFar.{LevelToGrow}
 use Rattle.header.specs.Headers.{headerOf}
 use Rattle.edit_laws.specs.Built.{growLevel}
 use Rattle.build.specs.BuildSteps.{growth}

@@ -4,7 +4,7 @@ use borrow.Author.Needs.{needs}
 use Prim.Native.Nat.{_≤_}
 use mathlib.Core.Path.{_≡_, refl, _∙_}
 use lib.ListN.{length}
-use Rattle.edit_laws.specs.Growing.{LevelsToGrow}
+use Rattle.edit_laws.specs.BuildSoFar.{LevelsToGrow}
 use Rattle.header.specs.Headers.{headerOf}
 use Rattle.edit_laws.specs.Built.{growLevels, groundFrom}
 use Rattle.edit_laws.proofs.Sprouts.{levels-bounds}

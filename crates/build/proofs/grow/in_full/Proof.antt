@@ -2,7 +2,7 @@
 -- Assumes nothing.
 use borrow.Author.Needs.{needs}
 use Rattle.header.specs.Headers.{headerOf}
-use Rattle.build.proofs.LevelSizes.{full-test}
+use Rattle.build.proofs.FullPlaces.{full-test}
 use Rattle.build.proofs.grow.in_full.Statement.{statement}
 use Rattle.build.proofs.grow.in_full.Tie as tie
 

@@ -2,7 +2,7 @@
 -- Assumes nothing.
 use mathlib.Core.Path.{sym, _∙_}
 use borrow.Author.Needs.{needs}
-use Rattle.table.proofs.Bits.{finite-no-nan}
+use Rattle.carried.proofs.Bits.{finite-no-nan}
 use Rattle.table.proofs.Tests.{chosen, passed}
 use Rattle.lines.specs.LineRows.{bitsOf}
 use Rattle.lines.proofs.leaf_lines.bits.Statement.{statement}

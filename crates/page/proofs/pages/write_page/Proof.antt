@@ -8,7 +8,7 @@ use Rattle.header.specs.Headers.{headerOf}
 use Rattle.mesh.specs.Call.{writing}
 use Rattle.page.specs.PageRows.{rowPage, rowOut, pageOf}
 use Rattle.lines.proofs.Puts.{text-put, put-front}
-use Rattle.page.proofs.LeafRows.{leaves-within}
+use Rattle.leaves.proofs.LeafRows.{leaves-within}
 use Rattle.page.proofs.PagePut.{found-few, found-within}
 use Rattle.page.proofs.pages.write_page.Tie as tie
 use Rattle.page.proofs.pages.write_page.Statement.{statement}

@@ -8,10 +8,10 @@ use lib.ListN.{length}
 use borrow.Author.Needs.{needs}
 use Rattle.table.specs.Words.{freeAt}
 use Rattle.free.specs.FreeMap.{Mapped}
-use Rattle.tape.proofs.Following.{nil-taken}
-use Rattle.tape.specs.Drawn.{lists}
+use Rattle.apply.proofs.Following.{nil-taken}
+use Rattle.apply.specs.Drawn.{lists}
 use Rattle.tape.proofs.Running.{Ongoing, starts, asked-for, goes-next, ran-stopped, ran-over}
-use Rattle.tape.proofs.Tamed.{drawn-ranged}
+use Rattle.apply.proofs.Tamed.{drawn-ranged}
 use Rattle.tape.proofs.turns.run_tape.Statement.{statement}
 use Rattle.tape.proofs.turns.run_tape.Tie as tie
 

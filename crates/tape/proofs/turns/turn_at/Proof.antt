@@ -3,7 +3,7 @@
 use native.Mathlib.Omega.{arith}
 use borrow.Author.Needs.{needs}
 use mathlib.Core.Path.{refl, sym, ap, _∙_}
-use Rattle.tape.specs.Asked.{lengthIn}
+use Rattle.kinds.specs.BodyLengths.{lengthIn}
 use Rattle.tape.proofs.Turning.{turned-unknown, turned-short, whole-body, turned-request}
 use Rattle.tape.proofs.turns.turn_at.Statement.{statement}
 use Rattle.tape.proofs.turns.turn_at.Tie as tie

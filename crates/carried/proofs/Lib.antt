@@ -1,0 +1,3 @@
+-- Laws of floats by their bits, and of what a row carries.
+pub mod Bits
+pub mod CarriedWords

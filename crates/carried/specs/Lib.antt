@@ -1,0 +1,2 @@
+-- What a row carries.
+pub mod Carried

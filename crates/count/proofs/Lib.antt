@@ -1,0 +1,2 @@
+-- The laws that a count of patches cites.
+pub mod LevelSizes

@@ -1,0 +1,2 @@
+-- The laws of the checks before the build.
+pub mod Head

@@ -1,0 +1,4 @@
+-- The laws that the reading of a request cites.
+pub mod HighFirst
+pub mod Patterns
+pub mod Bodies

@@ -1,0 +1,2 @@
+-- What the bytes of a request stand for.
+pub mod BodyLengths

@@ -1,0 +1,2 @@
+-- The laws that the finding of leaves cites.
+pub mod LeafRows

@@ -1,0 +1,2 @@
+-- The leaves by the rows of a table.
+pub mod LeavesFrom
