@@ -42,7 +42,7 @@ module _ (q : Request) (cap d : ℕ) (t : List ℤ) (v : List Float) where
 module _ (cap d n : ℕ) (t : List ℤ) (v : List Float) where
   -- ---- refine
 
-  pub refine-applied : {given : ℕ} (t′ : List ℤ) (v′ : List Float) → given ≡ refineRefusal t cap d n → given ≡ 0
+  pub refine-applied : {given : ℕ} (t′ : List ℤ) (v′ : List Float) → given ≡ refineRefusal t cap n → given ≡ 0
       → t′ ≡ refineTable t v cap d n → v′ ≡ refineValues t v cap d n → Applied (refine n) cap d (lists t v) (lists t′ v′) 0
   refine-applied t′ v′ x z y w = accepted-applied (refine n) cap d t v t′ v′ (refine-decides cap d n t v (sym z ∙ x)) makes
     where
@@ -54,7 +54,7 @@ module _ (cap d n : ℕ) (t : List ℤ) (v : List Float) where
 
   -- ---- sentence
 
-  pub sentence-applied : {given : ℕ} (t′ : List ℤ) → given ≡ sentenceRefusal t cap d n → given ≡ 0 → t′ ≡ sentenceTable t n → Applied (sentence n) cap d (lists t v) (lists t′ v) 0
+  pub sentence-applied : {given : ℕ} (t′ : List ℤ) → given ≡ sentenceRefusal t cap n → given ≡ 0 → t′ ≡ sentenceTable t n → Applied (sentence n) cap d (lists t v) (lists t′ v) 0
   sentence-applied t′ x z y = accepted-applied (sentence n) cap d t v t′ v (sentence-decides cap d n t v (sym z ∙ x)) makes
     where
       makes : Makes (sentence n) cap d t v t′ v

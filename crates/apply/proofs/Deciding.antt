@@ -25,11 +25,11 @@ Decides q cap d l given = (s : State) → Drawn s cap d l → given ≡ refusal 
 -- ---- the five kinds
 
 module _ (cap d n : ℕ) (t : List ℤ) (v : List Float) where
-  pub refine-decides : {given : ℕ} → given ≡ refineRefusal t cap d n → Decides (refine n) cap d (lists t v) given
-  refine-decides x s p = x ∙ from-picture p (λ t cap d. refineRefusal t cap d n ≡ refusal (checks s (refine n))) (refine-refusal s (p .valid) n)
+  pub refine-decides : {given : ℕ} → given ≡ refineRefusal t cap n → Decides (refine n) cap d (lists t v) given
+  refine-decides x s p = x ∙ from-picture p (λ t cap d. refineRefusal t cap n ≡ refusal (checks s (refine n))) (refine-refusal s (p .valid) n)
 
-  pub sentence-decides : {given : ℕ} → given ≡ sentenceRefusal t cap d n → Decides (sentence n) cap d (lists t v) given
-  sentence-decides x s p = x ∙ from-picture p (λ t cap d. sentenceRefusal t cap d n ≡ refusal (checks s (sentence n))) (sentence-refusal s (p .valid) n)
+  pub sentence-decides : {given : ℕ} → given ≡ sentenceRefusal t cap n → Decides (sentence n) cap d (lists t v) given
+  sentence-decides x s p = x ∙ from-picture p (λ t cap d. sentenceRefusal t cap n ≡ refusal (checks s (sentence n))) (sentence-refusal s (p .valid) n)
 
   pub remove-decides : {given : ℕ} → given ≡ removeRefusal t cap n → Decides (remove n) cap d (lists t v) given
   remove-decides x s p = x ∙ from-picture p (λ t cap d. removeRefusal t cap n ≡ refusal (checks s (remove n))) (remove-refusal s (p .valid) n)
@@ -40,21 +40,16 @@ module _ (cap d n : ℕ) (t : List ℤ) (v : List Float) where
   pub set-decides : (x : Float) {given : ℕ} → given ≡ setRefusal t cap n x → Decides (setValue n x) cap d (lists t v) given
   set-decides x y s p = y ∙ from-picture p (λ t cap d. setRefusal t cap n x ≡ refusal (checks s (setValue n x))) (set-refusal s (p .valid) n x)
 
-module _ (t : List ℤ) (cap d n : ℕ) where
-  -- a request that is not refused names one of the rows
-  pub refine-within : {given : ℕ} → given ≡ refineRefusal t cap d n → given ≡ 0 → n ≤ cap
-  unfolding refineRefusal
-  refine-within x z = accepted-within t cap n (drop 1 (refineRows t cap d n)) (sym x ∙ z) .1
-
-  pub sentence-within : {given : ℕ} → given ≡ sentenceRefusal t cap d n → given ≡ 0 → n ≤ cap
-  unfolding sentenceRefusal
-  sentence-within x z = accepted-within t cap n (drop 1 (sentenceRows t cap d n)) (sym x ∙ z) .1
-
-  pub kill-within : {given : ℕ} → given ≡ killRefusal t cap d n → given ≡ 0 → n ≤ cap
-  unfolding killRefusal
-  kill-within x z = accepted-within t cap n (drop 1 (killRows t cap d n)) (sym x ∙ z) .1
-
 module _ (t : List ℤ) (cap n : ℕ) where
+  -- a request that is not refused names one of the rows
+  pub refine-within : {given : ℕ} → given ≡ refineRefusal t cap n → given ≡ 0 → n ≤ cap
+  unfolding refineRefusal
+  refine-within x z = accepted-within t cap n (drop 1 (refineRows t cap n)) (sym x ∙ z) .1
+
+  pub sentence-within : {given : ℕ} → given ≡ sentenceRefusal t cap n → given ≡ 0 → n ≤ cap
+  unfolding sentenceRefusal
+  sentence-within x z = accepted-within t cap n (drop 1 (sentenceRows t cap n)) (sym x ∙ z) .1
+
   pub remove-within : {given : ℕ} → given ≡ removeRefusal t cap n → given ≡ 0 → n ≤ cap
   unfolding removeRefusal
   remove-within x z = accepted-within t cap n (drop 1 (removeRows t cap n)) (sym x ∙ z) .1
@@ -62,6 +57,10 @@ module _ (t : List ℤ) (cap n : ℕ) where
   pub set-within : (x : Float) {given : ℕ} → given ≡ setRefusal t cap n x → given ≡ 0 → n ≤ cap
   unfolding setRefusal
   set-within x y z = accepted-within t cap n (drop 1 (setRows t cap n x)) (sym y ∙ z) .1
+
+  pub kill-within : (d : ℕ) {given : ℕ} → given ≡ killRefusal t cap d n → given ≡ 0 → n ≤ cap
+  unfolding killRefusal
+  kill-within d x z = accepted-within t cap n (drop 1 (killRows t cap d n)) (sym x ∙ z) .1
 
 -- ---- a refused request
 

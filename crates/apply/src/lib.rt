@@ -35,7 +35,7 @@ pub fn refine(
     requires { ⌜ Standing cap d (now t) (now v) × Mapped (freeAt (now t)) (now map) (s .top) (s .count) ⌝ }
     ensures { λ r. ⌜ Applied (refine n) cap d (lists (now (t .entry)) (now (v .entry))) (lists (now (t .exit)) (now (v .exit))) (r .refusal) × Mapped (freeAt (now (t .exit))) (now (map .exit)) (r .spare .top) (r .spare .count) ⌝ }
 {
-    let refusal = refine_refusal(t, cap, d, n, s.count);
+    let refusal = refine_refusal(t, cap, n, s.count);
     if refusal != 0 {
         return Decided { refusal, spare: s };
     }
@@ -47,7 +47,7 @@ pub fn sentence(t: &mut [i32], v: &[f64], cap: usize, d: u32, n: usize) -> u32
     requires { ⌜ Standing cap d (now t) (now v) ⌝ }
     ensures { λ r. ⌜ Applied (sentence n) cap d (lists (now (t .entry)) (now (v .entry))) (lists (now (t .exit)) (now (v .entry))) r × (freeAt (now (t .exit)) ≡ freeAt (now (t .entry))) ⌝ }
 {
-    let refusal = sentence_refusal(t, cap, d, n);
+    let refusal = sentence_refusal(t, cap, n);
     if refusal != 0 {
         return refusal;
     }

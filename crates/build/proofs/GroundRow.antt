@@ -2,7 +2,7 @@
 -- Assumes nothing.
 use Prim.Native.Nat.{ℕ}
 use mathlib.Core.Path.{_≡_}
-use mathlib.Core.Bool.{true, false, not, _&&_}
+use mathlib.Core.Bool.{Bool, true, false, not, _&&_}
 use mathlib.Core.List.{List}
 use lib.Dec.{ltb}
 use lib.IntN.{ℤ}
@@ -12,9 +12,9 @@ use Rattle.table.specs.Words.{wordOf}
 use Rattle.edit_laws.specs.PatchSteps.{putWord}
 use Rattle.edit_laws.specs.Built.{groundRow}
 
-module _ (g : Grid) (n : ℕ) {i j : ℕ} (t : List ℤ) (i-is : i ≡ wordOf t n 10) (j-is : j ≡ wordOf t n 11) where
-  pub row-out : not (ltb i (g .columns) && ltb j (g .rows)) ≡ true → t ≡ groundRow g t n
-  row-out h = rw (← i-is, ← j-is, not-true (ltb i (g .columns) && ltb j (g .rows)) h)
+module _ (g : Grid) (n : ℕ) {i j : ℕ} {b : Bool} (t : List ℤ) (i-is : i ≡ wordOf t n 10) (j-is : j ≡ wordOf t n 11) (inside : b ≡ (ltb i (g .columns) && ltb j (g .rows))) where
+  pub row-out : not b ≡ true → t ≡ groundRow g t n
+  row-out h = rw (← i-is, ← j-is, ← inside, not-true b h)
 
-  pub row-in : {u : List ℤ} → not (ltb i (g .columns) && ltb j (g .rows)) ≡ false → u ≡ putWord t n 12 1 → u ≡ groundRow g t n
-  row-in h e = rw (← i-is, ← j-is, not-false (ltb i (g .columns) && ltb j (g .rows)) h, e)
+  pub row-in : {u : List ℤ} → not b ≡ false → u ≡ putWord t n 12 1 → u ≡ groundRow g t n
+  row-in h e = rw (← i-is, ← j-is, ← inside, not-false b h, e)

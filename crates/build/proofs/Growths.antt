@@ -15,7 +15,7 @@ use Rattle.edit_laws.specs.PatchSteps.{linkIn}
 use Rattle.table.specs.Plain.{Plain}
 use Rattle.table.proofs.LinkRanges.{level-from}
 use Rattle.patch.specs.Small.{Small}
-use Rattle.patch.proofs.PlainKept.{linked-plain}
+use Rattle.edit_laws.proofs.PlainKept.{linked-plain}
 use Rattle.edit_laws.specs.Built.{Growth, inFull, grow, growKids, growLevel, growLevels, groundFrom}
 use Rattle.edit_laws.proofs.Sprouts.{kid-able, kids-rest, level-kids, level-rest, levels-level, levels-rest, levels-bounds}
 use Rattle.build.specs.BuildSteps.{growth, inTurn, Reached}

@@ -8,11 +8,11 @@ use lib.IntN.{ℤ}
 use borrow.Author.Tests.{eq-eqb, ne-eqb}
 use Rattle.mesh.specs.Place.{Grid}
 use Rattle.table.specs.Words.{wordOf}
-use Rattle.table.specs.Worked.{downTo}
+use Rattle.worked.specs.Worked.{downTo}
 use Rattle.table.specs.Plain.{Plain}
 use Rattle.edit_laws.specs.PatchSteps.{putWord}
 use Rattle.edit_laws.specs.Built.{seamRow}
-use Rattle.patch.proofs.PlainKept.{plain-named}
+use Rattle.edit_laws.proofs.PlainKept.{plain-named}
 
 module _ (g : Grid) (cap d n : ℕ) (t : List ℤ) {i j : ℕ} (i-is : i ≡ wordOf t n 10) (j-is : j ≡ wordOf t n 11) (p : Plain t cap) where
   pub sew-north : {u : List ℤ} {x : ℕ} → j ≡ g .rows - 1 → x ≤ cap → x ≡ downTo t cap d i 0 → u ≡ putWord t n 5 x → (u ≡ seamRow g cap d t n) × Plain u cap

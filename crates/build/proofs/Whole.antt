@@ -21,7 +21,7 @@ use Rattle.edit_laws.proofs.BuildTable.{build-table, build-next, grown-linked, 
 use Rattle.edit_laws.proofs.Sprouts.{levels-start}
 use Rattle.edit_laws.proofs.Blank.{built-amounts}
 use Rattle.table.specs.Plain.{Plain}
-use Rattle.patch.proofs.PlainKept.{linked-plain}
+use Rattle.edit_laws.proofs.PlainKept.{linked-plain}
 use Rattle.build.specs.BuildSteps.{growth, Reached, Made}
 
 module _ (g : Grid) (cap d : ℕ) (ground : d ≡ base g) (in-range : Rectangle g) (low : 5 ≤ cap) (high : cap ≤ 4095) (fits : length (numbered g) ≤ cap) where

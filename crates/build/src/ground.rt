@@ -7,9 +7,10 @@ ghost use Rattle.mesh.specs.Picture.{rowWords};
 ghost use Rattle.edit_laws.specs.Anew.{wallRow, pointRow};
 ghost use Rattle.edit_laws.specs.Built.{eachRow, groundRow};
 ghost use Rattle.table.specs.Plain.{Plain};
+use anew::point_row;
+use anew::wall_row;
 use header::Header;
-use patch::anew::point_row;
-use patch::anew::wall_row;
+use header::has_cell;
 use table::words::FLAGS;
 use table::words::INDEX_I;
 use table::words::INDEX_J;
@@ -23,8 +24,7 @@ fn put_cell(t: &mut [i32], header: Header, n: usize)
 {
     let i = word(t, n, INDEX_I);
     let j = word(t, n, INDEX_J);
-    let inside = (i < header.columns) & (j < header.rows);
-    if !inside {
+    if !has_cell(header, i, j) {
         return;
     }
     put(t, n, FLAGS, 1);

@@ -8,13 +8,13 @@ ghost use Rattle.table.specs.Plain.{Plain};
 ghost use Rattle.edit_laws.specs.Built.{eachRow, seamRow};
 use header::Header;
 use header::is_ring;
-use table::down::down_to;
 use table::words::INDEX_I;
 use table::words::INDEX_J;
 use table::words::NORTH;
 use table::words::SOUTH;
 use table::words::word;
 use table::writes::put;
+use worked::down::down_to;
 
 // The row n names the one across the seam, if it lies there.
 fn seam_row(t: &mut [i32], cap: usize, header: Header, d: u32, n: usize)

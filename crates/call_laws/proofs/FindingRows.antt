@@ -19,7 +19,7 @@ use Rattle.mesh.specs.Valid.{Valid}
 use Rattle.mesh.specs.Picture.{table}
 use Rattle.mesh.specs.Holding.{holds, leafAt}
 use Rattle.table.specs.Words.{linkOf}
-use Rattle.table.specs.Worked.{kidWord}
+use Rattle.worked.specs.Worked.{kidWord}
 use Rattle.lookup.specs.LookupRows.{rowFind, rowAt, rowLookup}
 use Rattle.lookup.proofs.LookupSteps.{find-nil, no-digits}
 use Rattle.place_laws.proofs.Bools.{is-yes}

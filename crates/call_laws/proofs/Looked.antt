@@ -19,7 +19,7 @@ use Rattle.mesh.specs.Refusal.{_if_, refusal}
 use Rattle.mesh.specs.Lookup.{tries, lookup, lookupChecks}
 use Rattle.mesh.specs.Decode.{decode}
 use Rattle.mesh.specs.Call.{Found, checkCall, unless, lookupCall}
-use Rattle.carried.specs.Carried.{carriedOf, carriedFor, valueIn}
+use Rattle.carried.specs.Carried.{carriedOf, carriedFor, valueCarried}
 use Rattle.lookup.specs.LookupRows.{rowLookupOut}
 use Rattle.table_laws.proofs.Pictured.{carried-there}
 use Rattle.picture_laws.proofs.Soundness.{sound-valid}
@@ -30,12 +30,12 @@ use Rattle.call_laws.proofs.FindingRows.{row-lookup}
 use Rattle.call_laws.proofs.Called.{checks-after, by-picture}
 
 -- a value is its status and its amount
-value-is : (x : Value) → valueIn (carriedFor x) ≡ x
+value-is : (x : Value) → valueCarried (carriedFor x) ≡ x
 value-is blank = refl
 value-is (measured x) = refl
 value-is (carried x) = refl
 
-value-there : (s : State) (n : ℕ) → valueIn (carriedOf (table s) (amounts s) n) ≡ valueOf (entry (s .entries) n)
+value-there : (s : State) (n : ℕ) → valueCarried (carriedOf (table s) (amounts s) n) ≡ valueOf (entry (s .entries) n)
 value-there s n = rw (carried-there s n) (value-is (valueOf (entry (s .entries) n)))
 
 -- what is answered if it is refused, and if the leaf n with the value x is found

@@ -23,7 +23,7 @@ use Rattle.mesh.specs.Picture.{table}
 use Rattle.mesh.specs.Scan.{listed, standing, own, walk, windOf, permutation, scan}
 use Rattle.table.specs.Words.{linkOf, flagOf}
 use Rattle.walk.specs.WalkRows.{kidsWord, leafRow, rowWalk}
-use Rattle.scan.specs.ScanRows.{listedRow, fromLevel, scans}
+use Rattle.listing.specs.ListedRows.{listedRow, fromLevel, scans}
 use Rattle.place_laws.proofs.Bools.{and-both, and-left, and-right, bool-ext}
 use Rattle.scan.proofs.OrderWords.{permutation-words}
 use Rattle.place_laws.proofs.Kids.{parent-kid, all-kids, kid-has, leaf-cell, leaf-kidless, is-leaf}

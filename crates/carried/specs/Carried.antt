@@ -64,8 +64,8 @@ sameValue a b = sameFloat (a .value) (b .value)
 
 -- ---- the values of the rules
 
-abbrev pub valueIn : Carried → Value
-valueIn c = valueFrom (statusOf c) (c .value)
+abbrev pub valueCarried : Carried → Value
+valueCarried c = valueFrom (statusOf c) (c .value)
 
 abbrev pub carriedFor : Value → Carried
 carriedFor w = record { status = pos (status w); value = amount w }

@@ -11,9 +11,9 @@ use Rattle.mesh.specs.Place.{Grid}
 use Rattle.mesh.specs.Picture.{neWord, seWord, swWord, nwWord, northWord, eastWord, flagsWord}
 use Rattle.mesh.specs.Mesh.{completeBit, sentencedBit}
 use Rattle.table.specs.Words.{wordOf, linkOf, flagOf, depthOf}
-use Rattle.table.specs.Worked.{kidless, touchedIn, flagsFrom}
+use Rattle.worked.specs.Worked.{kidless, touchedIn, flagsFrom}
 use Rattle.checker_laws.specs.Rowwise.{ghostOk, kidCellsAre, insideOk, cellOk, sentenceOk, pointOk}
-use Rattle.table.proofs.KidlessRows.{bare-links}
+use Rattle.worked.proofs.KidlessRows.{bare-links}
 use Rattle.place_laws.proofs.Bools.{is-yes}
 
 -- ---- the four kids

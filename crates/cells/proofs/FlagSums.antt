@@ -11,11 +11,11 @@ use lib.IntN.{ℤ}
 use Rattle.mesh.specs.Tools.{digits}
 use Rattle.mesh.specs.Picture.{northWord, eastWord, southWord, westWord, iWord, jWord}
 use Rattle.mesh.specs.Mesh.{completeBit, bdyWallHBit, bdyWallVBit, grnWallHBit, grnWallVBit}
-use Rattle.table.specs.FlagDigits.{four, pair}
+use Rattle.worked.specs.FlagDigits.{four, pair}
 use Rattle.table.specs.Words.{linkOf, flagOf}
-use Rattle.table.specs.Worked.{boundaryAt, boundaryH, boundaryV, greenH, greenV, flagsFrom}
-use Rattle.table.proofs.FourFlags.{flags-sum}
-use Rattle.table.proofs.Paired.{meet}
+use Rattle.worked.specs.Worked.{boundaryAt, boundaryH, boundaryV, greenH, greenV, flagsFrom}
+use Rattle.worked.proofs.FourFlags.{flags-sum}
+use Rattle.worked.proofs.Paired.{meet}
 
 -- a wall beside a cell has one cell where the other side is none, and beside none where it is one
 beq-true : (x : Bool) → Bool·beq true x ≡ x

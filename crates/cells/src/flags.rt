@@ -6,17 +6,14 @@ ghost use Rattle.mesh.specs.Tools.{digits};
 ghost use Rattle.mesh.specs.Picture.{flagsWord, levelWord, southWord, westWord};
 ghost use Rattle.mesh.specs.Mesh.{completeBit};
 ghost use Rattle.table.specs.Words.{linkOf, flagOf};
-ghost use Rattle.table.specs.FlagDigits.{pair};
-ghost use Rattle.table.specs.Worked.{boundaryAt, flagsFrom};
+ghost use Rattle.worked.specs.FlagDigits.{pair};
+ghost use Rattle.worked.specs.Worked.{boundaryAt, flagsFrom};
 ghost use Rattle.readable.specs.Readable.{Readable, Levelled};
 use readable::depth;
 use readable::index;
 use table::flag_bits::BDY_WALL_H;
 use table::flag_bits::BDY_WALL_V;
 use table::flag_bits::COMPLETE;
-use table::pairs::boundary_or_green;
-use table::pairs::corner;
-use table::pairs::join;
 use table::plain::flag;
 use table::plain::link;
 use table::words::EAST;
@@ -26,7 +23,10 @@ use table::words::NORTH;
 use table::words::PARENT;
 use table::words::SOUTH;
 use table::words::WEST;
-use table::worked::weigh;
+use worked::pairs::boundary_or_green;
+use worked::pairs::corner;
+use worked::pairs::join;
+use worked::weigh;
 
 // Whether a wall is boundary, if it has one cell: on level 0, and above where the wall of the parent is, by its bit k, and the word w is even.
 fn boundary(t: &[i32], cap: usize, d: u32, n: usize, one: bool, w: usize, k: u32) -> bool

@@ -8,6 +8,7 @@ ghost use Rattle.readable.specs.Readable.{Readable, Levelled};
 use crate::flags::bare_flags;
 use crate::flags::cell_flags;
 use header::Header;
+use header::has_cell;
 use readable::depth;
 use readable::index;
 use table::flag_bits::COMPLETE;
@@ -25,8 +26,8 @@ use table::words::PARENT;
 use table::words::SE_KID;
 use table::words::SW_KID;
 use table::words::says;
-use table::worked::kidless;
-use table::worked::touched;
+use worked::kidless;
+use worked::touched;
 
 // A ghost has flags 0 and a kid.
 pub fn ghost_ok(t: &[i32], cap: usize, n: usize) -> bool
@@ -67,8 +68,7 @@ fn inside(t: &[i32], cap: usize, header: Header, d: u32, n: usize) -> bool
     ensures { λ r. ⌜ r ≡ insideOk (headerOf header .grid) (now (t .entry)) cap d n ⌝ }
 {
     if depth(t, cap, d, n) == d {
-        return (index(t, cap, n, INDEX_I) < header.columns)
-            & (index(t, cap, n, INDEX_J) < header.rows);
+        return has_cell(header, index(t, cap, n, INDEX_I), index(t, cap, n, INDEX_J));
     }
     flag(t, cap, COMPLETE, link(t, cap, n, PARENT))
 }

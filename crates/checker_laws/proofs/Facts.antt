@@ -20,7 +20,7 @@ use Rattle.mesh.specs.State.{plusZero}
 use Rattle.mesh.specs.Picture.{parentWord, iWord, jWord, flagsWord, freeFlags}
 use Rattle.table.specs.Words.{wordOf, linkOf, freeAt, depthOf}
 use Rattle.carried.specs.Carried.{carriedOf, statusOf, isBlank, isZero}
-use Rattle.table.specs.Worked.{kidWord, sideIn}
+use Rattle.worked.specs.Worked.{kidWord, sideIn}
 use Rattle.checker_laws.specs.Rowwise.{below, emptyOk, zeroOk, rootTests, rootOk, childTests, childOk, placeOk, kidTests, kidOk, kidsTests, kidsOk, sideTests, sidesOk, ghostOk, pointOk, valueOk, usedTests, usedOk, rowOk, rowwise}
 use Rattle.place_laws.proofs.Bools.{and-left, and-right, or-cases}
 use Rattle.place_laws.proofs.Lists.{every-at}

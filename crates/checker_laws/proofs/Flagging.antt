@@ -20,7 +20,7 @@ use Rattle.mesh.specs.Mesh.{Wall, absent, isWall, isBoundary, isGreen, on, touc
 use Rattle.mesh.specs.State.{Entry, cells, number, numberOf}
 use Rattle.mesh.specs.Picture.{parentWord, southWord, westWord, flagsWord}
 use Rattle.table.specs.Words.{wordOf, linkOf, flagOf, depthOf}
-use Rattle.table.specs.Worked.{boundaryH, boundaryV, greenH, greenV, flagsFrom}
+use Rattle.worked.specs.Worked.{boundaryH, boundaryV, greenH, greenV, flagsFrom}
 use Rattle.place_laws.proofs.Bools.{no-is}
 use Rattle.place_laws.proofs.Kids.{up, up-is}
 use Rattle.place_laws.proofs.Tree.{touched-patch}

@@ -20,7 +20,7 @@ use Rattle.mesh.specs.Mesh.{on, completeBit}
 use Rattle.mesh.specs.State.{Entry, Cell, placeOf, cellOf, entry, cells, number, numberOf}
 use Rattle.mesh.specs.Picture.{parentWord, iWord, jWord, flagsWord}
 use Rattle.table.specs.Words.{wordOf, linkOf, flagOf, depthOf}
-use Rattle.table.specs.Worked.{kidWord, sideBy, sideOf, downTo, sideIn}
+use Rattle.worked.specs.Worked.{kidWord, sideBy, sideOf, downTo, sideIn}
 use Rattle.table.proofs.LinkRanges.{link-word}
 use Rattle.place_laws.proofs.Laps.{Smooth, smooth-is}
 use Rattle.place_laws.proofs.Base.{lap-many}

@@ -16,7 +16,7 @@ use Rattle.mesh.specs.Place.{Place, Grid, base, parent, step, kids, SW, S, W}
 use Rattle.mesh.specs.Mesh.{Mesh, on, touched, hasKids, completeBit}
 use Rattle.mesh.specs.State.{Entry, cells, number, numberOf}
 use Rattle.table.specs.Words.{linkOf, flagOf, depthOf}
-use Rattle.table.specs.Worked.{kidWord, touchedIn}
+use Rattle.worked.specs.Worked.{kidWord, touchedIn}
 use Rattle.place_laws.proofs.Bools.{is-yes, or-left, or-right, or-cases}
 use Rattle.mesh.specs.Tools.{all}
 use Rattle.mesh.specs.Picture.{southWord, westWord}

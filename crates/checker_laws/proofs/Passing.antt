@@ -21,7 +21,7 @@ use Rattle.mesh.specs.Picture.{table, amounts, parentWord, nwWord, northWord, e
 use Rattle.mesh.specs.Test.{sameFloat}
 use Rattle.table.specs.Words.{wordOf, linkOf, flagOf, freeAt, depthOf}
 use Rattle.carried.specs.Carried.{carriedOf, carriedFor, isNothing}
-use Rattle.table.specs.Worked.{kidWord, sideIn, flagsFrom, touchedIn}
+use Rattle.worked.specs.Worked.{kidWord, sideIn, flagsFrom, touchedIn}
 use Rattle.checker_laws.specs.Rowwise.{below, emptyOk, zeroOk, rootOk, childOk, placeOk, kidTests, kidOk, kidsTests, kidsOk, sideTests, sidesOk, ghostOk, kidCellsAre, insideOk, cellOk, sentenceTests, sentenceOk, pointTests, pointOk, carriedAbove, blankOk, heldOk, valueOk, usedTests, usedOk, rowOk, rowwise}
 use Rattle.place_laws.proofs.Bools.{is-yes, yes-is, no-is, and-both, or-left, or-right, implies, either, beq-refl}
 use Rattle.place_laws.proofs.Lists.{at-every}

@@ -21,7 +21,7 @@ use Rattle.mesh.specs.Mesh.{completeBit, sentencedBit}
 use Rattle.table.specs.Words.{wordOf, linkOf, flagOf, depthOf}
 use Rattle.carried.specs.Carried.{carriedOf, statusOf, isBlank, isMeasured, isZero}
 use Rattle.carried.specs.declared.Carried.{Carried}
-use Rattle.table.specs.Worked.{kidWord, kidless, flagsFrom, touchedIn}
+use Rattle.worked.specs.Worked.{kidWord, kidless, flagsFrom, touchedIn}
 use Rattle.checker_laws.specs.Rowwise.{ghostOk, kidCellTests, kidCellsAre, cellTests, cellOk, sentenceTests, sentenceOk, pointTests, pointOk, carriedAbove, blankOk, carriedTests, heldTests, heldOk, valueOk}
 use Rattle.place_laws.proofs.Bools.{and-left, and-right, or-cases, implied, beq-is}
 use Rattle.place_laws.proofs.Lists.{every-at}

@@ -22,7 +22,7 @@ use Rattle.mesh.specs.Picture.{rowWords, fields, rowOf, table, amounts, parentW
 use Rattle.table.specs.Words.{wordOf, linkOf, Fits}
 use Rattle.carried.specs.Carried.{carriedOf}
 use Rattle.carried.proofs.CarriedWords.{status-word}
-use Rattle.table.specs.Worked.{kidWord}
+use Rattle.worked.specs.Worked.{kidWord}
 use Rattle.place_laws.proofs.SideDigits.{aside, kidBy, kid-by}
 use Rattle.picture_laws.proofs.Rows.{nil-word, table-length, table-word, amounts-length, amounts-at}
 use Rattle.checker_laws.proofs.Facts.{Used, saidPlace, link-high}

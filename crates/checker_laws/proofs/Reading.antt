@@ -22,8 +22,8 @@ use Rattle.mesh.specs.Picture.{rowWords, levelWord, iWord, jWord, flagsWord, st
 use Rattle.mesh.specs.Decode.{digitsOf, flag, placeFrom, entryBy, entryFrom, entriesFrom, decode}
 use Rattle.mesh.specs.Mesh.{completeBit, sentencedBit, deadBit}
 use Rattle.table.specs.Words.{wordOf, flagOf, depthOf, Fits}
-use Rattle.carried.specs.Carried.{carriedOf, statusOf, valueIn}
-use Rattle.table.specs.Worked.{flagsFrom}
+use Rattle.carried.specs.Carried.{carriedOf, statusOf, valueCarried}
+use Rattle.worked.specs.Worked.{flagsFrom}
 use Rattle.carried.proofs.CarriedWords.{status-word, value-listed}
 use Rattle.place_laws.proofs.Places.{place-path}
 use Rattle.number_laws.proofs.Entries.{in-list}
@@ -35,7 +35,7 @@ use Rattle.checker_laws.proofs.Patches.{held-small, ghost-facts, point-
 
 -- what a cell's row says of the cell
 abbrev pub cellFrom : List ℤ → List Float → ℕ → Cell
-cellFrom t v n = record { sentenced = flagOf t sentencedBit n; value = valueIn (carriedOf t v n) }
+cellFrom t v n = record { sentenced = flagOf t sentencedBit n; value = valueCarried (carriedOf t v n) }
 
 -- the entries are what the rows say
 pub record Reads (g : Grid) (cap : ℕ) (t : List ℤ) (v : List Float) (es : List Entry) : Type 0 where

@@ -19,7 +19,7 @@ use Rattle.mesh.specs.Valid.{ValueRule, aboveOf}
 use Rattle.mesh.specs.Decode.{valueFrom}
 use Rattle.mesh.specs.Picture.{parentWord}
 use Rattle.table.specs.Words.{linkOf, flagOf, depthOf}
-use Rattle.carried.specs.Carried.{carriedOf, statusOf, valueIn}
+use Rattle.carried.specs.Carried.{carriedOf, statusOf, valueCarried}
 use Rattle.checker_laws.specs.Rowwise.{carriedAbove}
 use Rattle.place_laws.proofs.Bools.{no-is}
 use Rattle.place_laws.proofs.Kids.{is-leaf}
@@ -58,10 +58,10 @@ module _ {g : Grid} {cap : ℕ} {t : List ℤ} {v : List Float} {es : List Entry
   held-row : (n : ℕ) → Used cap t n → statusOf (carriedOf t v n) ≢ 0 → Held cap t v n
   held-row n u = value-facts cap t v n (o .tested .row n u .value) .1
 
-  pub value-row : (n : ℕ) → Used cap t n → valueOf (entry es n) ≡ valueIn (carriedOf t v n)
+  pub value-row : (n : ℕ) → Used cap t n → valueOf (entry es n) ≡ valueCarried (carriedOf t v n)
   value-row n u = ap valueOf (o .entry-used n u) ∙ go (flagOf t completeBit n) refl (ℕ-discrete (statusOf (carriedOf t v n)) 0)
     where
-      go : (b : Bool) → flagOf t completeBit n ≡ b → Dec (statusOf (carriedOf t v n) ≡ 0) → valueOf (used (saidPlace g t n) (cond b (some (cellFrom t v n)) none)) ≡ valueIn (carriedOf t v n)
+      go : (b : Bool) → flagOf t completeBit n ≡ b → Dec (statusOf (carriedOf t v n) ≡ 0) → valueOf (used (saidPlace g t n) (cond b (some (cellFrom t v n)) none)) ≡ valueCarried (carriedOf t v n)
       go true e d = refl
       go false e (yes z) = rw z
       go false e (no z) = absurd (let y : T false = rw e at (held-row n u z .cell) in y)
@@ -121,13 +121,13 @@ module _ (s : State) {cap : ℕ} {t : List ℤ} {v : List Float} (o : Reads (s .
   abbrev g : Grid
   g = s .header .grid
 
-  above-value : (n : ℕ) → Used cap t n → T (flagOf t completeBit n) → aboveOf s (saidPlace g t n) ≡ valueIn (carriedAbove t cap v n)
+  above-value : (n : ℕ) → Used cap t n → T (flagOf t completeBit n) → aboveOf s (saidPlace g t n) ≡ valueCarried (carriedAbove t cap v n)
   above-value n u c = ap (λ (k : ℕ). valueOf (entry (s .entries) k)) (parent-link o n u) ∙ value-row o (linkOf t cap n parentWord) (above-row o n u c .0)
 
-  held-rule : (n : ℕ) → Used cap t n → T (flagOf t completeBit n) → Held cap t v n → ValueRule s (saidPlace g t n) (valueIn (carriedOf t v n))
+  held-rule : (n : ℕ) → Used cap t n → T (flagOf t completeBit n) → Held cap t v n → ValueRule s (saidPlace g t n) (valueCarried (carriedOf t v n))
   held-rule n u c f = go (f .status)
     where
-      go : HeldAs (carriedOf t v n) (carriedAbove t cap v n) → ValueRule s (saidPlace g t n) (valueIn (carriedOf t v n))
+      go : HeldAs (carriedOf t v n) (carriedAbove t cap v n) → ValueRule s (saidPlace g t n) (valueCarried (carriedOf t v n))
       go (inl e) = rw e (f .is-finite)
       go (inr (e, z, a)) =
           let (k, d) = above-row o n u c in
@@ -135,15 +135,15 @@ module _ (s : State) {cap : ℕ} {t : List ℤ} {v : List Float} (o : Reads (s .
           let l = cell-low o (linkOf t cap n parentWord) k (held-row o (linkOf t cap n parentWord) k z .cell) in
           rw e (omega (arith, said-depth g t (linkOf t cap n parentWord)), f .is-finite, rw (above-value n u c) x, ap amount (above-value n u c) ∙ y ∙ a)
 
-  row-rule : (n : ℕ) → Used cap t n → T (flagOf t completeBit n) → ValueRule s (saidPlace g t n) (valueIn (carriedOf t v n))
+  row-rule : (n : ℕ) → Used cap t n → T (flagOf t completeBit n) → ValueRule s (saidPlace g t n) (valueCarried (carriedOf t v n))
   row-rule n u c = go (ℕ-discrete (statusOf (carriedOf t v n)) 0)
     where
-      go : Dec (statusOf (carriedOf t v n) ≡ 0) → ValueRule s (saidPlace g t n) (valueIn (carriedOf t v n))
+      go : Dec (statusOf (carriedOf t v n) ≡ 0) → ValueRule s (saidPlace g t n) (valueCarried (carriedOf t v n))
       go (yes e) = rw e (rw (above-value n u c, blank-row o n u e .above c) tt)
       go (no e) = held-rule n u c (held-row o n u e)
 
   pub value-rule : (n : ℕ) (p : Place) (x : Cell) → entry (s .entries) n ≡ used p (some x) → ValueRule s p (x .value)
   value-rule n p x e =
       let (u, q, c, i) = cell-entry o n p x e in
-      let j : x .value ≡ valueIn (carriedOf t v n) = ap (λ (y : Cell). y .value) i in
+      let j : x .value ≡ valueCarried (carriedOf t v n) = ap (λ (y : Cell). y .value) i in
       rw j (rw (← q) (row-rule n u c))

@@ -15,7 +15,7 @@ use Rattle.mesh.specs.Picture.{eastWord, flagsWord, iWord, jWord, neWord, north
 use Rattle.table.specs.Words.{wordOf, linkOf, flagOf, freeAt, depthOf}
 use Rattle.carried.specs.Carried.{carriedOf, isBlank, isMeasured, isCarriedDown, isZero, isNothing, sameValue}
 use Rattle.carried.specs.declared.Carried.{Carried}
-use Rattle.table.specs.Worked.{kidWord, sideIn, kidless, touchedIn, flagsFrom}
+use Rattle.worked.specs.Worked.{kidWord, sideIn, kidless, touchedIn, flagsFrom}
 
 -- a test of the numbers below n, as a loop that counts up meets them
 abbrev pub below : ℕ → (ℕ → Bool) → Bool

@@ -25,8 +25,8 @@ use Rattle.number_laws.proofs.Entries.{in-list, stands-in}
 use Rattle.number_laws.proofs.NumberedPlaces.{number-place, place-number, numbered-not-zero, unnumbered}
 use Rattle.picture_laws.proofs.Links.{around-parent, around-side}
 use Rattle.table.specs.Words.{wordOf, depthOf}
-use Rattle.table.specs.Worked.{kidWord, sideOf}
-use Rattle.table.proofs.Offsets.{kid-word-range}
+use Rattle.worked.specs.Worked.{kidWord, sideOf}
+use Rattle.worked.proofs.Offsets.{kid-word-range}
 use Rattle.edit_laws.specs.Linked.{Flags, tableWith, withFlags}
 use Rattle.edit_laws.specs.PatchSteps.{linkSide, placeIn, linkIn}
 use Rattle.edit_laws.proofs.Slots.{word, Slot, Hit, hit-later, Off, off-at, untouched, write, write-unless, settled}

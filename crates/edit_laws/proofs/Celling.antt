@@ -16,15 +16,13 @@ use Rattle.number_laws.specs.Numbered.{Numbered}
 use Rattle.mesh.specs.Tools.{any}
 use Rattle.mesh.specs.Place.{Place, Grid, same, In}
 use Rattle.mesh.specs.State.{Entry, nil, free, used, Cell, amount, valueOf, placeOf, entry, number}
-use Rattle.mesh.specs.Picture.{flagsWord}
 use Rattle.mesh.specs.Request.{filled, fill}
 use Rattle.place_laws.proofs.Places.{in-here, in-there, in-one}
 use Rattle.number_laws.proofs.NumberedPlaces.{number-place}
 use Rattle.number_laws.proofs.Filling.{fill-number}
 use Rattle.carried.specs.Carried.{putStatus, putAmount}
 use Rattle.edit_laws.specs.Linked.{Flags, tableWith, withFlags}
-use Rattle.edit_laws.specs.PatchSteps.{putWord}
-use Rattle.edit_laws.specs.Tables.{Spot, kidAt, eachAt, putCell, putCellAmount, putCells, putAmounts}
+use Rattle.edit_laws.specs.Tables.{Spot, kidAt, overSpots, eachAt, rewritten, putCell, putCellAmount, putCells, putAmounts}
 use Rattle.edit_laws.proofs.FreeNumbers.{Alive}
 use Rattle.edit_laws.proofs.Setting.{map-same, map-but, filled-other, filled-here, carriedIn, put-flags, put-status, fill-rooted, fill-first}
 use Rattle.edit_laws.proofs.Named.{AllNamed, no-more, one-more, named-same, kid-at}
@@ -69,7 +67,7 @@ abbrev pub valuesOf : List Entry → List Float
 valuesOf es = map (λ e. amount (valueOf e)) es
 
 module _ (g : Grid) (es : List Entry) (u : Numbered es) (n : ℕ) (q : Place) (there : placeOf (entry es n) ≡ some q) (y : Option Cell) where
-  pub put-cell : (f : Flags) (x : ℕ) → putStatus (putWord (tableWith g es f) n flagsWord x) n (carriedIn y) ≡ tableWith g (fill (q ∷ []) y es) (withFlags q x f)
+  pub put-cell : (f : Flags) (x : ℕ) → rewritten x (carriedIn y) (tableWith g es f) n ≡ tableWith g (fill (q ∷ []) y es) (withFlags q x f)
   put-cell f x = ap (λ (t : List ℤ). putStatus t n (carriedIn y)) (put-flags g es u f n q there x) ∙ put-status g es u (withFlags q x f) n q there y
 
   pub put-amount : putAmount (valuesOf es) n (carriedIn y) ≡ valuesOf (fill (q ∷ []) y es)
@@ -88,7 +86,7 @@ pub cells-put : {g : Grid} {cap : ℕ} {es : List Entry} → Rooted g cap es →
     → AllNamed es e xs (map some qs) → ((q : Place) → In q qs → number es q ≢ 0)
     → (putCells x (carriedIn y) cap xs (tableWith g es f) ≡ tableWith g (fill qs y es) (withAll qs x f))
     × (putAmounts x (carriedIn y) cap xs (tableWith g es f) (valuesOf es) ≡ valuesOf (fill qs y es))
-unfolding eachAt putAmounts
+unfolding overSpots putAmounts
 cells-put {g} {cap} {es} r f x y [] no-more there = (ap (λ (ds : List Entry). tableWith g ds f) (sym (fill-none y es)), ap valuesOf (sym (fill-none y es)))
 cells-put {g} {cap} {es} r f x y (q ∷ qs) (one-more {x = spot} {xs = xs} n ns) there =
     let c = carriedIn y in

@@ -30,8 +30,8 @@ use Rattle.place_laws.proofs.SideDigits.{kidBy, kid-by-parent, kid-by-digits, p
 use Rattle.number_laws.proofs.Entries.{stands-place}
 use Rattle.number_laws.proofs.NumberedPlaces.{number-place, place-number, numbered-not-zero}
 use Rattle.picture_laws.proofs.Links.{around-parent, around-side}
-use Rattle.table.specs.Worked.{kidWord}
-use Rattle.table.proofs.Offsets.{kid-word-range}
+use Rattle.worked.specs.Worked.{kidWord}
+use Rattle.worked.proofs.Offsets.{kid-word-range}
 use Rattle.edit_laws.specs.Linked.{Flags, fieldsWith, tableWith}
 use Rattle.edit_laws.proofs.Slots.{word}
 use Rattle.edit_laws.proofs.Linked.{word-link, word-field}

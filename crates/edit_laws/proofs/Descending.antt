@@ -15,7 +15,7 @@ use Rattle.edit_laws.specs.Rooted.{Rooted}
 use Rattle.mesh.specs.Tools.{any, all, flat}
 use Rattle.mesh.specs.Place.{Place, Grid, parent, same}
 use Rattle.mesh.specs.State.{Entry, stands, number, numberOf}
-use Rattle.table.specs.Worked.{kidWord}
+use Rattle.worked.specs.Worked.{kidWord}
 use Rattle.place_laws.proofs.Bools.{no-is, and-left, and-right, or-left, or-right, or-cases, implied}
 use Rattle.place_laws.proofs.Places.{in-one, same-refl}
 use Rattle.place_laws.proofs.Kids.{parent-depth}

@@ -24,8 +24,8 @@ use Rattle.number_laws.proofs.Entries.{stands-in, in-stands}
 use Rattle.number_laws.proofs.NumberedPlaces.{number-place, numbered-not-zero}
 use Rattle.edit_laws.specs.Linked.{Flags, tableWith}
 use Rattle.edit_laws.specs.PatchSteps.{takeOut}
-use Rattle.table.specs.Worked.{touchedIn}
-use Rattle.edit_laws.specs.Tables.{Spot, dropUntouched, eachAt}
+use Rattle.worked.specs.Worked.{touchedIn}
+use Rattle.edit_laws.specs.Tables.{Spot, dropUntouched, overSpots, eachAt}
 use Rattle.edit_laws.proofs.Changing.{swap-number, swap-same, swap-other}
 use Rattle.edit_laws.proofs.Removing.{removing, take-out, take-out-number, take-out-rooted}
 use Rattle.edit_laws.proofs.FlagsAnew.{Ready}
@@ -149,7 +149,7 @@ module _ {g : Grid} (cap : ℕ) {es : List Entry} {f : Flags} {c : Place → Boo
         go (no z) = touch z (touched g c q) refl
 
   pub dropped-all : (qs : List (Option Place)) {ds : List Entry} {xs : List Spot} → Less g cap c es ds → AllNamed ds e xs qs → Dropped g cap c f e es ds (eachAt (dropUntouched cap) cap xs (tableWith g ds f)) qs
-  unfolding eachAt
+  unfolding overSpots
   dropped-all [] h no-more = unchanged h refl (λ q i. absurd i)
   dropped-all (o ∷ qs) {ds} h (one-more {x} {xs = xs} n ns) =
       let a = dropped-one h o (λ q i. named-depth (subst (Names ds e x) i n)) in

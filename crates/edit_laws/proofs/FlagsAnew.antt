@@ -20,7 +20,7 @@ use Rattle.mesh.specs.Winds.{wordOfWind}
 use Rattle.mesh.specs.Mesh.{Mesh, Wall, absent, isWall, isBoundary, isGreen, on, touched, wallH, wallV, ends, sides, derived, flags}
 use Rattle.mesh.specs.State.{Entry, placeOf, stands, entry, number, numberOf}
 use Rattle.table.specs.Words.{wordOf, linkOf, flagOf}
-use Rattle.table.specs.Worked.{boundaryH, boundaryV, greenH, greenV, flagList, wallsAlone}
+use Rattle.worked.specs.Worked.{boundaryH, boundaryV, greenH, greenV, flagList, wallsAlone}
 use Rattle.place_laws.proofs.Bools.{no-is}
 use Rattle.place_laws.proofs.Kids.{up, parent-up, up-depth}
 use Rattle.place_laws.proofs.SideDigits.{aside, step-depth}

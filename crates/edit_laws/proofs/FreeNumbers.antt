@@ -19,7 +19,7 @@ use Rattle.mesh.specs.Request.{fill}
 use Rattle.number_laws.proofs.Filling.{filled-free, fill-entry}
 use Rattle.mesh.specs.Picture.{rowWords}
 use Rattle.table.specs.Words.{code, wordOf, linkOf, depthOf, freeAt}
-use Rattle.table.specs.Worked.{kidWord}
+use Rattle.worked.specs.Worked.{kidWord}
 use Rattle.table.specs.Writes.{freeRow}
 use Rattle.table_laws.proofs.LinkedRows.{kid-word-lt}
 use Rattle.free.specs.FreeMap.{switched}

@@ -10,7 +10,7 @@ use lib.ListN.{length, length-set}
 use Rattle.mesh.specs.Place.{Wind, N, E, S, W, compass}
 use Rattle.mesh.specs.Winds.{wordOfWind}
 use Rattle.table.specs.Words.{wordOf, linkOf}
-use Rattle.table.specs.Worked.{kidWord}
+use Rattle.worked.specs.Worked.{kidWord}
 use Rattle.edit_laws.specs.PatchSteps.{putWord, putUnlessNil, dropSide}
 
 -- ---- words

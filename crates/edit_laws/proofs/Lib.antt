@@ -44,3 +44,4 @@ pub mod Alike
 pub mod BuildTable
 pub mod Sprouts
 pub mod Blank
+pub mod PlainKept

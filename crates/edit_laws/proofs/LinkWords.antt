@@ -14,7 +14,7 @@ use Rattle.mesh.specs.Place.{Place, Grid, kid, around, sideWinds, Wind, NE, SE,
 use Rattle.mesh.specs.Winds.{wordOfWind}
 use Rattle.place_laws.proofs.Bools.{and-left, and-right}
 use Rattle.place_laws.proofs.SideDigits.{kidBy, aside, among-sides}
-use Rattle.table.specs.Worked.{kidWord}
+use Rattle.worked.specs.Worked.{kidWord}
 use Rattle.edit_laws.proofs.Slots.{Slot, Hit, hit-early, hit-later, hit-cases, Off}
 
 -- ---- the words 0 to 8

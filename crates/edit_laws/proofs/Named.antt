@@ -25,8 +25,8 @@ use Rattle.place_laws.proofs.Wanted.{each-in}
 use Rattle.place_laws.proofs.Fringe.{fringe-south-sw, fringe-south-se, fringe-west-sw, fringe-west-nw}
 use Rattle.number_laws.proofs.NumberedPlaces.{number-place, place-number}
 use Rattle.table.specs.Words.{linkOf}
-use Rattle.table.specs.Worked.{kidWord}
-use Rattle.table.proofs.Offsets.{kid-word-range}
+use Rattle.worked.specs.Worked.{kidWord}
+use Rattle.worked.proofs.Offsets.{kid-word-range}
 use Rattle.edit_laws.specs.Linked.{Flags, tableWith}
 use Rattle.edit_laws.specs.Tables.{Spot, spot, kidAt, kidSpots, wantedSpots, outsideSpots}
 use Rattle.edit_laws.proofs.Rooted.{kid-read, link-of}

@@ -22,7 +22,7 @@ use Rattle.place_laws.proofs.Lists.{any-append, any-map}
 use Rattle.place_laws.proofs.Places.{same-is, same-refl, in-one, in-here, in-there}
 use Rattle.number_laws.proofs.NumberedPlaces.{number-place, place-number, unnumbered}
 use Rattle.edit_laws.specs.Linked.{Flags, tableWith, withFlags}
-use Rattle.edit_laws.specs.Tables.{Spot, eachAt}
+use Rattle.edit_laws.specs.Tables.{Spot, overSpots, eachAt}
 use Rattle.edit_laws.specs.Built.{eachRow}
 use Rattle.edit_laws.proofs.Setting.{flags-same}
 use Rattle.edit_laws.proofs.FlagsAnew.{bit, Ready}
@@ -122,7 +122,7 @@ module _ {g : Grid} {cap : ℕ} {es : List Entry} (r : Rooted g cap es) {row : L
 
   -- the kids at these spots
   pub pass : {d : ℕ} {xs : List Spot} {qs : List (Option Place)} → AllNamed es d xs qs → e ≡ suc d → (f : Flags) → Right f → eachAt row cap xs (tableWith g es f) ≡ tableWith g es (newAt fresh qs f)
-  unfolding eachAt
+  unfolding overSpots
   pass no-more below f right = refl
   pass (one-more {x} {q} {xs} {qs} n ns) below f right =
       let deep : (p : Place) → q ≡ some p → p .depth ≡ e = λ p k. named-depth (rw k at n) ∙ sym below in

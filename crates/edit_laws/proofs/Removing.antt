@@ -23,9 +23,9 @@ use Rattle.number_laws.proofs.Entries.{in-list}
 use Rattle.number_laws.proofs.NumberedPlaces.{number-place, not-zero}
 use Rattle.picture_laws.proofs.Links.{around-parent, around-side}
 use Rattle.table.specs.Words.{wordOf, linkOf}
-use Rattle.table.specs.Worked.{kidWord}
+use Rattle.worked.specs.Worked.{kidWord}
 use Rattle.table.specs.Writes.{putRow, freeRow}
-use Rattle.table.proofs.Offsets.{kid-word-range}
+use Rattle.worked.proofs.Offsets.{kid-word-range}
 use Rattle.edit_laws.specs.Linked.{Flags, rowWith, tableWith}
 use Rattle.edit_laws.specs.PatchSteps.{putWord, dropSide, takeOut}
 use Rattle.edit_laws.proofs.Slots.{word, Slot, Hit, Off, off-at, untouched, write, write-unless, settled, put-length, put-same, put-other}

@@ -25,8 +25,8 @@ use Rattle.place_laws.proofs.Places.{place-path, in-cases, in-here, in-there}
 use Rattle.number_laws.proofs.Entries.{in-list}
 use Rattle.number_laws.proofs.NumberedPlaces.{place-number, off-root}
 use Rattle.table.specs.Words.{code, wordOf, linkOf}
-use Rattle.table.specs.Worked.{kidWord, downTo}
-use Rattle.table.proofs.Offsets.{kid-word-range}
+use Rattle.worked.specs.Worked.{kidWord, downTo}
+use Rattle.worked.proofs.Offsets.{kid-word-range}
 use Rattle.table_laws.proofs.DownRows.{KidsNamed, down-to}
 use Rattle.edit_laws.specs.Linked.{Flags, fieldsWith, tableWith}
 use Rattle.edit_laws.specs.PatchSteps.{putWord}

@@ -23,8 +23,8 @@ use Rattle.place_laws.proofs.Bools.{cond-same}
 use Rattle.number_laws.proofs.NumberedPlaces.{number-place, numbered-not-zero, beside-root}
 use Rattle.picture_laws.proofs.Links.{around-parent, around-side}
 use Rattle.table.specs.Words.{code, wordOf, linkOf}
-use Rattle.table.specs.Worked.{kidWord, sideBy, sideOf}
-use Rattle.table.proofs.Offsets.{kid-word-range}
+use Rattle.worked.specs.Worked.{kidWord, sideBy, sideOf}
+use Rattle.worked.proofs.Offsets.{kid-word-range}
 use Rattle.edit_laws.specs.Linked.{Flags, tableWith}
 use Rattle.edit_laws.proofs.Slots.{word}
 use Rattle.edit_laws.proofs.Linked.{word-i, word-j}

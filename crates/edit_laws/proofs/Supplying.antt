@@ -27,7 +27,7 @@ use Rattle.edit_laws.specs.Linked.{Flags, tableWith, withFlags}
 use Rattle.edit_laws.specs.PatchSteps.{linkIn}
 use Rattle.free.specs.Free.{nextIn}
 use Rattle.free.proofs.FirstFree.{search-hit}
-use Rattle.edit_laws.specs.Tables.{Spot, kidAt, supplied, suppliedAll}
+use Rattle.edit_laws.specs.Tables.{Spot, kidAt, overSpots, supplied, suppliedAll}
 use Rattle.edit_laws.proofs.FreeNumbers.{Alive, free-at}
 use Rattle.edit_laws.proofs.Adding.{link-in, link-in-rooted}
 use Rattle.edit_laws.proofs.Named.{AllNamed, no-more, one-more, named-same, named-depth, kid-link}
@@ -117,7 +117,7 @@ module _ {g : Grid} {cap : ℕ} {f : Flags} (alive : Alive f) {s : State} {t : L
 pub give-shows : {g : Grid} {cap : ℕ} {f : Flags} → Alive f → {e : ℕ} → e < base g + 12 → base g ≤ e → {xs : List Spot} (qs : List Place) {s : State} {t : List ℤ} → Shows g cap f s t
     → AllNamed (s .entries) e xs (map some qs) → ((q o : Place) → In q qs → parent q ≡ some o → number (s .entries) o ≢ 0)
     → Distinct qs → lacking (s .entries) qs ≤ freeCount (s .entries) → Shows g cap f (give s qs) (suppliedAll cap (base g) xs t)
-unfolding give suppliedAll
+unfolding give overSpots
 give-shows alive room low [] h no-more there d enough = h
 give-shows {g} {cap} {f} alive {e} room low (q ∷ qs) {s} {t} h (one-more {x = x} n ns) there d enough =
     let (o, a, k) = mapped (kidBy (x .l) (x .m)) q (n .above) (n .is-kid) in

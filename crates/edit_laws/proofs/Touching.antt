@@ -6,7 +6,7 @@ use mathlib.Core.Bool.{Bool}
 use mathlib.Core.Option.{Option, none, some}
 use mathlib.Core.List.{List}
 use lib.IntN.{ℤ}
-use Rattle.table.specs.Worked.{touchedIn}
+use Rattle.worked.specs.Worked.{touchedIn}
 use Rattle.edit_laws.specs.Rooted.{Rooted}
 use Rattle.mesh.specs.Place.{Place, Grid, S, W, SW, base, step, then}
 use Rattle.mesh.specs.Mesh.{on, touched}

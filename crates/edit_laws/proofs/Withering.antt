@@ -12,7 +12,7 @@ use lib.Dec.{T, eqb, eqb→eq}
 use lib.IntN.{ℤ}
 use lib.ListN.{set}
 use borrow.Author.Tests.{ne-eqb, eqb-false}
-use Rattle.table.specs.Worked.{kidless, touchedIn}
+use Rattle.worked.specs.Worked.{kidless, touchedIn}
 use Rattle.edit_laws.specs.Rooted.{Rooted}
 use Rattle.mesh.specs.Tools.{any, all}
 use Rattle.mesh.specs.Place.{Place, Grid, root, same, base, kid, kids, parent, In, Distinct}

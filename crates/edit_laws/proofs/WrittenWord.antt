@@ -15,7 +15,7 @@ use Rattle.mesh.specs.Winds.{wordOfWind}
 use Rattle.mesh.specs.Picture.{rowWords}
 use Rattle.picture_laws.proofs.Links.{wind-lt}
 use Rattle.table.specs.Words.{code, wordOf, linkOf}
-use Rattle.table.specs.Worked.{sideOf}
+use Rattle.worked.specs.Worked.{sideOf}
 use Rattle.edit_laws.specs.PatchSteps.{putWord, putUnlessNil, linkSide, dropSide}
 
 -- what is read after a write is what was written or what was there

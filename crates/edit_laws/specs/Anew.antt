@@ -10,7 +10,7 @@ use Rattle.mesh.specs.Tools.{digits}
 use Rattle.mesh.specs.Picture.{eastWord, flagsWord, northWord, southWord, westWord}
 use Rattle.mesh.specs.Mesh.{bdyWallHBit, bdyWallVBit, completeBit, grnWallHBit, grnWallVBit, sentencedBit, wallHBit, wallVBit}
 use Rattle.table.specs.Words.{linkOf, flagOf}
-use Rattle.table.specs.Worked.{cellIn, boundaryH, boundaryV, greenH, greenV, flagList, pointsCell, wallsAlone}
+use Rattle.worked.specs.Worked.{cellIn, boundaryH, boundaryV, greenH, greenV, flagList, pointsCell, wallsAlone}
 use Rattle.edit_laws.specs.PatchSteps.{putWord}
 
 -- a row's own walls, without the points and cells that the walls around them make

@@ -12,7 +12,7 @@ use Rattle.mesh.specs.Place.{Grid, isRing}
 use Rattle.mesh.specs.Seam.{lastJ}
 use Rattle.mesh.specs.Picture.{rowWords, flagsWord, iWord, jWord, northWord, southWord, levelWord}
 use Rattle.table.specs.Words.{wordOf}
-use Rattle.table.specs.Worked.{downTo}
+use Rattle.worked.specs.Worked.{downTo}
 use Rattle.table.specs.Writes.{freeRow, nilRow}
 use Rattle.edit_laws.specs.PatchSteps.{putWord, linkIn}
 use Rattle.edit_laws.specs.Anew.{wallRow, pointRow}

@@ -10,7 +10,7 @@ use Rattle.mesh.specs.Place.{Wind, N, E, S, W, compass}
 use Rattle.mesh.specs.Winds.{wordOfWind}
 use Rattle.mesh.specs.Picture.{rowWords, flagsWord, iWord, jWord, parentWord, levelWord}
 use Rattle.table.specs.Words.{wordOf, linkOf, depthOf}
-use Rattle.table.specs.Worked.{kidWord, sideOf}
+use Rattle.worked.specs.Worked.{kidWord, sideOf}
 use Rattle.table.specs.Writes.{putRow, freeRow}
 
 abbrev pub putWord : List ℤ → ℕ → ℕ → ℕ → List ℤ

@@ -10,7 +10,7 @@ use Rattle.mesh.specs.Picture.{eastWord, flagsWord, neWord, northWord, nwWord, 
 use Rattle.table.specs.Words.{wordOf, linkOf}
 use Rattle.carried.specs.Carried.{carriedOf, putStatus, putAmount, nothing, passedDown}
 use Rattle.carried.specs.declared.Carried.{Carried}
-use Rattle.table.specs.Worked.{kidless, touchedIn, kidWord}
+use Rattle.worked.specs.Worked.{kidless, touchedIn, kidWord}
 use Rattle.free.specs.Free.{nextIn}
 use Rattle.edit_laws.specs.PatchSteps.{putWord, linkIn, takeOut}
 use Rattle.edit_laws.specs.Anew.{wallRow, pointRow}
@@ -50,18 +50,30 @@ module _ (t : List ℤ) (cap : ℕ) where
 
 -- ---- steps over a list of rows
 
--- a step at each of these kids
-unfoldable pub eachAt : (List ℤ → ℕ → List ℤ) → ℕ → List Spot → List ℤ → List ℤ
-eachAt f cap [] t = t
-eachAt f cap (x ∷ xs) t = eachAt f cap xs (f t (kidAt t cap x))
+-- a step at each of these places, one after the other
+unfoldable pub overSpots : (Spot → List ℤ → List ℤ) → List Spot → List ℤ → List ℤ
+overSpots step [] t = t
+overSpots step (x ∷ xs) t = overSpots step xs (step x t)
+
+-- a step at the kid in a place
+abbrev pub atKid : (List ℤ → ℕ → List ℤ) → ℕ → Spot → List ℤ → List ℤ
+atKid f cap x t = f t (kidAt t cap x)
+
+-- at each of these kids
+abbrev pub eachAt : (List ℤ → ℕ → List ℤ) → ℕ → List Spot → List ℤ → List ℤ
+eachAt f cap xs t = overSpots (atKid f cap) xs t
 
 -- the flags that the kids of the row n can change: the walls first, since points and cells are worked out from walls
 unfoldable pub refreshNear : List ℤ → ℕ → ℕ → ℕ → List ℤ
 refreshNear t cap d n = eachAt (pointRow cap) cap (wantedSpots t cap n ++ outsideSpots t cap n) (eachAt (wallRow cap d) cap (wantedSpots t cap n) t)
 
--- the flags of the row k and what it carries, unless there is no row: the words, and the values
+-- the words of the row k that a cell in it, or none, changes: its flags, and what it carries
+abbrev pub rewritten : ℕ → Carried → List ℤ → ℕ → List ℤ
+rewritten f c t k = putStatus (putWord t k flagsWord f) k c
+
+-- unless there is no row: the words, and the values
 abbrev pub putCell : ℕ → Carried → List ℤ → ℕ → List ℤ
-putCell f c t k = cond (eqb k 0) t (putStatus (putWord t k flagsWord f) k c)
+putCell f c t k = cond (eqb k 0) t (rewritten f c t k)
 
 abbrev pub putCellAmount : Carried → List Float → ℕ → List Float
 putCellAmount c v k = cond (eqb k 0) v (putAmount v k c)
@@ -82,9 +94,8 @@ supplied cap d x t =
     let k = nextIn t cap in
     cond (eqb (kidAt t cap x) 0) (cond (eqb k 0) t (linkIn t cap d (x .parent) (x .l) (x .m) k)) t
 
-unfoldable pub suppliedAll : ℕ → ℕ → List Spot → List ℤ → List ℤ
-suppliedAll cap d [] t = t
-suppliedAll cap d (x ∷ xs) t = suppliedAll cap d xs (supplied cap d x t)
+abbrev pub suppliedAll : ℕ → ℕ → List Spot → List ℤ → List ℤ
+suppliedAll cap d xs t = overSpots (supplied cap d) xs t
 
 -- the nine patches that the kids want
 abbrev pub suppliedNear : List ℤ → ℕ → ℕ → ℕ → List ℤ
@@ -130,7 +141,7 @@ dropCorner t cap d n = cond (eqb n 0 || touchedIn t cap n) t (dropUp d (takeOut 
 
 -- the row n is no cell
 abbrev pub cleared : List ℤ → ℕ → List ℤ
-cleared t n = putStatus (putWord t n flagsWord 0) n nothing
+cleared t n = rewritten 0 nothing t n
 
 -- and its corners go that no cell touches any more
 abbrev pub droppedCorners : List ℤ → ℕ → ℕ → ℕ → List ℤ

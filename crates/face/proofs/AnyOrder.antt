@@ -6,20 +6,19 @@ use mathlib.Core.Path.{_≡_, refl, sym, _∙_}
 use mathlib.Core.Logic.{_≢_}
 use mathlib.Core.Bool.{Bool, true, false, cond}
 use mathlib.Core.List.{List, [], _∷_, _++_}
-use lib.Dec.{T, eqb, eqb→eq, leb, leb→le}
-use lib.ListN.{length, getD}
+use lib.Dec.{T, eqb, leb, leb→le}
+use lib.ListN.{length}
 use lib.IntN.{ℤ}
-use borrow.Author.Tests.{eq-eqb}
 use Rattle.mesh.specs.Refusal.{Check, _if_, refusal}
 use Rattle.mesh.specs.Request.{no6}
 use Rattle.mesh.specs.Scan.{permutation, scanChecks}
 use Rattle.mesh.specs.Picture.{Lent}
 use Rattle.mesh.specs.Decode.{decode}
 use Rattle.mesh.specs.Call.{lentChecks, Wrote, scanCall}
-use Rattle.place_laws.proofs.Bools.{no-is, and-left, and-right}
+use Rattle.place_laws.proofs.Bools.{and-left, and-right}
 use Rattle.number_laws.proofs.Checks.{from}
 use Rattle.demand_laws.proofs.Refusals.{unless-refused}
-use Rattle.face.specs.Outputs.{fourOf}
+use Rattle.scan.specs.FourBytes.{fourOf}
 
 -- ---- what is checked behind a check that refuses plays no part
 
@@ -60,19 +59,3 @@ module _ (cap : ℕ) (l : Lent) (n : ℕ) (k : ℕ) (from to : ℤ) (out : List 
   scanned o w h e f g =
       let same : scanCall cap l n _ k _ _ out ≡ scanCall cap l n (fourOf o) k from to out = λ i. scanCall cap l n (e i) k (f i) (g i) out in
       h ∙ same ∙ scan-four o
-
--- ---- the four bytes
-
-pub four-none : (o : List ℕ) → length o ≢ 4 → 0 ∷ 0 ∷ 0 ∷ 0 ∷ [] ≡ fourOf o
-four-none o h = rw (no-is (eqb (length o) 4) (λ t. h (eqb→eq (length o) 4 t)))
-
-pub four-bytes : (o : List ℕ) → length o ≡ 4 → getD o 0 0 ∷ getD o 1 0 ∷ getD o 2 0 ∷ getD o 3 0 ∷ [] ≡ fourOf o
-four-bytes o l = rw (eq-eqb (length o) 4 l) (go o l)
-  where
-    go : (o : List ℕ) → length o ≡ 4 → getD o 0 0 ∷ getD o 1 0 ∷ getD o 2 0 ∷ getD o 3 0 ∷ [] ≡ o
-    go [] l = absurd (omega (arith, l))
-    go (a ∷ []) l = absurd (omega (arith, l))
-    go (a ∷ b ∷ []) l = absurd (omega (arith, l))
-    go (a ∷ b ∷ c ∷ []) l = absurd (omega (arith, l))
-    go (a ∷ b ∷ c ∷ d ∷ []) l = refl
-    go (a ∷ b ∷ c ∷ d ∷ e ∷ o) l = absurd (omega (arith, l))

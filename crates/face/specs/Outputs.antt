@@ -3,19 +3,12 @@
 -- Assumes nothing.
 use Prim.Native.Nat.{ℕ}
 use mathlib.Core.Path.{_≡_}
-use mathlib.Core.Bool.{cond}
-use mathlib.Core.List.{List, [], _∷_}
-use lib.Dec.{eqb}
-use lib.ListN.{length}
+use mathlib.Core.List.{List}
 use lib.IntN.{ℤ}
 use lib.Ieee.{Float}
 use Rattle.mesh.specs.State as State
 use Rattle.mesh.specs.Picture.{Lent}
 use Rattle.mesh.specs.Call as Call
-
--- an order of another length than four is no permutation; four zeros stand for it
-abbrev pub fourOf : List ℕ → List ℕ
-fourOf o = cond (eqb (length o) 4) o (0 ∷ 0 ∷ 0 ∷ 0 ∷ [])
 
 -- "is a measured value, a carried value, or blank", as a status and a value
 pub record Told : Type 0 where

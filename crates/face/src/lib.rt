@@ -1,11 +1,11 @@
 // The calls of `grid` for C and Rust: the header by pointer, a list as a pointer and a length, every answer but the refusal through a pointer. Each
 // exported entry is thin: it copies the header out and calls the core above it, and a build or a tape puts back the header that the core leaves.
-ghost use mathlib.Core.Path.{_≡_};
 ghost use Rattle.header.specs.Headers.{lentOf};
-ghost use Rattle.face.specs.Outputs.{fourOf, Builds, Tapes, Checks, Scans, Looks, Pages};
+ghost use Rattle.face.specs.Outputs.{Builds, Tapes, Checks, Scans, Looks, Pages};
 use header::Header;
 use lookup::amount_of;
 use lookup::status_of;
+use scan::four;
 
 // The header at exit, and the refusal or 0.
 struct Left {
@@ -115,16 +115,6 @@ pub extern "C" fn grid_check(header: &Header, table: &[i32], values: &[f64], cap
     ensures { λ r. ⌜ Checks (lentOf (now (header .entry)) (now (table .entry)) (now (values .entry))) capacity r ⌝ }
 {
     check_core(*header, table, values, capacity)
-}
-
-// The order as four bytes; a list of another length is no permutation, and neither are four zeros.
-fn four(order: &[u8]) -> [u8; 4]
-    ensures { λ r. ⌜ r ≡ fourOf (now (order .entry)) ⌝ }
-{
-    if order.len() != 4 {
-        return [0, 0, 0, 0];
-    }
-    [order[0], order[1], order[2], order[3]]
 }
 
 fn scan_core(

@@ -31,10 +31,11 @@ use Rattle.demand_laws.proofs.Prefixes.{tape-prefix}
 use Rattle.demand_laws.proofs.Answers.{among, ofTapes, check-answers, build-answers, tape-answers, scan-answers, lookup-answers, page-answers}
 use Rattle.demand_laws.proofs.PicturedCalls.{tape-checked, afterCalls}
 use Rattle.demand_laws.proofs.Demand as laws
-use Rattle.grid.specs.declared.Wrote.{Wrote}
+use Rattle.output.specs.declared.Wrote.{Wrote}
 use Rattle.grid.specs.declared.Built.{Built}
 use Rattle.grid.specs.declared.Taped.{Taped}
-use Rattle.grid.specs.Calls.{wroteOf, asked, Builds, Tapes}
+use Rattle.output.specs.OutputLists.{wroteOf}
+use Rattle.grid.specs.Calls.{asked, Builds, Tapes}
 use Rattle.grid.proofs.First.{ranOf, tape-ran}
 
 -- ---- demand 1: "every call .. ends with an answer or a numbered refusal; a refused step changes nothing"

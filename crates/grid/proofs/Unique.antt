@@ -15,7 +15,7 @@ use Rattle.lookup.specs.declared.Found.{Found}
 use Rattle.lookup.specs.declared.Reading.{Reading}
 use Rattle.lookup.specs.declared.Reading.the-variants.{Measured, Carried, Blank}
 use Rattle.lookup.specs.LookupRows.{valueOfReading, foundOf}
-use Rattle.grid.specs.declared.Wrote.{Wrote}
+use Rattle.output.specs.declared.Wrote.{Wrote}
 use Rattle.grid.specs.declared.Built.{Built}
 use Rattle.grid.specs.declared.Taped.{Taped}
 use Rattle.grid.specs.declared.BuildOut.{BuildOut}
@@ -34,7 +34,8 @@ use Rattle.grid.proofs.build_core.Reads as build-core
 use Rattle.grid.proofs.tape_core.Reads as tape-core
 use Rattle.grid.proofs.build as build
 use Rattle.grid.proofs.tape as tape
-use Rattle.grid.specs.Calls.{wroteOf, Builds, Tapes}
+use Rattle.output.specs.OutputLists.{wroteOf}
+use Rattle.grid.specs.Calls.{Builds, Tapes}
 
 -- ---- what is lent
 

@@ -6,13 +6,8 @@ use mathlib.Core.List.{List}
 use Rattle.mesh.specs.Place.{Grid}
 use Rattle.mesh.specs.Picture.{Lent}
 use Rattle.mesh.specs.Call as Call
-use Rattle.grid.specs.declared.Wrote.{Wrote}
 use Rattle.grid.specs.declared.Built.{Built}
 use Rattle.grid.specs.declared.Taped.{Taped}
-
--- the answer, and what the output holds
-abbrev pub wroteOf : Wrote → List ℕ → Call.Wrote
-wroteOf r out = record { refusal = r .refusal; count = r .count; out = out }
 
 -- ---- build
 

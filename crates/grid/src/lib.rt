@@ -4,18 +4,14 @@ ghost use Rattle.mesh.specs.Refusal.{refusal};
 ghost use Rattle.mesh.specs.Call.{checkCall, scanCall, lookupCall, pageCall, buildChecks};
 ghost use Rattle.header.specs.Headers.{headerOf, lentOf};
 ghost use Rattle.lookup.specs.LookupRows.{foundOf};
-ghost use Rattle.grid.specs.Calls.{wroteOf, Builds, Tapes};
+ghost use Rattle.output.specs.OutputLists.{wroteOf};
+ghost use Rattle.grid.specs.Calls.{Builds, Tapes};
 use header::Header;
 use header::fresh;
 use header::with_mark;
 use lookup::Found;
 use lookup::Reading;
-
-// What a scan or a page answers: a refusal or 0, and how many places of the output it wrote.
-pub struct Wrote {
-    pub refusal: u32,
-    pub count: usize,
-}
+use output::Wrote;
 
 // What a build answers: a refusal or 0, and the number in use.
 pub struct Built {
@@ -55,7 +51,7 @@ pub fn scan(
         return Wrote { refusal, count: 0 };
     }
     let d = header::ground_depth(header);
-    let w = scan::scan_out(
+    scan::scan_out(
         table,
         capacity as usize,
         d,
@@ -65,11 +61,7 @@ pub fn scan(
         from,
         to,
         out,
-    );
-    Wrote {
-        refusal: w.refusal,
-        count: w.count,
-    }
+    )
 }
 
 // The leaf that holds a point, given in 1/4096 of a level-0 cell, and its value.
@@ -97,11 +89,7 @@ pub fn page(header: Header, table: &[i32], values: &[f64], capacity: u32, out: &
         return Wrote { refusal, count: 0 };
     }
     let d = header::ground_depth(header);
-    let p = page::pages::write_page(header, table, values, capacity as usize, d, out);
-    Wrote {
-        refusal: p.refusal,
-        count: p.count,
-    }
+    page::pages::write_page(header, table, values, capacity as usize, d, out)
 }
 
 // The refusal of a build, or 0: the old contents of the lists are not read.

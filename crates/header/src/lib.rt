@@ -1,6 +1,8 @@
 // What is lent beside the table, and the depth of level 0 by it. Every header is made here, so that one with another field is made here too.
 ghost use mathlib.Core.Path.{_≡_};
-ghost use Prim.Native.Nat.{_≤_};
+ghost use mathlib.Core.Bool.{_&&_};
+ghost use Prim.Native.Nat.{_+_, _%_, _≤_};
+ghost use lib.Dec.{ltb};
 ghost use Rattle.mesh.specs.Place.{base, isRing};
 ghost use Rattle.mesh.specs.Seam.{lastJ};
 ghost use Rattle.mesh.specs.Call as Call;
@@ -65,6 +67,13 @@ pub fn misfit(header: Header) -> bool
     outside(header.columns) | (outside(header.rows) | ((RING < header.mode) | short))
 }
 
+// Whether the rectangle has a cell of level 0 in the column i and the row j.
+pub fn has_cell(header: Header, i: u32, j: u32) -> bool
+    ensures { λ r. ⌜ r ≡ (ltb i (header .columns) && ltb j (header .rows)) ⌝ }
+{
+    (i < header.columns) & (j < header.rows)
+}
+
 // The last row of patches on level 0: in a ring the row after the last cells is row 0.
 pub fn last_j(header: Header) -> u32
     requires { ⌜ 1 ≤ header .rows ⌝ }
@@ -85,4 +94,11 @@ pub fn ground_depth(header: Header) -> u32
     } else {
         32 - u32::leading_zeros(header.columns)
     }
+}
+
+// "each accepted request adds 1 to the mark, and 65,535 is followed by 0"
+pub fn next_mark(mark: u16) -> u16
+    ensures { λ r. ⌜ r ≡ (mark + 1) % 65536 ⌝ }
+{
+    std::num::wrapping_add_u16(mark, 1)
 }

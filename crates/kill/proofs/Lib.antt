@@ -1,2 +1,2 @@
--- Laws of a kill, for the functions that carry it out.
-pub mod Borders
+-- The laws that the proofs of a kill cite.
+pub mod Killed

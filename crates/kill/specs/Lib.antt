@@ -1,2 +1,2 @@
--- The border of the cell that is killed.
-pub mod Borders
+-- The rows of a cell that is killed.
+pub mod KilledCell

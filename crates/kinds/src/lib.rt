@@ -1,4 +1,4 @@
-// Numbers and values in a tape's bytes.
+// The bytes of a request: the body that its kind byte announces, and the numbers and values in it.
 ghost use mathlib.Core.Path.{_≡_};
 ghost use Prim.Native.Nat.{_+_, _≤_, _<_};
 ghost use lib.ListN.{length, drop};

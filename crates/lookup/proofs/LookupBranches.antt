@@ -17,20 +17,20 @@ use Rattle.mesh.specs.Refusal.{refusal}
 use Rattle.mesh.specs.Lookup.{beyond}
 use Rattle.mesh.specs.Call.{Found, unless}
 use Rattle.place_laws.proofs.Bools.{bool-ext}
-use Rattle.carried.specs.Carried.{carriedOf, statusOf, isBlank, isMeasured, valueIn}
+use Rattle.carried.specs.Carried.{carriedOf, statusOf, isBlank, isMeasured, valueCarried}
 use Rattle.carried.specs.declared.Carried.{Carried}
 use Rattle.lookup.specs.LookupRows.{rowFound, rowLookup, rowLookupOut}
 
 -- a and b are how the code decides the status
 module _ (c : Carried) {a : Bool} (e : a ≡ isBlank c) where
-  pub as-blank : a ≡ true → blank ≡ valueIn c
+  pub as-blank : a ≡ true → blank ≡ valueCarried c
   as-blank h = rw (eqb-true (statusOf c) 0 (sym e ∙ h))
 
   module _ (h : a ≡ false) {b : Bool} (f : b ≡ isMeasured c) where
-    pub as-measured : b ≡ true → measured (c .value) ≡ valueIn c
+    pub as-measured : b ≡ true → measured (c .value) ≡ valueCarried c
     as-measured i = rw (eqb-true (statusOf c) 1 (sym f ∙ i))
 
-    pub as-carried : b ≡ false → carried (c .value) ≡ valueIn c
+    pub as-carried : b ≡ false → carried (c .value) ≡ valueCarried c
     as-carried i = go (statusOf c) (eqb-false (statusOf c) 0 (sym e ∙ h)) (eqb-false (statusOf c) 1 (sym f ∙ i))
       where
         go : (k : ℕ) → k ≢ 0 → k ≢ 1 → carried (c .value) ≡ valueFrom k (c .value)
@@ -46,7 +46,7 @@ module _ (g : Grid) (t : List ℤ) (v : List Float) (cap d x y n : ℕ) (e : n �
   unfolding rowLookupOut refusal unless
   found-none z = rw (← e, eq-eqb n 0 z)
 
-  pub found-leaf : n ≢ 0 → {c : Carried} → c ≡ carriedOf t v n → (a : Value) → a ≡ valueIn c → answer 0 n a ≡ rowLookupOut g t v cap d x y
+  pub found-leaf : n ≢ 0 → {c : Carried} → c ≡ carriedOf t v n → (a : Value) → a ≡ valueCarried c → answer 0 n a ≡ rowLookupOut g t v cap d x y
   unfolding rowLookupOut refusal unless
   found-leaf z i a f = rw (← e, ne-eqb n 0 z, f, i)
 

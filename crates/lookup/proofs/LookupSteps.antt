@@ -12,8 +12,8 @@ use lib.Dec.{ltb}
 use lib.IntN.{ℤ}
 use borrow.Author.Tests.{ne-eqb, lt-ltb, le-ltb, le-leb}
 use Rattle.table.specs.Words.{wordOf, linkOf}
-use Rattle.table.specs.Worked.{kidWord}
-use Rattle.table.proofs.Offsets.{kid-word-range}
+use Rattle.worked.specs.Worked.{kidWord}
+use Rattle.worked.proofs.Offsets.{kid-word-range}
 use Rattle.place_laws.proofs.Bools.{cond-same}
 use Rattle.walk.specs.WalkRows.{leafRow}
 use Rattle.lookup.specs.LookupRows.{rowFind, rowAt}

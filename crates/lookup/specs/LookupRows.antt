@@ -12,8 +12,8 @@ use Rattle.mesh.specs.Place.{Grid}
 use Rattle.mesh.specs.Lookup.{firstFound, beyond}
 use Rattle.mesh.specs.Call.{Found, unless}
 use Rattle.table.specs.Words.{linkOf}
-use Rattle.carried.specs.Carried.{carriedOf, valueIn}
-use Rattle.table.specs.Worked.{kidWord}
+use Rattle.carried.specs.Carried.{carriedOf, valueCarried}
+use Rattle.worked.specs.Worked.{kidWord}
 use Rattle.walk.specs.WalkRows.{leafRow}
 use Rattle.lookup.specs.declared.Found.{Found as Answer}
 use Rattle.lookup.specs.declared.Reading.{Reading}
@@ -44,7 +44,7 @@ module _ (g : Grid) (t : List ℤ) (v : List Float) where
   unfoldable pub rowLookupOut : ℕ → ℕ → ℕ → ℕ → Found
   rowLookupOut cap d x y =
       let n = rowLookup g t cap d x y in
-      unless (refusal ((19 if eqb n 0) ∷ [])) (λ k. record { refusal = k; leaf = 0; value = blank }) (record { refusal = 0; leaf = n; value = valueIn (carriedOf t v n) })
+      unless (refusal ((19 if eqb n 0) ∷ [])) (λ k. record { refusal = k; leaf = 0; value = blank }) (record { refusal = 0; leaf = n; value = valueCarried (carriedOf t v n) })
 
 -- the answer, as the call's definition says it
 abbrev pub valueOfReading : Reading → Value

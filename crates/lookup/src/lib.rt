@@ -2,8 +2,8 @@
 ghost use mathlib.Core.Path.{_≡_};
 ghost use Prim.Native.Nat.{_/_, _%_, _^_, _<_, _≤_};
 ghost use Rattle.table.specs.Words.{linkOf};
-ghost use Rattle.table.specs.Worked.{kidWord};
-ghost use Rattle.carried.specs.Carried.{valueIn};
+ghost use Rattle.worked.specs.Worked.{kidWord};
+ghost use Rattle.carried.specs.Carried.{valueCarried};
 ghost use Rattle.mesh.specs.State.{status, amount};
 ghost use Rattle.mesh.specs.Lookup as Lookup;
 ghost use Rattle.mesh.specs.Lookup.{tried};
@@ -19,8 +19,8 @@ use carried::is_measured;
 use header::Header;
 use header::is_ring;
 use table::plain;
-use table::worked::kid_word;
 use walk::leaf;
+use worked::kid_word;
 
 // The kid of the row n by the digits of u and v at the place l.
 fn toward(t: &[i32], cap: usize, n: usize, l: u32, u: u32, v: u32) -> usize
@@ -122,7 +122,7 @@ pub struct Found {
 
 // The value that is carried, by its status.
 fn value_of(c: Carried) -> Reading
-    ensures { λ r. ⌜ valueOfReading r ≡ valueIn c ⌝ }
+    ensures { λ r. ⌜ valueOfReading r ≡ valueCarried c ⌝ }
 {
     if is_blank(c) {
         return Reading::Blank;

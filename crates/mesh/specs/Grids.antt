@@ -8,10 +8,12 @@ use lib.Dec.{eqb}
 use lib.ListN.{getD, replicate}
 use lib.IntN.{ℤ, pos, negsuc, natAbs}
 use Rattle.mesh.specs.Tools.{keep}
-use Rattle.mesh.specs.Place.{rectangle}
+use Rattle.mesh.specs.Place.{Grid, rectangle}
 use Rattle.mesh.specs.State.{inUse, plusZero}
-use Rattle.mesh.specs.Picture.{rowWords, levelWord, iWord, jWord, flagsWord, freeFlags, Lent}
+use Rattle.mesh.specs.Picture.{rowWords, levelWord, iWord, jWord, flagsWord, freeFlags, Lent, picture}
 use Rattle.mesh.specs.Decode.{decode}
+use Rattle.mesh.specs.Build.{built}
+use Rattle.mesh.specs.Tape.{run}
 use Rattle.mesh.specs.Page.{headLine}
 use Rattle.mesh.specs.Call.{checkCall, Built, buildCall, Taped, tapeCall, scanCall, lookupCall}
 use Rattle.mesh.specs.Program.{program}
@@ -36,8 +38,15 @@ inMode m c r cap = buildCall cap (empty cap) (record { columns = c; rows = r; mo
 abbrev ring : ℕ → ℕ → ℕ → Built
 ring c r cap = inMode 1 c r cap
 
-abbrev ringTape : ℕ → ℕ → ℕ → List ℕ → Taped
-ringTape c r cap bytes = tapeCall cap (ring c r cap .lent) bytes
+-- a tape on what a build leaves, where the first checks have no part in what is claimed: the run alone
+abbrev ranOn : Grid → ℕ → List ℕ → Taped
+ranOn g cap bytes = let r = run (built g cap) bytes in record { done = r .done; refusal = r .refusal; offset = r .offset; lent = picture (r .state) }
+
+abbrev ran : ℕ → ℕ → ℕ → List ℕ → Taped
+ran c r cap bytes = ranOn (rectangle c r) cap bytes
+
+abbrev ringRan : ℕ → ℕ → ℕ → List ℕ → Taped
+ringRan c r cap bytes = ranOn (record { columns = c; rows = r; mode = 1 }) cap bytes
 
 -- what is lent, with the header of another mode
 abbrev withMode : ℕ → Lent → Lent
@@ -150,17 +159,17 @@ grids =
     -- P6
     (build 2 1 20 .in-use is 9) ∷
     (cellsAmong (build 2 1 20 .lent) numbers is (4 ∷ 6 ∷ [])) ∷
-    (usedIn (tape 2 1 20 refine4 .lent) is 18) ∷
-    (flagsAt (tape 2 1 20 refine4 .lent) (17 ∷ 16 ∷ 11 ∷ 18 ∷ []) is (652 ∷ 644 ∷ 1119 ∷ 136 ∷ [])) ∷
+    (usedIn (ran 2 1 20 refine4 .lent) is 18) ∷
+    (flagsAt (ran 2 1 20 refine4 .lent) (17 ∷ 16 ∷ 11 ∷ 18 ∷ []) is (652 ∷ 644 ∷ 1119 ∷ 136 ∷ [])) ∷
     -- P7: 19 and 20 were free before
-    (freeAmong (tape 2 1 20 killed .lent) numbers is (3 ∷ 8 ∷ 9 ∷ 19 ∷ 20 ∷ [])) ∷
-    (flagsAt (tape 2 1 20 killed .lent) (17 ∷ 16 ∷ 11 ∷ 18 ∷ []) is (44 ∷ 44 ∷ 95 ∷ 8 ∷ [])) ∷
+    (freeAmong (ran 2 1 20 killed .lent) numbers is (3 ∷ 8 ∷ 9 ∷ 19 ∷ 20 ∷ [])) ∷
+    (flagsAt (ran 2 1 20 killed .lent) (17 ∷ 16 ∷ 11 ∷ 18 ∷ []) is (44 ∷ 44 ∷ 95 ∷ 8 ∷ [])) ∷
     -- P8: the words 3, 2, 4 and 1 are the kids SW, SE, NW and NE
-    (map (λ w. wordAt (tape 2 1 24 refine10 .lent) w 10) (3 ∷ 2 ∷ 4 ∷ 1 ∷ []) is (3 ∷ 8 ∷ 9 ∷ 19 ∷ [])) ∷
+    (map (λ w. wordAt (ran 2 1 24 refine10 .lent) w 10) (3 ∷ 2 ∷ 4 ∷ 1 ∷ []) is (3 ∷ 8 ∷ 9 ∷ 19 ∷ [])) ∷
     -- P9: the words 6 and 8 are the neighbours E and W
-    (usedIn (tape 3 1 16 (kill 6) .lent) is 11) ∷
-    (wordAt (tape 3 1 16 (kill 6) .lent) 6 6 is 8) ∷
-    (wordAt (tape 3 1 16 (kill 6) .lent) 8 8 is 6) ∷
+    (usedIn (ran 3 1 16 (kill 6) .lent) is 11) ∷
+    (wordAt (ran 3 1 16 (kill 6) .lent) 6 6 is 8) ∷
+    (wordAt (ran 3 1 16 (kill 6) .lent) 8 8 is 6) ∷
     -- P10
     (outcome (tape 1 1 14 (refine2 ++ refine2)) is (1, 8, 3)) ∷
     -- P11
@@ -177,16 +186,16 @@ grids =
     (scanCall 14 (tape 1 1 14 refine2 .lent) 1 (3 ∷ 4 ∷ 2 ∷ 1 ∷ []) 2 (pos 0) (pos 0) (7 ∷ 7 ∷ []) is record { refusal = 0; count = 1; out = 2 ∷ 7 ∷ [] }) ∷
     (map (λ n. wordAt (build 2 1 20 .lent) 10 n) (4 ∷ 6 ∷ []) is (0 ∷ 1 ∷ [])) ∷
     -- "touching at a corner only does not count": the middle of 3×3 once the cell at (2,2) is killed
-    (flagsAt (tape 3 3 21 (kill 18) .lent) (9 ∷ []) is (7 ∷ [])) ∷
+    (flagsAt (ran 3 3 21 (kill 18) .lent) (9 ∷ []) is (7 ∷ [])) ∷
     -- No. 1: beside a coarser leaf 21, after 10 and before 11; beside a finer one 22
-    (outcome (tape 2 1 20 (refine4 ++ refine11)) is (1, 21, 3)) ∷
-    (outcome (tape 2 1 20 (refine4 ++ (2 ∷ 0 ∷ 11 ∷ []) ++ refine11)) is (2, 10, 6)) ∷
-    (outcome (tape 2 1 33 doom6) is (7, 22, 21)) ∷
+    (outcome (ran 2 1 20 (refine4 ++ refine11)) is (1, 21, 3)) ∷
+    (outcome (ran 2 1 20 (refine4 ++ (2 ∷ 0 ∷ 11 ∷ []) ++ refine11)) is (2, 10, 6)) ∷
+    (outcome (ran 2 1 33 doom6) is (7, 22, 21)) ∷
     -- No. 2: on 2×2 without the cell at (1,1), which is 9, left before down, and none two units off; without the one at (0,1), which is 7, no try
     -- below 0; on 1×1 both
-    (lookup 14 (tape 2 2 14 (kill 9) .lent) 4096 4096 is (7, 0)) ∷
-    (lookup 14 (tape 2 2 14 (kill 9) .lent) 4097 4097 is (0, 19)) ∷
-    (lookup 14 (tape 2 2 14 (kill 7) .lent) 0 4096 is (6, 0)) ∷
+    (lookup 14 (ran 2 2 14 (kill 9) .lent) 4096 4096 is (7, 0)) ∷
+    (lookup 14 (ran 2 2 14 (kill 9) .lent) 4097 4097 is (0, 19)) ∷
+    (lookup 14 (ran 2 2 14 (kill 7) .lent) 0 4096 is (6, 0)) ∷
     (lookup 14 (build 1 1 14 .lent) 4096 4096 is (2, 0)) ∷
     -- No. 4: a ring of 1×3. Its numbers: the root, two ghosts, and no patch in a row 3
     (ring 1 3 12 .in-use is 9) ∷
@@ -201,18 +210,18 @@ grids =
     (map (wordAt (ring 1 4 16 .lent) 5) (3 ∷ 4 ∷ 10 ∷ []) is (4 ∷ 0 ∷ 5 ∷ [])) ∷
     (map (wordAt (ring 1 4 16 .lent) 7) (3 ∷ 4 ∷ 5 ∷ []) is (0 ∷ 3 ∷ 10 ∷ [])) ∷
     -- refine at the seam, from the last row: the patches north of the kids lie in row 0
-    (spotsAt (ringTape 1 3 18 refine8 .lent) (10 ∷ 11 ∷ 12 ∷ 13 ∷ 14 ∷ 15 ∷ 16 ∷ 17 ∷ 18 ∷ []) is
+    (spotsAt (ringRan 1 3 18 refine8 .lent) (10 ∷ 11 ∷ 12 ∷ 13 ∷ 14 ∷ 15 ∷ 16 ∷ 17 ∷ 18 ∷ []) is
     on (pos 1) ((0, 4) ∷ (1, 4) ∷ (0, 5) ∷ (1, 5) ∷ (0, 0) ∷ (1, 0) ∷ (2, 5) ∷ (2, 4) ∷ (2, 0) ∷ [])) ∷
-    (flagsAt (ringTape 1 3 18 refine8 .lent) (12 ∷ 14 ∷ []) is (1135 ∷ 394 ∷ [])) ∷
+    (flagsAt (ringRan 1 3 18 refine8 .lent) (12 ∷ 14 ∷ []) is (1135 ∷ 394 ∷ [])) ∷
     -- and from the first row as well: the wall between the two is internal
-    (flagsAt (ringTape 1 3 24 (refine8 ++ refine4) .lent) (12 ∷ 14 ∷ []) is (111 ∷ 111 ∷ [])) ∷
-    (wordAt (ringTape 1 3 24 (refine8 ++ refine4) .lent) 5 12 is 14) ∷
-    (wordAt (ringTape 1 3 24 (refine8 ++ refine4) .lent) 7 14 is 12) ∷
+    (flagsAt (ringRan 1 3 24 (refine8 ++ refine4) .lent) (12 ∷ 14 ∷ []) is (111 ∷ 111 ∷ [])) ∷
+    (wordAt (ringRan 1 3 24 (refine8 ++ refine4) .lent) 5 12 is 14) ∷
+    (wordAt (ringRan 1 3 24 (refine8 ++ refine4) .lent) 7 14 is 12) ∷
     -- No. 1 over the seam: 12 lies beside the coarse leaf 4
-    (outcome (ringTape 1 3 30 (refine8 ++ refine12)) is (1, 21, 3)) ∷
+    (outcome (ringRan 1 3 30 (refine8 ++ refine12)) is (1, 21, 3)) ∷
     -- kill at the seam: the wall of the cell across becomes boundary, H of 4 or of 8's place
-    (flagsAt (ringTape 1 3 12 (kill 8) .lent) (4 ∷ 8 ∷ 9 ∷ []) is (127 ∷ 26 ∷ 8 ∷ [])) ∷
-    (flagsAt (ringTape 1 3 12 (kill 4) .lent) (5 ∷ 4 ∷ 8 ∷ []) is (127 ∷ 26 ∷ 111 ∷ [])) ∷
+    (flagsAt (ringRan 1 3 12 (kill 8) .lent) (4 ∷ 8 ∷ 9 ∷ []) is (127 ∷ 26 ∷ 8 ∷ [])) ∷
+    (flagsAt (ringRan 1 3 12 (kill 4) .lent) (5 ∷ 4 ∷ 8 ∷ []) is (127 ∷ 26 ∷ 111 ∷ [])) ∷
     -- lookups in the last row, and past it 19 at once, though the leaf 8 ends there
     (lookup 12 (ring 1 3 12 .lent) 0 12287 is (8, 0)) ∷
     (lookup 12 (ring 1 3 12 .lent) 0 12288 is (0, 19)) ∷
@@ -224,6 +233,6 @@ grids =
     -- a table that is sound as a ring and not open, and the other way round
     (map (checkCall 12) (ring 1 3 12 .lent ∷ withMode 0 (ring 1 3 12 .lent) ∷ build 1 3 12 .lent ∷ withMode 1 (build 1 3 12 .lent) ∷ []) is (0 ∷ 3 ∷ 0 ∷ 3 ∷ [])) ∷
     -- what these tapes leave is sound
-    (map (checkCall 20) (tape 2 1 20 refine4 .lent ∷ tape 2 1 20 killed .lent ∷ []) is (0 ∷ 0 ∷ [])) ∷
-    (map (checkCall 18) (ringTape 1 3 18 refine8 .lent ∷ ringTape 1 3 18 (kill 8) .lent ∷ []) is (0 ∷ 0 ∷ [])) ∷
+    (map (checkCall 20) (ran 2 1 20 refine4 .lent ∷ ran 2 1 20 killed .lent ∷ []) is (0 ∷ 0 ∷ [])) ∷
+    (map (checkCall 18) (ringRan 1 3 18 refine8 .lent ∷ ringRan 1 3 18 (kill 8) .lent ∷ []) is (0 ∷ 0 ∷ [])) ∷
     []

@@ -12,7 +12,7 @@ use Rattle.carried.specs.Carried.{putStatus, putAmount}
 use Rattle.carried.specs.declared.Carried.{Carried}
 use Rattle.edit_laws.specs.PatchSteps.{putWord}
 use Rattle.edit_laws.specs.Anew.{wallRow, pointRow}
-use Rattle.edit_laws.specs.Tables.{Spot, kidAt, kidSpots, wantedSpots, outsideSpots, eachAt, refreshNear, putCell, putCellAmount, putAmounts, supplied, suppliedAll}
+use Rattle.edit_laws.specs.Tables.{Spot, kidAt, kidSpots, wantedSpots, outsideSpots, overSpots, atKid, eachAt, refreshNear, putCell, putCellAmount, putAmounts}
 use Rattle.near.specs.NearSpots.{cornerSpots, sideSpots}
 
 -- ---- a cell
@@ -26,14 +26,9 @@ module _ (f : ℕ) (c : Carried) (t : List ℤ) (v : List Float) (n : ℕ) {k : 
 
 -- ---- one place more
 
-pub each-more : (cap : ℕ) (x : Spot) (xs : List Spot) (f : List ℤ → ℕ → List ℤ) (t : List ℤ) {u r : List ℤ} → u ≡ f t (kidAt t cap x) → r ≡ eachAt f cap xs u → r ≡ eachAt f cap (x ∷ xs) t
-unfolding eachAt
-each-more cap x xs f t e h = h ∙ ap (eachAt f cap xs) e
-
-module _ (cap d : ℕ) (x : Spot) (xs : List Spot) where
-  pub supply-more : (t : List ℤ) {u r : List ℤ} → u ≡ supplied cap d x t → r ≡ suppliedAll cap d xs u → r ≡ suppliedAll cap d (x ∷ xs) t
-  unfolding suppliedAll
-  supply-more t e h = h ∙ ap (suppliedAll cap d xs) e
+pub over-more : (step : Spot → List ℤ → List ℤ) (x : Spot) (xs : List Spot) (t : List ℤ) {u r : List ℤ} → u ≡ step x t → r ≡ overSpots step xs u → r ≡ overSpots step (x ∷ xs) t
+unfolding overSpots
+over-more step x xs t e h = h ∙ ap (overSpots step xs) e
 
 module _ (f : ℕ) (c : Carried) (cap : ℕ) (t : List ℤ) (v : List Float) where
   pub amounts-more : (x : Spot) (xs : List Spot) {u : List ℤ} {w r : List Float} →
@@ -48,30 +43,20 @@ module _ (f : ℕ) (c : Carried) (cap : ℕ) (t : List ℤ) (v : List Float) whe
   unfolding putAmounts
   amounts-none = refl
 
-pub each-none : (f : List ℤ → ℕ → List ℤ) (cap : ℕ) (t : List ℤ) → t ≡ eachAt f cap [] t
-unfolding eachAt
-each-none f cap t = refl
-
-pub supply-none : (cap d : ℕ) (t : List ℤ) → t ≡ suppliedAll cap d [] t
-unfolding suppliedAll
-supply-none cap d t = refl
+pub over-none : (step : Spot → List ℤ → List ℤ) (t : List ℤ) → t ≡ overSpots step [] t
+unfolding overSpots
+over-none step t = refl
 
 -- ---- two lists
 
-module _ (cap : ℕ) (f : List ℤ → ℕ → List ℤ) where
-  pub each-append : (xs ys : List Spot) (t : List ℤ) → eachAt f cap (xs ++ ys) t ≡ eachAt f cap ys (eachAt f cap xs t)
-  unfolding eachAt
-  each-append [] ys t = refl
-  each-append (x ∷ xs) ys t = each-append xs ys (f t (kidAt t cap x))
+module _ (step : Spot → List ℤ → List ℤ) where
+  over-append : (xs ys : List Spot) (t : List ℤ) → overSpots step (xs ++ ys) t ≡ overSpots step ys (overSpots step xs t)
+  unfolding overSpots
+  over-append [] ys t = refl
+  over-append (x ∷ xs) ys t = over-append xs ys (step x t)
 
-  pub each-both : (xs ys : List Spot) (t : List ℤ) {u r : List ℤ} → u ≡ eachAt f cap xs t → r ≡ eachAt f cap ys u → r ≡ eachAt f cap (xs ++ ys) t
-  each-both xs ys t e h = h ∙ ap (eachAt f cap ys) e ∙ sym (each-append xs ys t)
-
-module _ (cap d : ℕ) where
-  pub supply-append : (xs ys : List Spot) (t : List ℤ) → suppliedAll cap d (xs ++ ys) t ≡ suppliedAll cap d ys (suppliedAll cap d xs t)
-  unfolding suppliedAll
-  supply-append [] ys t = refl
-  supply-append (x ∷ xs) ys t = supply-append xs ys (supplied cap d x t)
+  pub over-both : (xs ys : List Spot) (t : List ℤ) {u r : List ℤ} → u ≡ overSpots step xs t → r ≡ overSpots step ys u → r ≡ overSpots step (xs ++ ys) t
+  over-both xs ys t e h = h ∙ ap (overSpots step ys) e ∙ sym (over-append xs ys t)
 
 -- ---- the places near a cell
 
@@ -96,4 +81,4 @@ module _ (t : List ℤ) (cap n : ℕ) where
       r ≡ refreshNear t cap d n
   unfolding refreshNear
   near-refreshed d {a} {north = north} {east} {both} {south} {west} h1 h2 h3 h4 h5 e f g =
-      rw (g, f, wanted-is h1 h2 h3, outside-is h4 h5, ← e) (sym (each-append cap (pointRow cap) (kidSpots t cap n ++ cornerSpots north east both) (sideSpots south west) a))
+      rw (g, f, wanted-is h1 h2 h3, outside-is h4 h5, ← e) (sym (over-append (atKid (pointRow cap) cap) (kidSpots t cap n ++ cornerSpots north east both) (sideSpots south west) a))

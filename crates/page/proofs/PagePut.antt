@@ -17,7 +17,7 @@ use Rattle.mesh.specs.Page.{decimal, headLine, total, footLine}
 use Rattle.mesh.specs.Call.{unless, over, writing}
 use Rattle.mesh.specs.Refusal.{refusal}
 use Rattle.lines.specs.Puts.{Put}
-use Rattle.page.specs.PageRows.{written}
+use Rattle.output.specs.OutputLists.{wroteOf}
 use Rattle.lines.specs.LineRows.{linesOf}
 use Rattle.page.specs.PageRows.{bodyOf, pageOf}
 use Rattle.lines.proofs.Puts.{total-append, put-more, put-as, put-front}
@@ -95,11 +95,11 @@ module _ (xs out : List ℕ) where
   pub page-room : {b : Bool} → not b ≡ false → b ≡ leb (length xs) (length out) → length xs ≤ length out
   page-room {b} h e = leb-true (length xs) (length out) (sym e ∙ not-false b h)
 
-  pub page-refused : length out < length xs → written (record { refusal = 18; count = 0 }) out ≡ writing xs out
+  pub page-refused : length out < length xs → wroteOf (record { refusal = 18; count = 0 }) out ≡ writing xs out
   unfolding refusal unless
   page-refused h = rw (lt-ltb (length out) (length xs) h)
 
-  pub page-written : {e : List ℕ} {r : ℕ} → length xs ≤ length out → Put out 0 xs e r → written (record { refusal = 0; count = r }) e ≡ writing xs out
+  pub page-written : {e : List ℕ} {r : ℕ} → length xs ≤ length out → Put out 0 xs e r → wroteOf (record { refusal = 0; count = r }) e ≡ writing xs out
   unfolding refusal unless
   page-written {e} {r} k w =
       let c : r ≡ length xs = omega (arith, w .next) in

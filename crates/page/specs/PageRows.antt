@@ -9,7 +9,6 @@ use Rattle.mesh.specs.State.{Header}
 use Rattle.mesh.specs.Page.{headLine, footLine, total}
 use Rattle.mesh.specs.Call.{Wrote, writing}
 use Rattle.leaves.specs.LeavesFrom.{leavesFrom}
-use Rattle.page.specs.declared.pages.PageOut.{PageOut}
 use Rattle.lines.specs.LineRows.{linesOf}
 
 -- all lines but the last, for the leaves ns
@@ -28,7 +27,3 @@ rowPage h t v cap d = pageOf h t v (leavesFrom t cap (d + 12) 1)
 -- what a call answers that passes the first checks
 unfoldable pub rowOut : Header → List ℤ → List Float → ℕ → ℕ → List ℕ → Wrote
 rowOut h t v cap d out = writing (rowPage h t v cap d) out
-
--- the answer and the output, as the call's definition puts them together
-abbrev pub written : PageOut → List ℕ → Wrote
-written r out = record { refusal = r .refusal; count = r .count; out = out }

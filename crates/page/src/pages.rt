@@ -9,7 +9,7 @@ ghost use Rattle.header.specs.Headers.{headerOf};
 ghost use Rattle.mesh.specs.Call.{writing};
 ghost use Rattle.table.specs.Plain.{Sized};
 ghost use Rattle.lines.specs.Puts.{Put};
-ghost use Rattle.page.specs.PageRows.{written};
+ghost use Rattle.output.specs.OutputLists.{wroteOf};
 ghost use Rattle.lines.specs.LineRows.{Listed};
 ghost use Rattle.leaves.specs.LeavesFrom.{leavesFrom};
 ghost use Rattle.page.specs.PageRows.{bodyOf, pageOf, rowOut};
@@ -25,6 +25,7 @@ use lines::numerals::put_byte;
 use lines::numerals::put_decimal;
 use lines::numerals::put_number;
 use lines::numerals::put_text;
+use output::Wrote;
 
 // No last line is longer.
 const LONGEST_FOOT: usize = 52;
@@ -114,12 +115,6 @@ fn put_page(
     put_foot(out, b, leaves.len() as u32, sum)
 }
 
-// What came of a page: refusal 18 or 0, and how many bytes it has.
-pub struct PageOut {
-    pub refusal: u32,
-    pub count: usize,
-}
-
 // Writes the page of the leaves, if the output is long enough.
 fn write_leaves(
     header: Header,
@@ -128,31 +123,24 @@ fn write_leaves(
     cap: usize,
     leaves: &[u16],
     out: &mut [u8],
-) -> PageOut
+) -> Wrote
     requires { ⌜ Listed (now t) (now v) cap (now leaves) ⌝ }
-    ensures { λ r. ⌜ written r (now (out .exit)) ≡ writing (pageOf (headerOf header) (now (t .entry)) (now (v .entry)) (now (leaves .entry))) (now (out .entry)) ⌝ }
+    ensures { λ r. ⌜ wroteOf r (now (out .exit)) ≡ writing (pageOf (headerOf header) (now (t .entry)) (now (v .entry)) (now (leaves .entry))) (now (out .entry)) ⌝ }
 {
     if !fits(header, t, v, cap, leaves, out.len()) {
-        return PageOut {
+        return Wrote {
             refusal: 18,
             count: 0,
         };
     }
     let count = put_page(header, t, v, cap, leaves, out);
-    PageOut { refusal: 0, count }
+    Wrote { refusal: 0, count }
 }
 
 // Writes the page, if the output is long enough.
-pub fn write_page(
-    header: Header,
-    t: &[i32],
-    v: &[f64],
-    cap: usize,
-    d: u32,
-    out: &mut [u8],
-) -> PageOut
+pub fn write_page(header: Header, t: &[i32], v: &[f64], cap: usize, d: u32, out: &mut [u8]) -> Wrote
     requires { ⌜ Sized (now t) cap × (1 ≤ cap) × (cap < length (now v)) × (length (leavesFrom (now t) cap (d + 12) 1) ≤ 4096) ⌝ }
-    ensures { λ r. ⌜ written r (now (out .exit)) ≡ rowOut (headerOf header) (now (t .entry)) (now (v .entry)) cap d (now (out .entry)) ⌝ }
+    ensures { λ r. ⌜ wroteOf r (now (out .exit)) ≡ rowOut (headerOf header) (now (t .entry)) (now (v .entry)) cap d (now (out .entry)) ⌝ }
 {
     let mut found = [0u16; 4096];
     let m = find_leaves(t, cap, d as usize + 12, 1, &mut found, 0);

@@ -11,7 +11,7 @@ use lib.IntN.{ℤ}
 use Rattle.mesh.specs.Picture.{parentWord}
 use Rattle.table.specs.Words.{linkOf, freeAt}
 use Rattle.table.specs.Plain.{Plain}
-use Rattle.table.specs.Worked.{kidless, touchedIn}
+use Rattle.worked.specs.Worked.{kidless, touchedIn}
 use Rattle.free.specs.FreeMap.{switched, Mapped}
 use Rattle.edit_laws.specs.PatchSteps.{takeOut}
 use Rattle.edit_laws.proofs.FreeNumbers.{take-out-free}

@@ -1,6 +1,4 @@
 -- Laws of the steps, for the functions that take them.
 pub mod Opposite
 pub mod LinkingIn
-pub mod FlagRows
-pub mod PlainKept
 pub mod DroppedRows

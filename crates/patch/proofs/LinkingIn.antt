@@ -16,13 +16,13 @@ use Rattle.winds.specs.WindTable.{compassAt}
 use Rattle.mesh.specs.Picture.{rowWords, flagsWord, iWord, jWord, parentWord}
 use Rattle.winds.specs.declared.Compass.{Compass}
 use Rattle.table.specs.Words.{wordOf, linkOf, depthOf}
-use Rattle.table.specs.Worked.{kidWord, sideBy}
+use Rattle.worked.specs.Worked.{kidWord, sideBy}
 use Rattle.table.specs.Writes.{putRow, freeRow}
-use Rattle.table.proofs.Offsets.{side-digits}
+use Rattle.worked.proofs.Offsets.{side-digits}
 use Rattle.table_laws.proofs.LinkedRows.{kid-word-lt}
 use Rattle.edit_laws.specs.PatchSteps.{putWord, putUnlessNil, linkSide, placeIn, linkIn, dropSide, takeOut}
 use Rattle.edit_laws.proofs.WrittenWord.{word-other, word-here, wind-word}
-use Rattle.patch.specs.LinkBy.{linkBy}
+use Rattle.edit_laws.specs.LinkBy.{linkBy}
 use Rattle.patch.proofs.Opposite.{own-word, opposite-word}
 
 pub side-linked : (t : List ℤ) (cap p l m k i : ℕ) {u v : List ℤ} {x : ℕ} {c : Compass} → i < 8 →

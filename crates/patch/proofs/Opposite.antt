@@ -8,8 +8,8 @@ use Rattle.mesh.specs.Winds.{winds, position, wordOfWind}
 use Rattle.winds.specs.WindTable.{compassOf, compassAt}
 use Rattle.winds.specs.declared.Compass.{Compass}
 use Rattle.mesh.proofs.Winds.{rule}
-use Rattle.table.proofs.Offsets.{at}
-use Rattle.carried.proofs.CarriedWords.{getD-any}
+use Rattle.worked.proofs.Offsets.{at}
+use Rattle.table.proofs.PutRows.{getD-any}
 use mathlib.Core.List.{map}
 
 compass-at : (i : ℕ) → i < 8 → compassAt i ≡ compassOf (getD winds i NE)

@@ -1,3 +1,2 @@
--- The bounds that the steps ask for, and a new patch with a neighbour.
+-- The bounds that the steps ask for.
 pub mod Small
-pub mod LinkBy

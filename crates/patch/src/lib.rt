@@ -1,4 +1,3 @@
-// The steps of a change on the words of a table: patches linked in and taken out, and flags worked out anew.
-pub mod anew;
+// The steps of a change on the words of a table: patches linked in and taken out.
 pub mod freed;
 pub mod links;

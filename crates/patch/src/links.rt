@@ -7,7 +7,7 @@ ghost use Rattle.mesh.specs.Winds.{winds};
 ghost use Rattle.mesh.specs.Picture.{rowWords};
 ghost use Rattle.table.specs.Plain.{Plain};
 ghost use Rattle.edit_laws.specs.PatchSteps.{putUnlessNil, placeIn, linkIn, dropSide, takeOut};
-ghost use Rattle.patch.specs.LinkBy.{linkBy};
+ghost use Rattle.edit_laws.specs.LinkBy.{linkBy};
 ghost use Rattle.patch.specs.Small.{Small};
 use table::plain;
 use table::plain::link;
@@ -16,8 +16,6 @@ use table::words::INDEX_I;
 use table::words::INDEX_J;
 use table::words::PARENT;
 use table::words::word;
-use table::worked::kid_word;
-use table::worked::side_by;
 use table::writes::clear_row;
 use table::writes::put;
 use table::writes::put_level;
@@ -25,6 +23,8 @@ use winds::E;
 use winds::N;
 use winds::S;
 use winds::W;
+use worked::kid_word;
+use worked::side_by;
 
 // Writes x as the word w of the row n, unless n is 0.
 fn put_unless_nil(t: &mut [i32], n: usize, w: usize, x: u32)

@@ -13,8 +13,8 @@ use Rattle.mesh.specs.Call as Call
 use Rattle.mesh.specs.Call.{unless, over, wrote, writing}
 use Rattle.mesh.specs.Program.{headChecks, tapePage, program, programCall}
 use Rattle.call_laws.proofs.Rowed.{leaves-few}
-use Rattle.grid.specs.declared.Wrote.{Wrote}
-use Rattle.grid.specs.Calls.{wroteOf}
+use Rattle.output.specs.declared.Wrote.{Wrote}
+use Rattle.output.specs.OutputLists.{wroteOf}
 use Rattle.program.proofs.LineLengths.{refused-long, page-long}
 use Rattle.program.proofs.PrintedTape.{ran, ran-valid}
 

@@ -6,7 +6,7 @@ use mathlib.Core.Path.{_≡_}
 use mathlib.Core.List.{List}
 use contract.Lifetimes.{Lfts}
 use denote.Ref.{RefT, at-last}
-use Rattle.grid.specs.declared.Wrote.{Wrote}
+use Rattle.output.specs.declared.Wrote.{Wrote}
 use Rattle.grid.proofs.Unique.{wrote-unique}
 use Rattle.program.proofs.print.Reads as print
 

@@ -7,8 +7,7 @@ ghost use Rattle.mesh.specs.Refusal.{refusal};
 ghost use Rattle.mesh.specs.Program.{refusedLine, programCall, inputChecks};
 ghost use Rattle.mesh.specs.Call.{writing};
 ghost use Rattle.lines.specs.Puts.{Put};
-ghost use Rattle.grid.specs.Calls.{wroteOf};
-use grid::Wrote;
+ghost use Rattle.output.specs.OutputLists.{wroteOf};
 use header::OPEN;
 use header::fresh;
 use input::head_refusal;
@@ -17,6 +16,7 @@ use lines::numerals::put_byte;
 use lines::numerals::put_decimal;
 use lines::numerals::put_number;
 use lines::numerals::put_text;
+use output::Wrote;
 use table::words::ROW_WORDS;
 
 const CAPACITY: u32 = 1000;

@@ -20,7 +20,7 @@ use Rattle.mesh.specs.Winds.{wordOfWind}
 use Rattle.mesh.specs.Picture.{parentWord, neWord, seWord, swWord, nwWord, northWord, eastWord, southWord, westWord, levelWord, iWord, jWord, flagsWord, freeFlags, linkWords}
 use Rattle.table.specs.Plain.{Sized}
 use Rattle.table.specs.Words.{wordOf, linkOf, depthOf}
-use Rattle.table.specs.Worked.{kidWord, sideBy, sideOf, downTo, sideIn}
+use Rattle.worked.specs.Worked.{kidWord, sideBy, sideOf, downTo, sideIn}
 use Rattle.table.proofs.LinkRanges.{link-within, link-word}
 use Rattle.place_laws.proofs.Bools.{and-left, and-right, is-yes, yes-is}
 use Rattle.place_laws.proofs.SideDigits.{aside}

@@ -9,7 +9,7 @@ use lib.IntN.{ℤ, pos, subℕ}
 use Rattle.mesh.specs.Place.{N, E, S, W}
 use Rattle.mesh.specs.Picture.{rowWords}
 use Rattle.table.specs.Words.{code, wordOf, depthFrom, depthOf}
-use Rattle.table.specs.Worked.{kidWord}
+use Rattle.worked.specs.Worked.{kidWord}
 use Rattle.table.proofs.LinkRanges.{depth-back, level-of}
 use Rattle.table_laws.proofs.LinkedRows.{kid-word-lt}
 use Rattle.edit_laws.specs.PatchSteps.{putWord, placeIn, linkIn}

@@ -27,7 +27,7 @@ use Rattle.number_laws.proofs.NumberedPlaces.{valid-numbered, number-place, num
 use Rattle.table_laws.proofs.Pictured.{nil-words, free-flags, sentenced-flag}
 use Rattle.table_laws.proofs.LinkedRows.{kids-every, link-kid-of}
 use Rattle.table_laws.proofs.FlaggedRows.{cell-of}
-use Rattle.refusals.specs.Decide.{parental, kidsSentenced}
+use Rattle.asks.specs.Asks.{parental, kidsSentenced}
 
 module _ (s : State) (v : Valid s) where
   abbrev g : Grid

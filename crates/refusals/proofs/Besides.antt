@@ -28,7 +28,7 @@ use Rattle.level_laws.proofs.Eight.{finer-eight}
 use Rattle.number_laws.proofs.NumberedPlaces.{valid-numbered, number-place, place-number}
 use Rattle.table_laws.proofs.Pictured.{flag-of}
 use Rattle.table_laws.proofs.LinkedRows.{link-side, link-nil, link-kid}
-use Rattle.refusals.specs.Decide.{parental, besideKid, finerRound}
+use Rattle.asks.specs.Asks.{parental, besideKid, finerRound}
 use Rattle.refusals.proofs.AskedRows.{cell-numbered, kid-numbered, parental-row}
 
 module _ (s : State) (v : Valid s) where

@@ -13,7 +13,7 @@ use Rattle.mesh.specs.Valid.{Valid}
 use Rattle.mesh.specs.Picture.{table}
 use Rattle.mesh.specs.Request.{wanted, missing}
 use Rattle.table.specs.Words.{linkOf}
-use Rattle.table.specs.Worked.{kidWord}
+use Rattle.worked.specs.Worked.{kidWord}
 use Rattle.place_laws.proofs.Lists.{count-map}
 use Rattle.place_laws.proofs.Steps.{step-north, step-east}
 use Rattle.place_laws.proofs.SideDigits.{kidBy}
@@ -21,7 +21,7 @@ use Rattle.place_laws.proofs.Near.{c-east}
 use Rattle.place_laws.proofs.Tree.{corner-patch}
 use Rattle.place_laws.proofs.Counting.{length-keep}
 use Rattle.table_laws.proofs.LinkedRows.{patch-numbered, link-side, link-kid-of, kid-link}
-use Rattle.refusals.specs.Decide.{wantedRows, lacking}
+use Rattle.asks.specs.Asks.{wantedRows, lacking}
 
 module _ (s : State) (v : Valid s) (n : ℕ) (p : Place) (h : placeOf (entry (s .entries) n) ≡ some p) (here : T (cells (s .entries) p)) where
   abbrev g : Grid

@@ -4,6 +4,7 @@ pub mod Besides
 pub mod Lacking
 pub mod CountedFree
 pub mod OtherGround
+pub mod LevelWords
 pub mod Refusing
 pub mod OneRow
 pub mod Arms

@@ -29,7 +29,7 @@ use Rattle.number_laws.proofs.ByPlace.{cells-held}
 use Rattle.number_laws.proofs.Naming.{Named}
 use Rattle.table_laws.proofs.LinkedRows.{patch-numbered, link-kid-of}
 use Rattle.table_laws.proofs.FlaggedRows.{cell-of}
-use Rattle.refusals.specs.Decide.{otherUnder}
+use Rattle.asks.specs.Asks.{otherUnder}
 
 -- one of four, in another order
 ordered : (x y z u : Bool) → (z || (y || (u || (x || false)))) ≡ (x || (y || (z || (u || false))))

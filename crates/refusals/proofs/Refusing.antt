@@ -1,6 +1,7 @@
 -- The refusals that are decided on the rows of a valid state's picture are the rules'.
 -- Assumes nothing.
-use Prim.Native.Nat.{ℕ, _+_}
+use Prim.Native.Nat.{ℕ, _+_, _≤_}
+use native.Mathlib.Omega.{arith}
 use mathlib.Core.Path.{_≡_, refl, sym, ap, _∙_}
 use mathlib.Core.Bool.{Bool, true, false, not, cond}
 use mathlib.Core.Option.{Option, some}
@@ -14,23 +15,25 @@ use Rattle.mesh.specs.Mesh.{hasKids, sentencedBit}
 use Rattle.mesh.specs.Jump.{coarseBeside, finerBeside}
 use Rattle.mesh.specs.State.{State, Entry, Cell, placeOf, isUsed, entry, cells, placeAt, gridOf, capacity, contents}
 use Rattle.mesh.specs.Valid.{Valid}
-use Rattle.mesh.specs.Picture.{table}
+use Rattle.mesh.specs.Picture.{levelWord, table}
 use Rattle.mesh.specs.Refusal.{Check, _if_, refusal}
 use Rattle.mesh.specs.Deed.{held, heldSentenced, no7}
 use Rattle.mesh.specs.Request.{refine, sentence, remove, kill, setValue, looseChecks, checks, no6}
-use Rattle.table.specs.Words.{depthOf, flagOf}
+use Rattle.table.specs.Words.{wordOf, depthOf, flagOf}
 use Rattle.place_laws.proofs.Bools.{is-yes}
 use Rattle.number_laws.proofs.NumberedPlaces.{valid-numbered}
 use Rattle.number_laws.proofs.ByPlace.{cells-held}
 use Rattle.number_laws.proofs.Naming.{Named, named, contents-under}
 use Rattle.table_laws.proofs.LinkedRows.{depth-of}
 use Rattle.table_laws.proofs.TakenRows.{taken-row}
-use Rattle.refusals.specs.Decide.{parental, row6, row7, refineRows, sentenceRows, removeRows, killRows, setRows, refineRefusal, sentenceRefusal, removeRefusal, killRefusal, setRefusal}
+use Rattle.asks.specs.Asks.{parental}
+use Rattle.refusals.specs.Decide.{row6, row7, refineRows, sentenceRows, removeRows, killRows, setRows, refineRefusal, sentenceRefusal, removeRefusal, killRefusal, setRefusal}
 use Rattle.refusals.proofs.AskedRows.{cell-row, sentenced-row, parental-row, kids-sentenced-row}
 use Rattle.refusals.proofs.Besides.{coarse-row, finer-row}
 use Rattle.refusals.proofs.Lacking.{lacking-row}
 use Rattle.refusals.proofs.CountedFree.{free-total}
 use Rattle.refusals.proofs.OtherGround.{other-row}
+use Rattle.refusals.proofs.LevelWords.{level-says}
 
 -- ---- one check after the other
 
@@ -76,27 +79,31 @@ module _ (s : State) (v : Valid s) (n : ℕ) where
     sentenced-there : flagOf (table s) sentencedBit n ≡ heldSentenced (contents es) (placeAt es n)
     sentenced-there = sentenced-row s v n ∙ sym (ap (λ (o : Option Cell). orElse false (λ x. x .sentenced) o) (contents-under s v n (ap isUsed (d .is-entry))))
 
-    depth-there : (k : ℕ) → eqb (depthOf (table s) (base g) n) k ≡ eqb (placeAt es n .depth) k
-    depth-there k = rw (depth-of s v n (placeAt es n) stands-there)
+    level-there : (k : ℕ) → k ≤ 12 → eqb (wordOf (table s) n levelWord) k ≡ eqb (placeAt es n .depth) (base g + k)
+    unfolding depthOf
+    level-there k l = level-says (base g) (wordOf (table s) n levelWord) k l ∙ ap (λ (e : ℕ). eqb e (base g + k)) (depth-of s v n (placeAt es n) stands-there)
+
+    ground-there : eqb (wordOf (table s) n levelWord) 0 ≡ eqb (placeAt es n .depth) (base g)
+    ground-there = let e : base g + 0 ≡ base g = omega arith in level-there 0 (omega arith) ∙ ap (eqb (placeAt es n .depth)) e
 
   -- ---- the five kinds
 
-  pub refine-refusal : refineRefusal (table s) (capacity s) (base (gridOf s)) n ≡ refusal (checks s (refine n))
+  pub refine-refusal : refineRefusal (table s) (capacity s) n ≡ refusal (checks s (refine n))
   unfolding refineRefusal looseChecks checks
   refine-refusal =
-      alike-refusal (refineRows (table s) (capacity s) (base g) n) (checks s (refine n)) (opened (λ d.
+      alike-refusal (refineRows (table s) (capacity s) n) (checks s (refine n)) (opened (λ d.
       next (kids-there d) (λ _.
-      next (depth-there d (base g + 12)) (λ _.
+      next (level-there d 12 (omega arith)) (λ _.
       next (sentenced-there d) (λ _.
       next (coarse-row s v n (placeAt es n) (stands-there d) (d .is-there) ∙ by-place (λ c. coarseBeside g c (placeAt es n))) (λ _.
       next (rw (free-total s v, lacking-row s v n (placeAt es n) (stands-there d) (d .is-there))) (λ _. rest)))))))
 
-  pub sentence-refusal : sentenceRefusal (table s) (capacity s) (base (gridOf s)) n ≡ refusal (checks s (sentence n))
+  pub sentence-refusal : sentenceRefusal (table s) (capacity s) n ≡ refusal (checks s (sentence n))
   unfolding sentenceRefusal looseChecks checks
   sentence-refusal =
-      alike-refusal (sentenceRows (table s) (capacity s) (base g) n) (checks s (sentence n)) (opened (λ d.
+      alike-refusal (sentenceRows (table s) (capacity s) n) (checks s (sentence n)) (opened (λ d.
       next (kids-there d) (λ _.
-      next (depth-there d (base g)) (λ _. rest))))
+      next (ground-there d) (λ _. rest))))
 
   pub remove-refusal : removeRefusal (table s) (capacity s) n ≡ refusal (checks s (remove n))
   unfolding removeRefusal looseChecks checks
@@ -110,7 +117,7 @@ module _ (s : State) (v : Valid s) (n : ℕ) where
   unfolding killRefusal looseChecks checks
   kill-refusal =
       alike-refusal (killRows (table s) (capacity s) (base g) n) (checks s (kill n)) (opened (λ d.
-      next (ap not (depth-there d (base g))) (λ _.
+      next (ap not (ground-there d)) (λ _.
       next (kids-there d) (λ _.
       next (ap not (other-row s v n d)) (λ _. rest)))))
 

@@ -1,4 +1,3 @@
 // What a request is refused for, decided on the words of a table; and the two requests that change one row alone.
-pub mod asks;
 pub mod one_row;
 pub mod requests;

@@ -1,4 +1,4 @@
-// The refusal of each kind of request, 0 for none, by the checks of 01 and of 02, No. 1, in their order; d is the depth of level 0.
+// The refusal of each kind of request, 0 for none, by the checks of 01 and of 02, No. 1, in their order.
 ghost use mathlib.Core.Path.{_≡_};
 ghost use mathlib.Core.List.{[], _∷_};
 ghost use Prim.Native.Nat.{_≤_};
@@ -6,18 +6,19 @@ ghost use Rattle.mesh.specs.Refusal.{_if_, refusal};
 ghost use Rattle.table.specs.Plain.{Plain, Sized};
 ghost use Rattle.free.specs.Free.{freeTotal};
 ghost use Rattle.refusals.specs.Decide.{row6, row7, refineRefusal, sentenceRefusal, removeRefusal, killRefusal, setRefusal};
-use crate::asks::finer_round;
-use crate::asks::has_kids;
-use crate::asks::kids_sentenced;
-use crate::asks::lack_count;
-use crate::asks::other_under;
+use asks::finer_round;
+use asks::has_kids;
+use asks::kids_sentenced;
+use asks::lack_count;
+use asks::other_under;
 use carried::values::is_finite;
 use table::flag_bits::COMPLETE;
 use table::flag_bits::GRN_CELL;
 use table::flag_bits::SENTENCED;
-use table::words::depth;
+use table::words::LEVEL;
 use table::words::flag;
 use table::words::is_taken;
+use table::words::says;
 
 // The two checks that every kind begins with: the number is that of a patch, and the patch is a cell.
 fn cell_refusal(t: &[i32], cap: usize, n: usize) -> u32
@@ -41,9 +42,9 @@ fn room_refusal(green: bool, full: bool) -> u32
 }
 
 // With the count of the free numbers.
-pub fn refine_refusal(t: &[i32], cap: usize, d: u32, n: usize, spare: usize) -> u32
-    requires { ⌜ Plain (now t) cap × (d ≤ 32) × (spare ≡ freeTotal (now t)) ⌝ }
-    ensures { λ r. ⌜ r ≡ refineRefusal (now (t .entry)) cap d n ⌝ }
+pub fn refine_refusal(t: &[i32], cap: usize, n: usize, spare: usize) -> u32
+    requires { ⌜ Plain (now t) cap × (spare ≡ freeTotal (now t)) ⌝ }
+    ensures { λ r. ⌜ r ≡ refineRefusal (now (t .entry)) cap n ⌝ }
 {
     let r = cell_refusal(t, cap, n);
     if r != 0 {
@@ -52,7 +53,7 @@ pub fn refine_refusal(t: &[i32], cap: usize, d: u32, n: usize, spare: usize) -> 
     if has_kids(t, cap, n) {
         return 8;
     }
-    if depth(t, d, n) == d + 12 {
+    if says(t, n, LEVEL, 12) {
         return 9;
     }
     if table::plain::flag(t, cap, SENTENCED, n) {
@@ -64,9 +65,9 @@ pub fn refine_refusal(t: &[i32], cap: usize, d: u32, n: usize, spare: usize) -> 
     )
 }
 
-pub fn sentence_refusal(t: &[i32], cap: usize, d: u32, n: usize) -> u32
-    requires { ⌜ Sized (now t) cap × (d ≤ 32) ⌝ }
-    ensures { λ r. ⌜ r ≡ sentenceRefusal (now (t .entry)) cap d n ⌝ }
+pub fn sentence_refusal(t: &[i32], cap: usize, n: usize) -> u32
+    requires { ⌜ Sized (now t) cap ⌝ }
+    ensures { λ r. ⌜ r ≡ sentenceRefusal (now (t .entry)) cap n ⌝ }
 {
     let r = cell_refusal(t, cap, n);
     if r != 0 {
@@ -75,7 +76,7 @@ pub fn sentence_refusal(t: &[i32], cap: usize, d: u32, n: usize) -> u32
     if has_kids(t, cap, n) {
         return 8;
     }
-    if depth(t, d, n) == d { 12 } else { 0 }
+    if says(t, n, LEVEL, 0) { 12 } else { 0 }
 }
 
 pub fn remove_refusal(t: &[i32], cap: usize, n: usize) -> u32
@@ -95,6 +96,7 @@ pub fn remove_refusal(t: &[i32], cap: usize, n: usize) -> u32
     if finer_round(t, cap, n) { 22 } else { 0 }
 }
 
+// With the depth of level 0.
 pub fn kill_refusal(t: &[i32], cap: usize, d: u32, n: usize) -> u32
     requires { ⌜ Sized (now t) cap × (1 ≤ cap) × (d ≤ 32) ⌝ }
     ensures { λ r. ⌜ r ≡ killRefusal (now (t .entry)) cap d n ⌝ }
@@ -103,7 +105,7 @@ pub fn kill_refusal(t: &[i32], cap: usize, d: u32, n: usize) -> u32
     if r != 0 {
         return r;
     }
-    if depth(t, d, n) != d {
+    if !says(t, n, LEVEL, 0) {
         return 12;
     }
     if has_kids(t, cap, n) {

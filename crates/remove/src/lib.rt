@@ -16,11 +16,11 @@ use patch::freed::free_row;
 use table::plain::link;
 use table::words::EAST;
 use table::words::NORTH;
-use table::worked::touched;
 use winds::NE;
 use winds::NW;
 use winds::SE;
 use winds::SW;
+use worked::touched;
 
 // A patch from level 0 up that no cell touches goes.
 fn drop_untouched(t: &mut [i32], cap: usize, map: &mut [u64; 64], s: Spare, n: usize) -> Spare

@@ -1,8 +1,10 @@
--- A permutation of the words 1 to 4 has no other words: it has four, and each of the four is among them.
+-- Orders: a permutation of the words 1 to 4 has no other words, since it has four and each of the four is among them; and one of any length as four
+-- bytes.
 -- Assumes nothing.
 use Prim.Native.Nat.{ℕ, zero, suc, _+_, _≤_}
 use native.Mathlib.Omega.{arith}
 use mathlib.Core.Path.{_≡_, refl, sym, ap}
+use mathlib.Core.Logic.{_≢_}
 use mathlib.Core.Bool.{Bool, true, false, _&&_, _||_, cond, or-false}
 use mathlib.Core.List.{List, [], _∷_}
 use lib.Dec.{T, eqb, eqb→eq}
@@ -10,9 +12,10 @@ use lib.ListN.{length, getD}
 use borrow.Author.Tests.{ne-eqb, eq-eqb}
 use Rattle.mesh.specs.Tools.{any, all, count}
 use Rattle.mesh.specs.Scan.{permutation}
-use Rattle.place_laws.proofs.Bools.{and-left, and-right}
+use Rattle.place_laws.proofs.Bools.{no-is, and-left, and-right}
 use Rattle.place_laws.proofs.Counting.{count-some}
 use Rattle.walk.specs.WalkRows.{kidsWord}
+use Rattle.scan.specs.FourBytes.{fourOf}
 
 -- a word is one of the four at most
 one-word : (w : ℕ) → cond (eqb 1 w) 1 0 + cond (eqb 2 w) 1 0 + cond (eqb 3 w) 1 0 + cond (eqb 4 w) 1 0 ≤ cond (kidsWord w) 1 0
@@ -83,3 +86,19 @@ module _ (o : List ℕ) (l : length o ≡ 4) where
 
   pub permutation-four : {a b c d : Bool} → a ≡ any (eqb 1) o → b ≡ any (eqb 2) o → c ≡ any (eqb 3) o → d ≡ any (eqb 4) o → (a && (b && (c && d))) ≡ permutation o
   permutation-four e f g h = rw (eq-eqb (length o) 4 l, e, f, g, h)
+
+-- ---- an order of any length as four bytes
+
+pub four-none : (o : List ℕ) → length o ≢ 4 → 0 ∷ 0 ∷ 0 ∷ 0 ∷ [] ≡ fourOf o
+four-none o h = rw (no-is (eqb (length o) 4) (λ t. h (eqb→eq (length o) 4 t)))
+
+pub four-bytes : (o : List ℕ) → length o ≡ 4 → getD o 0 0 ∷ getD o 1 0 ∷ getD o 2 0 ∷ getD o 3 0 ∷ [] ≡ fourOf o
+four-bytes o l = rw (eq-eqb (length o) 4 l) (go o l)
+  where
+    go : (o : List ℕ) → length o ≡ 4 → getD o 0 0 ∷ getD o 1 0 ∷ getD o 2 0 ∷ getD o 3 0 ∷ [] ≡ o
+    go [] l = absurd (omega (arith, l))
+    go (a ∷ []) l = absurd (omega (arith, l))
+    go (a ∷ b ∷ []) l = absurd (omega (arith, l))
+    go (a ∷ b ∷ c ∷ []) l = absurd (omega (arith, l))
+    go (a ∷ b ∷ c ∷ d ∷ []) l = refl
+    go (a ∷ b ∷ c ∷ d ∷ e ∷ o) l = absurd (omega (arith, l))

@@ -20,11 +20,13 @@ use Rattle.table.proofs.Taken.{taken-within}
 use Rattle.place_laws.proofs.Bools.{is-yes, and-right, neither}
 use Rattle.number_laws.proofs.Checks.{passes, kept}
 use Rattle.walk.specs.WalkRows.{kidsWord, rowWalk}
-use Rattle.scan.specs.ScanRows.{scans, levelOf, startChecks, rowScan, rowScanOut, written}
-use Rattle.scan.specs.Written.{Wrote}
+use Rattle.listing.specs.ListedRows.{scans}
+use Rattle.scan.specs.ScanRows.{levelOf, startChecks, rowScan, rowScanOut}
+use Rattle.output.specs.OutputLists.{wroteOf}
+use Rattle.listing.specs.Written.{WroteWhatFits}
 use Rattle.scan.proofs.OrderWords.{permutation-length, permutation-words}
 use Rattle.scan.proofs.LevelsBetween.{not-below, level-trans}
-use Rattle.scan.proofs.Writing.{wrote-whole}
+use Rattle.listing.proofs.Writing.{wrote-whole}
 
 -- what a scan that is not refused by 6 or 17 has
 pub record Open (t : List ℤ) (cap n : ℕ) (o : List ℕ) (k : ℕ) (to : ℤ) : Type 0 where
@@ -83,24 +85,24 @@ module _ (t : List ℤ) (cap n : ℕ) (o : List ℕ) (k : ℕ) (from to : ℤ) w
     abbrev xs : List ℕ
     xs = rowScan t cap d n o k from to
 
-    pub refused-scan : (r : ℕ) → r ≡ refusal start → r ≢ 0 → written (record { refusal = r; count = 0 }) out ≡ rowScanOut t cap d n o k from to out
+    pub refused-scan : (r : ℕ) → r ≡ refusal start → r ≢ 0 → wroteOf (record { refusal = r; count = 0 }) out ≡ rowScanOut t cap d n o k from to out
     unfolding rowScanOut unless
     refused-scan r e z =
         let s : refusal (start ++ (no18 (length out) xs ∷ [])) ≡ r = kept start (no18 (length out) xs ∷ []) (λ h. z (e ∙ h)) ∙ sym e in
         rw s (go r z)
       where
-        go : (r : ℕ) → r ≢ 0 → written (record { refusal = r; count = 0 }) out ≡ wrote r xs out
+        go : (r : ℕ) → r ≢ 0 → wroteOf (record { refusal = r; count = 0 }) out ≡ wrote r xs out
         go zero z = absurd (z refl)
         go (suc r) z = refl
 
     module _ (e : refusal start ≡ 0) where
-      pub short-scan : leb (length xs) (length out) ≡ false → written (record { refusal = 18; count = 0 }) out ≡ rowScanOut t cap d n o k from to out
+      pub short-scan : leb (length xs) (length out) ≡ false → wroteOf (record { refusal = 18; count = 0 }) out ≡ rowScanOut t cap d n o k from to out
       unfolding rowScanOut refusal unless
       short-scan h =
           let (x, y) = passed e in
           rw (x, y, lt-ltb (length out) (length xs) (leb-false (length xs) (length out) h))
 
-      pub whole-scan : leb (length xs) (length out) ≡ true → (g : List ℕ) (q : ℕ) → Wrote out 0 xs g q → written (record { refusal = 0; count = q }) g ≡ rowScanOut t cap d n o k from to out
+      pub whole-scan : leb (length xs) (length out) ≡ true → (g : List ℕ) (q : ℕ) → WroteWhatFits out 0 xs g q → wroteOf (record { refusal = 0; count = q }) g ≡ rowScanOut t cap d n o k from to out
       unfolding rowScanOut refusal unless
       whole-scan h g q w =
           let (x, y) = passed e in

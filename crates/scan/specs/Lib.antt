@@ -1,3 +1,3 @@
--- Scan by the rows of a table, and a list written as far as it fits.
+-- Scan by the rows of a table, and its order.
+pub mod FourBytes
 pub mod ScanRows
-pub mod Written

@@ -1,51 +1,20 @@
--- Scan as the code meets the rows, and what it answers past the first checks.
+-- What a scan answers past the first checks, by the rows of a table.
 -- Assumes nothing.
-use Prim.Native.Nat.{ℕ, _+_, _*_}
-use mathlib.Core.Bool.{Bool, _&&_, _||_}
-use mathlib.Core.List.{List, [], _∷_, _++_}
-use lib.Dec.{eqb, leb}
-use lib.ListN.{getD}
-use lib.IntN.{ℤ, pos}
-use lib.Signed.{leZ}
-use Rattle.mesh.specs.Picture.{rowWords, levelWord}
-use Rattle.mesh.specs.Mesh.{completeBit, wallHBit, wallVBit}
-use Rattle.table.specs.Words.{flagOf, depthOf}
-use Rattle.walk.specs.WalkRows.{leafRow, rowWalk}
 use Prim.Native.Nat.{ℕ, _+_, _*_, _≤_}
 use mathlib.Core.Path.{_≡_}
 use mathlib.Core.Bool.{not, _&&_, _||_}
 use mathlib.Core.List.{List, [], _∷_, _++_}
-use lib.Dec.{eqb, leb}
+use lib.Dec.{leb}
 use lib.ListN.{length, getD}
 use lib.IntN.{ℤ, pos, _-ℤ_, natAbs}
 use lib.Signed.{ltZ}
-use Rattle.mesh.specs.Picture.{rowWords}
+use Rattle.mesh.specs.Picture.{rowWords, levelWord}
 use Rattle.mesh.specs.Refusal.{Check, _if_, refusal}
 use Rattle.mesh.specs.Scan.{permutation, no18}
 use Rattle.mesh.specs.Call.{Wrote, wrote}
 use Rattle.table.specs.Words.{taken}
-use Rattle.scan.specs.declared.ScanOut.{ScanOut}
-
--- "for levels from-level to to-level": the row's level is not below from
-unfoldable pub fromLevel : List ℤ → ℤ → ℕ → Bool
-fromLevel t from n = leZ from (getD t (n * rowWords + levelWord) (pos 0))
-
-module _ (t : List ℤ) (cap d : ℕ) where
-  -- "1 patches, 2 cells, 3 leaves, 4 H-walls, 5 V-walls, 6 points (levels 0 up)"
-  unfoldable pub listedRow : ℕ → ℕ → Bool
-  listedRow k n =
-      eqb k 1 ||
-      ((eqb k 2 && flagOf t completeBit n) ||
-      ((eqb k 3 && leafRow t cap n) ||
-      ((eqb k 4 && flagOf t wallHBit n) ||
-      ((eqb k 5 && flagOf t wallVBit n) ||
-      (eqb k 6 && leb d (depthOf t d n))))))
-
-  -- what a scan of the kind k lists from the level from on
-  abbrev pub scans : ℤ → ℕ → ℕ → Bool
-  scans from k n = fromLevel t from n && listedRow k n
-
--- ---- the call
+use Rattle.walk.specs.WalkRows.{rowWalk}
+use Rattle.listing.specs.ListedRows.{scans}
 
 module _ (t : List ℤ) where
   -- the level that a row's word says
@@ -72,7 +41,3 @@ module _ (t : List ℤ) where
     -- and 18: "output too short"
     unfoldable pub rowScanOut : List ℕ → Wrote
     rowScanOut out = wrote (refusal (startChecks cap n o k from to ++ (no18 (length out) rowScan ∷ []))) rowScan out
-
--- the answer and the output, as the call's definition puts them together
-abbrev pub written : ScanOut → List ℕ → Wrote
-written r out = record { refusal = r .refusal; count = r .count; out = out }

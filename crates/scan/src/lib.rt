@@ -1,6 +1,4 @@
 // Scan as a call that passed the first checks: refused by a number, or the numbers written.
-pub mod rows;
-
 ghost use mathlib.Core.Path.{_≡_};
 ghost use Prim.Native.Nat.{_+_, _≤_};
 ghost use lib.Dec.{T, eqb, leb};
@@ -12,19 +10,27 @@ ghost use Rattle.mesh.specs.Refusal.{refusal};
 ghost use Rattle.mesh.specs.Scan.{permutation};
 ghost use Rattle.table.specs.Plain.{Sized};
 ghost use Rattle.walk.specs.WalkRows.{kidsWord, rowWalk};
-ghost use Rattle.scan.specs.ScanRows.{scans, startChecks, Few, rowScanOut, written};
+ghost use Rattle.output.specs.OutputLists.{wroteOf};
+ghost use Rattle.listing.specs.ListedRows.{scans};
+ghost use Rattle.scan.specs.FourBytes.{fourOf};
+ghost use Rattle.scan.specs.ScanRows.{startChecks, Few, rowScanOut};
 ghost use Rattle.walk.specs.Walkable.{Walkable};
-use crate::rows::count_rows;
-use crate::rows::scan_rows;
+use listing::count_rows;
+use listing::scan_rows;
+use output::Wrote;
 use table::words::LEVEL;
 use table::words::coded;
 use table::words::is_taken;
 use table::words::raw;
 
-// What came of a scan: a refusal or 0, and how many numbers were written.
-pub struct ScanOut {
-    pub refusal: u32,
-    pub count: usize,
+// The order as four bytes; a list of another length is no permutation, and neither are four zeros.
+pub fn four(order: &[u8]) -> [u8; 4]
+    ensures { λ r. ⌜ r ≡ fourOf (now (order .entry)) ⌝ }
+{
+    if order.len() != 4 {
+        return [0, 0, 0, 0];
+    }
+    [order[0], order[1], order[2], order[3]]
 }
 
 // Whether the word w is one of the order's.
@@ -115,23 +121,23 @@ pub fn scan_out(
     from: i32,
     to: i32,
     out: &mut [u16],
-) -> ScanOut
+) -> Wrote
     requires { ⌜ Walkable (now t) cap d × Few (now t) cap d start order kind from to ⌝ }
-    ensures { λ r. ⌜ written r (now (out .exit)) ≡ rowScanOut (now (t .entry)) cap d start order kind from to (now (out .entry)) ⌝ }
+    ensures { λ r. ⌜ wroteOf r (now (out .exit)) ≡ rowScanOut (now (t .entry)) cap d start order kind from to (now (out .entry)) ⌝ }
 {
     let n = start as usize;
     let refusal = scan_refusal(t, cap, n, order, kind, from, to);
     if refusal != 0 {
-        return ScanOut { refusal, count: 0 };
+        return Wrote { refusal, count: 0 };
     }
     let left = levels(raw(t, n, LEVEL), to);
     let k = kind as u8;
     if !has_room(t, cap, d, n, left, &order, k, from, out.len()) {
-        return ScanOut {
+        return Wrote {
             refusal: 18,
             count: 0,
         };
     }
     let count = scan_rows(t, cap, d, n, left, &order, k, from, out);
-    ScanOut { refusal: 0, count }
+    Wrote { refusal: 0, count }
 }

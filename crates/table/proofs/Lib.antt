@@ -2,11 +2,6 @@
 pub mod Signed
 pub mod Unsigned
 pub mod Tests
-pub mod FourFlags
-pub mod Paired
-pub mod Offsets
 pub mod LinkRanges
-pub mod KidlessRows
-pub mod Downs
 pub mod PutRows
 pub mod Taken

@@ -1,8 +1,9 @@
--- A row that is written word by word.
+-- A row that is written word by word, and what is read within a list.
 -- Assumes nothing.
-use mathlib.Core.Path.{_≡_}
-use mathlib.Core.List.{List}
-use Prim.Native.Nat.{ℕ, _+_, _*_, _≤_, _<_}
+use mathlib.Core.Path.{_≡_, refl}
+use mathlib.Core.List.{List, [], _∷_}
+use Prim.Native.Nat.{ℕ, zero, suc, _+_, _*_, _≤_, _<_}
+use native.Mathlib.Nat.{le-of-suc-le-suc, not-suc-le-zero}
 use native.Mathlib.Omega.{arith}
 use native.Mathlib.Numerals.{add-one}
 use lib.ListN.{length, set, getD}
@@ -20,3 +21,9 @@ unfolding putRow
 pasted-all d n s j h e =
     let k : length s ≤ rowWords = omega arith in
     rw (e, take-all rowWords s k)
+
+-- within a list the default plays no part
+pub getD-any : {A : Type 0} (l : List A) (n : ℕ) (d e : A) → n < length l → getD l n d ≡ getD l n e
+getD-any [] n d e h = absurd (not-suc-le-zero h)
+getD-any (x ∷ l) zero d e h = refl
+getD-any (x ∷ l) (suc n) d e h = getD-any l n d e (le-of-suc-le-suc h)

@@ -1,6 +1,4 @@
 -- What a lent table says, row by row, whatever stands in it, and what a write makes of it.
-pub mod FlagDigits
 pub mod Words
-pub mod Worked
 pub mod Writes
 pub mod Plain

@@ -6,7 +6,7 @@ ghost use lib.ListN.{length, getD};
 ghost use lib.IntN.{pos};
 ghost use Rattle.mesh.specs.Picture.{rowWords};
 ghost use Rattle.table.specs.Plain.{Sized};
-ghost use Rattle.table.specs.Words.{code, wordOf, linkOf, flagOf, freeAt, taken, depthFrom, depthOf};
+ghost use Rattle.table.specs.Words.{code, wordOf, linkOf, flagOf, freeAt, taken};
 use crate::flag_bits::FREE;
 
 // The words of a row.
@@ -132,25 +132,4 @@ pub fn is_taken(t: &[i32], cap: usize, n: usize) -> bool
         return false;
     }
     !is_free(t, n)
-}
-
-// The depth that a level's word says, with level 0 at depth d.
-fn depth_from(d: u32, x: i32) -> u32
-    requires { ⌜ d ≤ 32 ⌝ }
-    ensures { λ r. ⌜ (r < 2147483680) × (r ≡ depthFrom d (code x)) ⌝ }
-{
-    if x >= 0 {
-        return x as u32 + d;
-    }
-    let y = !x;
-    let below = y as u32;
-    if below < d { d - 1 - below } else { d + 13 }
-}
-
-// The depth of the row n.
-pub fn depth(t: &[i32], d: u32, n: usize) -> u32
-    requires { ⌜ (n * rowWords + rowWords ≤ length (now t)) × (d ≤ 32) ⌝ }
-    ensures { λ r. ⌜ (r < 2147483680) × (r ≡ depthOf (now (t .entry)) d n) ⌝ }
-{
-    depth_from(d, raw(t, n, LEVEL))
 }

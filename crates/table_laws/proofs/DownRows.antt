@@ -17,7 +17,7 @@ use Rattle.mesh.specs.State.{Entry, number, numberOf}
 use Rattle.place_laws.proofs.Places.{place-path}
 use Rattle.place_laws.proofs.SideDigits.{kidBy}
 use Rattle.table.specs.Words.{linkOf}
-use Rattle.table.specs.Worked.{kidWord, downTo}
+use Rattle.worked.specs.Worked.{kidWord, downTo}
 
 -- kid words name the kids, those of the nil patch none
 abbrev pub KidsNamed : List ℤ → ℕ → List Entry → Type 0

@@ -19,7 +19,7 @@ use Rattle.mesh.specs.State.{State, Entry, nil, free, used, Cell, placeOf, isSe
 use Rattle.mesh.specs.Valid.{Valid}
 use Rattle.mesh.specs.Picture.{table}
 use Rattle.table.specs.Words.{wordOf, linkOf, flagOf}
-use Rattle.table.specs.Worked.{boundaryH, boundaryV, greenH, greenV, flagsFrom}
+use Rattle.worked.specs.Worked.{boundaryH, boundaryV, greenH, greenV, flagsFrom}
 use Rattle.place_laws.proofs.Bools.{or-right, no-is}
 use Rattle.place_laws.proofs.Kids.{up, parent-up}
 use Rattle.place_laws.proofs.Tree.{cell-patch}

@@ -20,8 +20,8 @@ use Rattle.mesh.specs.State.{State, Entry, placeOf, entry, cells, number, numbe
 use Rattle.mesh.specs.Valid.{Valid}
 use Rattle.mesh.specs.Picture.{table}
 use Rattle.table.specs.Words.{linkOf, depthOf}
-use Rattle.table.specs.Worked.{kidWord, sideBy, sideOf, downTo, sideIn}
-use Rattle.table.proofs.Offsets.{kid-word-range}
+use Rattle.worked.specs.Worked.{kidWord, sideBy, sideOf, downTo, sideIn}
+use Rattle.worked.proofs.Offsets.{kid-word-range}
 use Rattle.place_laws.proofs.Kids.{parent-up, no-parent, parent-kid}
 use Rattle.place_laws.proofs.SideDigits.{kidBy, iMoved, jMoved, stays, step-digits}
 use Rattle.place_laws.proofs.Laps.{Smooth, smooth-is}

@@ -8,6 +8,7 @@ ghost use Rattle.tape.specs.Ran.{Turned, Ran};
 use apply::request;
 use free::load::load;
 use free::map::Spare;
+use header::next_mark;
 use kinds::Body;
 use kinds::body_of;
 
@@ -89,7 +90,7 @@ pub fn run_tape(t: &mut [i32], v: &mut [f64], cap: usize, d: u32, mark: u16, tap
         at = turn.next;
         let spare = turn.spare;
         s = spare;
-        m = std::num::wrapping_add_u16(m, 1);
+        m = next_mark(m);
     }
     Run {
         done,

@@ -12,10 +12,10 @@ use Rattle.mesh.specs.Tools.{every}
 use Rattle.mesh.specs.Place.{N, E, S, W}
 use Rattle.mesh.specs.Picture.{parentWord, neWord, seWord, swWord, nwWord, northWord, eastWord, southWord, westWord, iWord, jWord, linkWords}
 use Rattle.table.specs.Words.{wordOf, linkOf, freeAt, depthOf}
-use Rattle.table.specs.Worked.{kidWord, kidless, sideBy}
+use Rattle.worked.specs.Worked.{kidWord, kidless, sideBy}
 use Rattle.checker_laws.specs.Rowwise.{rootOk, childOk, placeOk, kidOk, kidsOk}
 use Rattle.tree.specs.SideTests.{sidesBy}
-use Rattle.table.proofs.KidlessRows.{bare-links}
+use Rattle.worked.proofs.KidlessRows.{bare-links}
 
 -- ---- the place
 

@@ -15,8 +15,8 @@ use Rattle.mesh.specs.Place.{Place, Grid, isRing, at, base, lap, step, Wind, NE
 use Rattle.mesh.specs.Seam.{seam, crosses}
 use Rattle.mesh.specs.Picture.{parentWord, northWord, eastWord, southWord, westWord, iWord, jWord}
 use Rattle.table.specs.Words.{wordOf, linkOf, depthOf}
-use Rattle.table.specs.Worked.{sideOf, downTo, sideIn, sideBy}
-use Rattle.table.proofs.Offsets.{side-digits}
+use Rattle.worked.specs.Worked.{sideOf, downTo, sideIn, sideBy}
+use Rattle.worked.proofs.Offsets.{side-digits}
 use Rattle.place_laws.proofs.Bools.{neither, both-true}
 use Rattle.place_laws.proofs.Steps.{north-anew, south-anew, south-end, step-north}
 use Rattle.place_laws.proofs.Laps.{lap-base, crosses-open}

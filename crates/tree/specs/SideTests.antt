@@ -9,7 +9,7 @@ use Rattle.mesh.specs.Tools.{every}
 use Rattle.mesh.specs.Place.{N, E, S, W}
 use Rattle.mesh.specs.Picture.{eastWord, iWord, jWord, northWord, parentWord, southWord, westWord}
 use Rattle.table.specs.Words.{wordOf, linkOf, depthOf}
-use Rattle.table.specs.Worked.{sideOf, downTo, sideBy}
+use Rattle.worked.specs.Worked.{sideOf, downTo, sideBy}
 
 -- on level 0 of a ring of so many rows, in the first or the last row, or past it
 abbrev pub onSeam : List ℤ → ℕ → ℕ → ℕ → Bool

@@ -18,7 +18,7 @@ use table::words::SE_KID;
 use table::words::SW_KID;
 use table::words::is_free;
 use table::words::says;
-use table::worked::kidless;
+use worked::kidless;
 
 // The root has no parent.
 pub fn root_ok(t: &[i32], cap: usize, d: u32, n: usize) -> bool

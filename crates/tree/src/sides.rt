@@ -12,7 +12,6 @@ use header::Header;
 use header::is_ring;
 use readable::depth;
 use readable::index;
-use table::down::down_to;
 use table::plain::link;
 use table::words::EAST;
 use table::words::INDEX_I;
@@ -22,11 +21,12 @@ use table::words::PARENT;
 use table::words::SOUTH;
 use table::words::WEST;
 use table::words::says;
-use table::worked::side_by;
 use winds::E;
 use winds::N;
 use winds::S;
 use winds::W;
+use worked::down::down_to;
+use worked::side_by;
 
 // Whether each neighbour is the kid of the parent p or of the parent's neighbour, for a place that ends in the digits l and m.
 fn sides_by(t: &[i32], cap: usize, n: usize, p: usize, l: u32, m: u32) -> bool

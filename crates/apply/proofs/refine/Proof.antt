@@ -9,7 +9,7 @@ use Rattle.apply.proofs.refine.Statement.{statement}
 use Rattle.apply.proofs.refine.Tie as tie
 
 refine-refusal-requires : tie.Need-refine-refusal-requires
-refine-refusal-requires c κs = let pre = c .before .before .pre in (pre .0 .tame .plain, omega arith, total-count _ (pre .1))
+refine-refusal-requires c κs = let pre = c .before .before .pre in (pre .0 .tame .plain, total-count _ (pre .1))
 
 same-length : tie.Need-same-length
 same-length c = search needs
@@ -21,7 +21,7 @@ refine-requires : tie.Need-refine-requires
 refine-requires c κs =
     let b₁ = c .before .before .before in
     let pre = b₁ .before .before .before .before .pre in
-    let w = refine-within _ _ _ _ (b₁ .before .refine-refusal .ensures) (b₁ .if1 .left) in
+    let w = refine-within _ _ _ (b₁ .before .refine-refusal .ensures) (b₁ .if1 .left) in
     (pre .0 .tame .plain, omega (arith, pre .0 .ranged .values), w, omega (arith, pre .0 .ranged .depth), pre .0 .tame .indices, pre .0 .ranged .words, pre .1)
 
 same-length-2 : tie.Need-same-length-2

@@ -19,7 +19,7 @@ returns : tie.Need-returns
 returns c = (refused-applied _ _ _ _ _ (sentence-decides _ _ _ _ _ (c .before .sentence-refusal .ensures)) (c .if1 .taken), refl)
 
 sentence-at-requires : tie.Need-sentence-at-requires
-sentence-at-requires c κs = (omega (arith, sentence-within _ _ _ _ (c .before .before .sentence-refusal .ensures) (c .before .if1 .left)), c .before .before .before .before .before .pre .tame .flags _)
+sentence-at-requires c κs = (omega (arith, sentence-within _ _ _ (c .before .before .sentence-refusal .ensures) (c .before .if1 .left)), c .before .before .before .before .before .pre .tame .flags _)
 
 same-length-2 : tie.Need-same-length-2
 same-length-2 c = search needs

@@ -4,9 +4,9 @@ use mathlib.Core.Path.{_∙_}
 use native.Mathlib.Omega.{arith}
 use borrow.Author.Needs.{needs}
 use Rattle.carried.specs.Carried.{nothing}
-use Rattle.kill.proofs.Borders.{cell-cleared, north-in, east-in, both-in, corners-gone}
+use Rattle.kill.proofs.Killed.{cell-cleared, north-in, east-in, both-in, corners-gone}
 use Rattle.edit_laws.specs.Tables.{killValues}
-use Rattle.patch.proofs.PlainKept.{plain-cell}
+use Rattle.edit_laws.proofs.PlainKept.{plain-cell}
 use Rattle.patch.proofs.DroppedRows.{map-of}
 use Rattle.kill.proofs.clear_cell.Statement.{statement}
 use Rattle.kill.proofs.clear_cell.Tie as tie

@@ -3,7 +3,7 @@
 use mathlib.Core.Path.{sym}
 use borrow.Author.Needs.{needs}
 use Rattle.patch.proofs.DroppedRows.{map-of}
-use Rattle.kill.proofs.Borders.{corners-read, killed}
+use Rattle.kill.proofs.Killed.{corners-read, killed}
 use Rattle.kill.proofs.kill.Statement.{statement}
 use Rattle.kill.proofs.kill.Tie as tie
 

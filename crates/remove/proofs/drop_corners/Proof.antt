@@ -3,8 +3,8 @@
 use mathlib.Core.Path.{ap, _∙_}
 use native.Mathlib.Omega.{arith}
 use borrow.Author.Needs.{needs}
-use Rattle.edit_laws.specs.Tables.{dropUntouched}
-use Rattle.near.proofs.SpotSteps.{each-more, each-none}
+use Rattle.edit_laws.specs.Tables.{atKid, dropUntouched}
+use Rattle.near.proofs.SpotSteps.{over-more, over-none}
 use Rattle.remove.proofs.drop_corners.Statement.{statement}
 use Rattle.remove.proofs.drop_corners.Tie as tie
 
@@ -59,7 +59,7 @@ returns c =
     let k₄ = b₄ .before .before .before in
     let b₅ = k₄ .before .before .before in
     let k₅ = b₅ .before .before .before in
-    (each-more _ _ _ (dropUntouched _) _ (b₅ .drop-untouched .ensures .0 ∙ ap (dropUntouched _ _) (k₅ .kid .ensures .1)) (each-more _ _ _ (dropUntouched _) _ (b₄ .drop-untouched2 .ensures .0 ∙ ap (dropUntouched _ _) (k₄ .kid2 .ensures .1)) (each-more _ _ _ (dropUntouched _) _ (b₃ .drop-untouched3 .ensures .0 ∙ ap (dropUntouched _ _) (k₃ .kid3 .ensures .1)) (each-more _ _ _ (dropUntouched _) _ (b₂ .drop-untouched4 .ensures .0 ∙ ap (dropUntouched _ _) (k₂ .kid4 .ensures .1)) (each-more _ _ _ (dropUntouched _) _ (b₁ .drop-untouched5 .ensures .0 ∙ ap (dropUntouched _ _) (k₁ .kid5 .ensures .1)) (each-none _ _ _))))), b₁ .drop-untouched5 .ensures .1, b₁ .drop-untouched5 .ensures .2)
+    (over-more (atKid (dropUntouched _) _) _ _ _ (b₅ .drop-untouched .ensures .0 ∙ ap (dropUntouched _ _) (k₅ .kid .ensures .1)) (over-more (atKid (dropUntouched _) _) _ _ _ (b₄ .drop-untouched2 .ensures .0 ∙ ap (dropUntouched _ _) (k₄ .kid2 .ensures .1)) (over-more (atKid (dropUntouched _) _) _ _ _ (b₃ .drop-untouched3 .ensures .0 ∙ ap (dropUntouched _ _) (k₃ .kid3 .ensures .1)) (over-more (atKid (dropUntouched _) _) _ _ _ (b₂ .drop-untouched4 .ensures .0 ∙ ap (dropUntouched _ _) (k₂ .kid4 .ensures .1)) (over-more (atKid (dropUntouched _) _) _ _ _ (b₁ .drop-untouched5 .ensures .0 ∙ ap (dropUntouched _ _) (k₁ .kid5 .ensures .1)) (over-none _ _))))), b₁ .drop-untouched5 .ensures .1, b₁ .drop-untouched5 .ensures .2)
 
 pub drop-corners-spec : {M : Type 1} → statement M
 drop-corners-spec =

@@ -3,8 +3,8 @@
 use mathlib.Core.Path.{ap, _∙_}
 use native.Mathlib.Omega.{arith}
 use borrow.Author.Needs.{needs}
-use Rattle.edit_laws.specs.Tables.{dropUntouched}
-use Rattle.near.proofs.SpotSteps.{each-more, each-none}
+use Rattle.edit_laws.specs.Tables.{atKid, dropUntouched}
+use Rattle.near.proofs.SpotSteps.{over-more, over-none}
 use Rattle.remove.proofs.drop_kids.Statement.{statement}
 use Rattle.remove.proofs.drop_kids.Tie as tie
 
@@ -50,7 +50,7 @@ returns c =
     let k₃ = b₃ .before .before .before in
     let b₄ = k₃ .before .before .before in
     let k₄ = b₄ .before .before .before in
-    (each-more _ _ _ (dropUntouched _) _ (b₄ .drop-untouched .ensures .0 ∙ ap (dropUntouched _ _) (k₄ .kid .ensures .1)) (each-more _ _ _ (dropUntouched _) _ (b₃ .drop-untouched2 .ensures .0 ∙ ap (dropUntouched _ _) (k₃ .kid2 .ensures .1)) (each-more _ _ _ (dropUntouched _) _ (b₂ .drop-untouched3 .ensures .0 ∙ ap (dropUntouched _ _) (k₂ .kid3 .ensures .1)) (each-more _ _ _ (dropUntouched _) _ (b₁ .drop-untouched4 .ensures .0 ∙ ap (dropUntouched _ _) (k₁ .kid4 .ensures .1)) (each-none _ _ _)))), b₁ .drop-untouched4 .ensures .1, b₁ .drop-untouched4 .ensures .2)
+    (over-more (atKid (dropUntouched _) _) _ _ _ (b₄ .drop-untouched .ensures .0 ∙ ap (dropUntouched _ _) (k₄ .kid .ensures .1)) (over-more (atKid (dropUntouched _) _) _ _ _ (b₃ .drop-untouched2 .ensures .0 ∙ ap (dropUntouched _ _) (k₃ .kid2 .ensures .1)) (over-more (atKid (dropUntouched _) _) _ _ _ (b₂ .drop-untouched3 .ensures .0 ∙ ap (dropUntouched _ _) (k₂ .kid3 .ensures .1)) (over-more (atKid (dropUntouched _) _) _ _ _ (b₁ .drop-untouched4 .ensures .0 ∙ ap (dropUntouched _ _) (k₁ .kid4 .ensures .1)) (over-none _ _)))), b₁ .drop-untouched4 .ensures .1, b₁ .drop-untouched4 .ensures .2)
 
 pub drop-kids-spec : {M : Type 1} → statement M
 drop-kids-spec =

@@ -8,10 +8,10 @@ use mir.Syntax.{w32}
 use mir.Facts.{toZ-ofZ}
 use borrow.Author.Needs.{needs}
 use borrow.Author.Tests.{le-leb}
-use Rattle.scan.specs.ScanRows.{scans}
+use Rattle.listing.specs.ListedRows.{scans}
 use Rattle.walk.specs.WalkRows.{rowWalk}
-use Rattle.scan.proofs.ScanSteps.{same-level}
-use Rattle.scan.proofs.Writing.{counted-fits}
+use Rattle.listing.proofs.ScanSteps.{same-level}
+use Rattle.listing.proofs.Writing.{counted-fits}
 use Rattle.scan.proofs.has_room.Statement.{statement}
 use Rattle.scan.proofs.has_room.Tie as tie
 

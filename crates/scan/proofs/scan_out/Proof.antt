@@ -13,10 +13,11 @@ use mir.Facts.{toZ-ofZ}
 use borrow.Author.Needs.{needs, sfits-of}
 use borrow.Author.Tests.{not-true, not-false}
 use Rattle.mesh.specs.Refusal.{Check, refusal}
-use Rattle.scan.specs.ScanRows.{scans, startChecks, rowScan}
+use Rattle.listing.specs.ListedRows.{scans}
+use Rattle.scan.specs.ScanRows.{startChecks, rowScan}
 use Rattle.walk.specs.WalkRows.{rowWalk}
 use Rattle.scan.proofs.ScanBranches.{Open, same-checks, opened, refused-scan, short-scan, whole-scan, scan-rows-are}
-use Rattle.scan.proofs.Writing.{wrote-as}
+use Rattle.listing.proofs.Writing.{wrote-as}
 use Rattle.scan.proofs.LevelsBetween.{level-as}
 use Rattle.scan.proofs.scan_out.Statement.{statement}
 use Rattle.scan.proofs.scan_out.Tie as tie
@@ -26,7 +27,7 @@ use Rattle.table.proofs.words.raw.Reads as raw-reads
 use Rattle.scan.proofs.levels.Reads as levels-reads
 use Rattle.scan.proofs.scan_refusal.Reads as scan-refusal-reads
 use Rattle.scan.proofs.has_room.Reads as has-room-reads
-use Rattle.scan.proofs.rows.scan_rows.Reads as scan-rows-reads
+use Rattle.listing.proofs.scan_rows.Reads as scan-rows-reads
 
 abbrev claims : lts.Claims
 claims = (scan-refusal-reads.Asked, scan-refusal-reads.Learnt, raw-reads.Asked, raw-reads.Learnt, levels-reads.Asked, levels-reads.Learnt, has-room-reads.Asked, has-room-reads.Learnt, scan-rows-reads.Asked, scan-rows-reads.Learnt)

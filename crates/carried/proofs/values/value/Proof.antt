@@ -2,7 +2,7 @@
 -- Assumes nothing.
 use lib.Ieee.{nan}
 use Rattle.mesh.specs.State.{plusZero}
-use Rattle.carried.proofs.CarriedWords.{getD-any}
+use Rattle.table.proofs.PutRows.{getD-any}
 use borrow.Author.Needs.{needs}
 use Rattle.carried.proofs.values.value.Statement.{statement}
 use Rattle.carried.proofs.values.value.Tie as tie

@@ -14,13 +14,16 @@ index-requires c κs = search needs
 index-requires-2 : tie.Need-index-requires-2
 index-requires-2 c κs = search needs
 
+has-cell-requires : tie.Need-has-cell-requires
+has-cell-requires c κs = search needs
+
 returns : tie.Need-returns
 returns c =
     let p0 = c .before in
-    let p1 = p0 .before .before in
+    let p1 = p0 .before in
     let p2 = p1 .before in
     let p3 = p2 .before in
-    rw (is-eq (p3 .depth .ensures .1) (p2 .if1 .taken), p1 .index .ensures, p0 .index2 .ensures)
+    rw (is-eq (p3 .depth .ensures .1) (p2 .if1 .taken), c .has-cell .ensures, p1 .index .ensures, p0 .index2 .ensures)
 
 link-requires : tie.Need-link-requires
 link-requires c κs = search needs
@@ -42,6 +45,7 @@ inside-spec =
     depth-requires
     index-requires
     index-requires-2
+    has-cell-requires
     returns
     link-requires
     flag-requires

@@ -3,7 +3,7 @@
 use mathlib.Core.Path.{sym, ap, _∙_}
 use borrow.Author.Needs.{needs}
 use Rattle.table.specs.Words.{linkOf}
-use Rattle.table.proofs.Offsets.{kid-word-at}
+use Rattle.worked.proofs.Offsets.{kid-word-at}
 use Rattle.near.proofs.spots.kid.Statement.{statement}
 use Rattle.near.proofs.spots.kid.Tie as tie
 

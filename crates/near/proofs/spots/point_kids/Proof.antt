@@ -2,7 +2,8 @@
 -- Assumes nothing.
 use borrow.Author.Needs.{needs}
 use Rattle.edit_laws.specs.Anew.{pointRow}
-use Rattle.near.proofs.SpotSteps.{each-more, each-none}
+use Rattle.edit_laws.specs.Tables.{atKid}
+use Rattle.near.proofs.SpotSteps.{over-more, over-none}
 use Rattle.near.proofs.spots.point_kids.Statement.{statement}
 use Rattle.near.proofs.spots.point_kids.Tie as tie
 
@@ -27,7 +28,7 @@ returns c =
     let b₂ = b₁ .before .before .before in
     let b₃ = b₂ .before .before .before in
     let b₄ = b₃ .before .before .before in
-    (each-more _ _ _ (pointRow _) _ (b₄ .point-kid .ensures .0) (each-more _ _ _ (pointRow _) _ (b₃ .point-kid2 .ensures .0) (each-more _ _ _ (pointRow _) _ (b₂ .point-kid3 .ensures .0) (each-more _ _ _ (pointRow _) _ (b₁ .point-kid4 .ensures .0) (each-none _ _ _)))), b₁ .point-kid4 .ensures .1)
+    (over-more (atKid (pointRow _) _) _ _ _ (b₄ .point-kid .ensures .0) (over-more (atKid (pointRow _) _) _ _ _ (b₃ .point-kid2 .ensures .0) (over-more (atKid (pointRow _) _) _ _ _ (b₂ .point-kid3 .ensures .0) (over-more (atKid (pointRow _) _) _ _ _ (b₁ .point-kid4 .ensures .0) (over-none _ _)))), b₁ .point-kid4 .ensures .1)
 
 pub point-kids-spec : {M : Type 1} → statement M
 point-kids-spec =

@@ -2,7 +2,7 @@
 -- Assumes nothing.
 use borrow.Author.Needs.{needs}
 use Rattle.near.proofs.SpotSteps.{cell-none, cell-put}
-use Rattle.patch.proofs.PlainKept.{plain-cell}
+use Rattle.edit_laws.proofs.PlainKept.{plain-cell}
 use Rattle.near.proofs.spots.put_cell.Statement.{statement}
 use Rattle.near.proofs.spots.put_cell.Tie as tie
 

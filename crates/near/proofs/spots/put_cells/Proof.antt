@@ -2,8 +2,8 @@
 -- Assumes nothing.
 use native.Mathlib.Omega.{arith}
 use borrow.Author.Needs.{needs}
-use Rattle.edit_laws.specs.Tables.{putCell}
-use Rattle.near.proofs.SpotSteps.{each-more, each-none, amounts-more, amounts-none}
+use Rattle.edit_laws.specs.Tables.{atKid, putCell}
+use Rattle.near.proofs.SpotSteps.{over-more, over-none, amounts-more, amounts-none}
 use Rattle.near.proofs.spots.put_cells.Statement.{statement}
 use Rattle.near.proofs.spots.put_cells.Tie as tie
 
@@ -46,7 +46,7 @@ returns c =
     let (e₂, h₂, _) = b₃ .put-cell2 .ensures in
     let (e₃, h₃, _) = b₂ .put-cell3 .ensures in
     let (e₄, h₄, plain) = b₁ .put-cell4 .ensures in (
-      each-more _ _ _ one _ e₁ (each-more _ _ _ one _ e₂ (each-more _ _ _ one _ e₃ (each-more _ _ _ one _ e₄ (each-none _ _ _)))),
+      over-more (atKid one _) _ _ _ e₁ (over-more (atKid one _) _ _ _ e₂ (over-more (atKid one _) _ _ _ e₃ (over-more (atKid one _) _ _ _ e₄ (over-none _ _)))),
       amounts-more _ _ _ _ _ _ _ e₁ h₁ (amounts-more _ _ _ _ _ _ _ e₂ h₂ (amounts-more _ _ _ _ _ _ _ e₃ h₃ (amounts-more _ _ _ _ _ _ _ e₄ h₄ (amounts-none _ _ _ _ _)))),
       plain,
     )

@@ -2,7 +2,8 @@
 -- Assumes nothing.
 use borrow.Author.Needs.{needs}
 use Rattle.edit_laws.specs.Anew.{wallRow}
-use Rattle.near.proofs.SpotSteps.{each-more, each-none}
+use Rattle.edit_laws.specs.Tables.{atKid}
+use Rattle.near.proofs.SpotSteps.{over-more, over-none}
 use Rattle.near.proofs.spots.wall_corners.Statement.{statement}
 use Rattle.near.proofs.spots.wall_corners.Tie as tie
 
@@ -31,7 +32,7 @@ returns c =
     let b₃ = b₂ .before .before .before in
     let b₄ = b₃ .before .before .before in
     let b₅ = b₄ .before .before .before in
-    (each-more _ _ _ (wallRow _ _) _ (b₅ .wall-kid .ensures .0) (each-more _ _ _ (wallRow _ _) _ (b₄ .wall-kid2 .ensures .0) (each-more _ _ _ (wallRow _ _) _ (b₃ .wall-kid3 .ensures .0) (each-more _ _ _ (wallRow _ _) _ (b₂ .wall-kid4 .ensures .0) (each-more _ _ _ (wallRow _ _) _ (b₁ .wall-kid5 .ensures .0) (each-none _ _ _))))), b₁ .wall-kid5 .ensures .1)
+    (over-more (atKid (wallRow _ _) _) _ _ _ (b₅ .wall-kid .ensures .0) (over-more (atKid (wallRow _ _) _) _ _ _ (b₄ .wall-kid2 .ensures .0) (over-more (atKid (wallRow _ _) _) _ _ _ (b₃ .wall-kid3 .ensures .0) (over-more (atKid (wallRow _ _) _) _ _ _ (b₂ .wall-kid4 .ensures .0) (over-more (atKid (wallRow _ _) _) _ _ _ (b₁ .wall-kid5 .ensures .0) (over-none _ _))))), b₁ .wall-kid5 .ensures .1)
 
 pub wall-corners-spec : {M : Type 1} → statement M
 wall-corners-spec =

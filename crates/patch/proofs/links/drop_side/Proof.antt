@@ -3,7 +3,7 @@
 use native.Mathlib.Omega.{arith}
 use borrow.Author.Needs.{needs}
 use Rattle.patch.proofs.LinkingIn.{side-dropped}
-use Rattle.patch.proofs.PlainKept.{plain-drop}
+use Rattle.edit_laws.proofs.PlainKept.{plain-drop}
 use Rattle.patch.proofs.Opposite.{opposite-below}
 use Rattle.patch.proofs.links.drop_side.Statement.{statement}
 use Rattle.patch.proofs.links.drop_side.Tie as tie

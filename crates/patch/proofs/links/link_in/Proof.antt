@@ -3,7 +3,7 @@
 use native.Mathlib.Omega.{arith}
 use borrow.Author.Needs.{needs}
 use Rattle.patch.proofs.LinkingIn.{linked-in}
-use Rattle.patch.proofs.PlainKept.{plain-placed}
+use Rattle.edit_laws.proofs.PlainKept.{plain-placed}
 use Rattle.patch.proofs.links.link_in.Statement.{statement}
 use Rattle.patch.proofs.links.link_in.Tie as tie
 

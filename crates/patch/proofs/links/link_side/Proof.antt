@@ -3,7 +3,7 @@
 use native.Mathlib.Omega.{arith}
 use borrow.Author.Needs.{needs}
 use Rattle.patch.proofs.LinkingIn.{side-linked}
-use Rattle.patch.proofs.PlainKept.{plain-side}
+use Rattle.edit_laws.proofs.PlainKept.{plain-side}
 use Rattle.patch.proofs.Opposite.{opposite-below}
 use Rattle.patch.proofs.links.link_side.Statement.{statement}
 use Rattle.patch.proofs.links.link_side.Tie as tie

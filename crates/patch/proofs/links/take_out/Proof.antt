@@ -3,7 +3,7 @@
 use native.Mathlib.Omega.{arith}
 use borrow.Author.Needs.{needs}
 use Rattle.patch.proofs.LinkingIn.{taken-out}
-use Rattle.patch.proofs.PlainKept.{plain-unnamed, plain-freed}
+use Rattle.edit_laws.proofs.PlainKept.{plain-unnamed, plain-freed}
 use Rattle.patch.proofs.links.take_out.Statement.{statement}
 use Rattle.patch.proofs.links.take_out.Tie as tie
 

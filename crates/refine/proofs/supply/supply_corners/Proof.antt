@@ -2,7 +2,8 @@
 -- Assumes nothing.
 use mathlib.Core.Path.{_∙_}
 use native.Mathlib.Omega.{arith}
-use Rattle.near.proofs.SpotSteps.{supply-more, supply-none}
+use Rattle.edit_laws.specs.Tables.{supplied}
+use Rattle.near.proofs.SpotSteps.{over-more, over-none}
 use Rattle.refine.proofs.SmallKids.{all-more}
 use Rattle.refine.proofs.SuppliedKid.{took-mapped, took-some}
 use Rattle.refine.proofs.supply.supply_corners.Statement.{statement}
@@ -241,7 +242,7 @@ returns c =
     let s₁ = m₁ .before .before .before in
     let n₁ = s₁ .before .before in
     let pre = n₁ .before .before .before .pre in
-    (supply-more _ _ _ _ _ (s₁ .supply .ensures .0) (supply-more _ _ _ _ _ (s₂ .supply2 .ensures .0) (supply-more _ _ _ _ _ (s₃ .supply3 .ensures .0) (supply-more _ _ _ _ _ (s₄ .supply4 .ensures .0) (supply-more _ _ _ _ _ (s₅ .supply5 .ensures .0) (supply-none _ _ _))))), s₅ .supply5 .ensures .1, took-mapped (s₅ .supply5 .ensures .3) (took-mapped (s₄ .supply4 .ensures .3) (took-mapped (s₃ .supply3 .ensures .3) (took-mapped (s₂ .supply2 .ensures .3) (took-mapped (s₁ .supply .ensures .3) (pre .7) (m₁ .take-some .ensures)) (m₂ .take-some2 .ensures)) (m₃ .take-some3 .ensures)) (m₄ .take-some4 .ensures)) (m₅ .take-some5 .ensures))
+    (over-more (supplied _ _) _ _ _ (s₁ .supply .ensures .0) (over-more (supplied _ _) _ _ _ (s₂ .supply2 .ensures .0) (over-more (supplied _ _) _ _ _ (s₃ .supply3 .ensures .0) (over-more (supplied _ _) _ _ _ (s₄ .supply4 .ensures .0) (over-more (supplied _ _) _ _ _ (s₅ .supply5 .ensures .0) (over-none _ _))))), s₅ .supply5 .ensures .1, took-mapped (s₅ .supply5 .ensures .3) (took-mapped (s₄ .supply4 .ensures .3) (took-mapped (s₃ .supply3 .ensures .3) (took-mapped (s₂ .supply2 .ensures .3) (took-mapped (s₁ .supply .ensures .3) (pre .7) (m₁ .take-some .ensures)) (m₂ .take-some2 .ensures)) (m₃ .take-some3 .ensures)) (m₄ .take-some4 .ensures)) (m₅ .take-some5 .ensures))
 
 pub supply-corners-spec : {M : Type 1} → statement M
 supply-corners-spec =

@@ -6,8 +6,8 @@ use mathlib.Core.Path.{sym, _∙_}
 use mathlib.Core.List.{List}
 use lib.ListN.{drop}
 use borrow.Author.Needs.{needs}
+use borrow.Author.Tests.{not-true, not-false}
 use Rattle.mesh.specs.Refusal.{Check}
-use Rattle.table.proofs.Tests.{is-eq, is-other}
 use Rattle.refusals.specs.Decide.{killRows, killRefusal}
 use Rattle.refusals.proofs.Arms.{Refused, accepts, first-two, goes-on, goes-on-not, past-le, past-two, refused, stops, stops-not}
 use Rattle.refusals.proofs.requests.kill_refusal.Statement.{statement}
@@ -15,12 +15,12 @@ use Rattle.refusals.proofs.requests.kill_refusal.Tie as tie
 use Rattle.refusals.proofs.requests.kill_refusal.Reads as reads
 use Rattle.refusals.proofs.requests.kill_refusal.Lts as lts
 use Rattle.refusals.proofs.requests.cell_refusal.Reads as cell-refusal-reads
-use Rattle.table.proofs.words.depth.Reads as depth-reads
-use Rattle.refusals.proofs.asks.has_kids.Reads as has-kids-reads
-use Rattle.refusals.proofs.asks.other_under.Reads as other-under-reads
+use Rattle.table.proofs.words.says.Reads as says-reads
+use Rattle.asks.proofs.has_kids.Reads as has-kids-reads
+use Rattle.asks.proofs.other_under.Reads as other-under-reads
 
 abbrev claims : lts.Claims
-claims = (cell-refusal-reads.Asked, cell-refusal-reads.Learnt, depth-reads.Asked, depth-reads.Learnt, has-kids-reads.Asked, has-kids-reads.Learnt, other-under-reads.Asked, other-under-reads.Learnt)
+claims = (cell-refusal-reads.Asked, cell-refusal-reads.Learnt, says-reads.Asked, says-reads.Learnt, has-kids-reads.Asked, has-kids-reads.Learnt, other-under-reads.Asked, other-under-reads.Learnt)
 
 abbrev rows : lts.Start claims reads.Pre reads.Post → List Check
 rows c = killRows (c .args .t .now) (c .args .cap) (c .args .d) (c .args .n)
@@ -34,7 +34,7 @@ within : (c : lts.Else1 claims reads.Pre reads.Post) → c .before .before .args
 within c = past-le _ _ _ _ (c .before .cell-refusal .ensures) (c .if1 .left)
 
 past-level : (c : lts.Else2 claims reads.Pre reads.Post) {j : ℕ} → Refused (drop 3 (rows (c .before .before .before .before))) j → Refused (rows (c .before .before .before .before)) j
-past-level c f = past-cell (c .before .before) (goes-on-not (is-eq (c .before .depth .ensures .1) (c .if2 .left)) f)
+past-level c f = past-cell (c .before .before) (goes-on-not (sym (c .before .says .ensures) ∙ not-false _ (c .if2 .left)) f)
 
 past-kids : (c : lts.Else3 claims reads.Pre reads.Post) {j : ℕ} → Refused (drop 4 (rows (c .before .before .before .before .before .before))) j → Refused (rows (c .before .before .before .before .before .before)) j
 past-kids c f = past-level (c .before .before) (goes-on (sym (c .before .has-kids .ensures) ∙ c .if3 .left) f)
@@ -48,12 +48,12 @@ returns : tie.Need-returns
 unfolding killRefusal
 returns c = refused (rows (c .before .before)) _ (first-two _ _ _ _ (c .before .cell-refusal .ensures) (c .if1 .taken))
 
-depth-requires : tie.Need-depth-requires
-depth-requires c κs = omega (arith, within c)
+says-requires : tie.Need-says-requires
+says-requires c κs = omega (arith, within c)
 
 returns-2 : tie.Need-returns-2
 unfolding killRefusal
-returns-2 c = refused _ 12 (past-cell (c .before .before) (stops-not (is-other (c .before .depth .ensures .1) (c .if2 .taken))))
+returns-2 c = refused _ 12 (past-cell (c .before .before) (stops-not (sym (c .before .says .ensures) ∙ not-true _ (c .if2 .taken))))
 
 has-kids-requires : tie.Need-has-kids-requires
 has-kids-requires c κs = omega (arith, within (c .before .before))
@@ -79,7 +79,7 @@ kill-refusal-spec =
     (tie.spec
     cell-refusal-requires
     returns
-    depth-requires
+    says-requires
     returns-2
     has-kids-requires
     returns-3

@@ -15,9 +15,9 @@ use Rattle.refusals.proofs.requests.remove_refusal.Tie as tie
 use Rattle.refusals.proofs.requests.remove_refusal.Reads as reads
 use Rattle.refusals.proofs.requests.remove_refusal.Lts as lts
 use Rattle.refusals.proofs.requests.cell_refusal.Reads as cell-refusal-reads
-use Rattle.refusals.proofs.asks.has_kids.Reads as has-kids-reads
-use Rattle.refusals.proofs.asks.kids_sentenced.Reads as kids-sentenced-reads
-use Rattle.refusals.proofs.asks.finer_round.Reads as finer-round-reads
+use Rattle.asks.proofs.has_kids.Reads as has-kids-reads
+use Rattle.asks.proofs.kids_sentenced.Reads as kids-sentenced-reads
+use Rattle.asks.proofs.finer_round.Reads as finer-round-reads
 
 abbrev claims : lts.Claims
 claims = (cell-refusal-reads.Asked, cell-refusal-reads.Learnt, has-kids-reads.Asked, has-kids-reads.Learnt, kids-sentenced-reads.Asked, kids-sentenced-reads.Learnt, finer-round-reads.Asked, finer-round-reads.Learnt)

@@ -7,7 +7,6 @@ use mathlib.Core.List.{List}
 use lib.ListN.{drop}
 use borrow.Author.Needs.{needs}
 use Rattle.mesh.specs.Refusal.{Check}
-use Rattle.table.proofs.Tests.{is-eq, is-other}
 use Rattle.refusals.specs.Decide.{sentenceRows, sentenceRefusal}
 use Rattle.refusals.proofs.Arms.{Refused, accepts, first-two, goes-on, past-le, past-two, refused, stops}
 use Rattle.refusals.proofs.requests.sentence_refusal.Statement.{statement}
@@ -15,14 +14,14 @@ use Rattle.refusals.proofs.requests.sentence_refusal.Tie as tie
 use Rattle.refusals.proofs.requests.sentence_refusal.Reads as reads
 use Rattle.refusals.proofs.requests.sentence_refusal.Lts as lts
 use Rattle.refusals.proofs.requests.cell_refusal.Reads as cell-refusal-reads
-use Rattle.refusals.proofs.asks.has_kids.Reads as has-kids-reads
-use Rattle.table.proofs.words.depth.Reads as depth-reads
+use Rattle.asks.proofs.has_kids.Reads as has-kids-reads
+use Rattle.table.proofs.words.says.Reads as says-reads
 
 abbrev claims : lts.Claims
-claims = (cell-refusal-reads.Asked, cell-refusal-reads.Learnt, has-kids-reads.Asked, has-kids-reads.Learnt, depth-reads.Asked, depth-reads.Learnt)
+claims = (cell-refusal-reads.Asked, cell-refusal-reads.Learnt, has-kids-reads.Asked, has-kids-reads.Learnt, says-reads.Asked, says-reads.Learnt)
 
 abbrev rows : lts.Start claims reads.Pre reads.Post → List Check
-rows c = sentenceRows (c .args .t .now) (c .args .cap) (c .args .d) (c .args .n)
+rows c = sentenceRows (c .args .t .now) (c .args .cap) (c .args .n)
 
 -- ---- past the first checks
 
@@ -51,16 +50,16 @@ returns-2 : tie.Need-returns-2
 unfolding sentenceRefusal
 returns-2 c = refused _ 8 (past-cell (c .before .before) (stops (sym (c .before .has-kids .ensures) ∙ c .if2 .taken)))
 
-depth-requires : tie.Need-depth-requires
-depth-requires c κs = omega (arith, within (c .before .before))
+says-requires : tie.Need-says-requires
+says-requires c κs = omega (arith, within (c .before .before))
 
 returns-3 : tie.Need-returns-3
 unfolding sentenceRefusal
-returns-3 c = refused _ 12 (past-kids (c .before .before) (stops (is-eq (c .before .depth .ensures .1) (c .if3 .taken))))
+returns-3 c = refused _ 12 (past-kids (c .before .before) (stops (sym (c .before .says .ensures) ∙ c .if3 .taken)))
 
 returns-4 : tie.Need-returns-4
 unfolding sentenceRefusal
-returns-4 c = refused _ 0 (past-kids (c .before .before) (goes-on (is-other (c .before .depth .ensures .1) (c .if3 .left)) accepts))
+returns-4 c = refused _ 0 (past-kids (c .before .before) (goes-on (sym (c .before .says .ensures) ∙ c .if3 .left) accepts))
 
 pub sentence-refusal-spec : {M : Type 1} → statement M
 sentence-refusal-spec =
@@ -70,6 +69,6 @@ sentence-refusal-spec =
     returns
     has-kids-requires
     returns-2
-    depth-requires
+    says-requires
     returns-3
     returns-4)

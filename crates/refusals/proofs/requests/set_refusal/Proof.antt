@@ -14,7 +14,7 @@ use Rattle.refusals.proofs.requests.set_refusal.Tie as tie
 use Rattle.refusals.proofs.requests.set_refusal.Reads as reads
 use Rattle.refusals.proofs.requests.set_refusal.Lts as lts
 use Rattle.refusals.proofs.requests.cell_refusal.Reads as cell-refusal-reads
-use Rattle.refusals.proofs.asks.has_kids.Reads as has-kids-reads
+use Rattle.asks.proofs.has_kids.Reads as has-kids-reads
 use Rattle.carried.proofs.values.is_finite.Reads as is-finite-reads
 
 abbrev claims : lts.Claims

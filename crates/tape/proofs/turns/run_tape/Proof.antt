@@ -51,8 +51,8 @@ returns c =
 add-done : tie.Need-add-done Inv-loop μ-loop
 add-done c = let b = c .before .before .before .before .before .before .before .before .before .before in omega (arith, b .loop .inv .2 .few, b .before .before .before .before .before .before .good .1 .1 .1 .1 .1 .0)
 
-wrapping-add-u16-requires : tie.Need-wrapping-add-u16-requires Inv-loop μ-loop
-wrapping-add-u16-requires c κs = search needs
+next-mark-requires : tie.Need-next-mark-requires Inv-loop μ-loop
+next-mark-requires c κs = search needs
 
 loop-less : tie.Need-loop-less Inv-loop μ-loop
 loop-less c = let f = c .before .before .before .before .before .before .before .turn-at .ensures .0 .further (c .before .before .if1 .left) in omega arith
@@ -61,7 +61,7 @@ loop-again : tie.Need-loop-again Inv-loop μ-loop
 loop-again c =
     let b = c .before .before .before .before .before .before .before in
     let (u, mapped) = b .turn-at .ensures in
-    (omega arith, omega arith, goes-next _ _ _ _ _ (b .before .before .before .before .before .loop .inv .2) u (c .before .before .if1 .left) (c .wrapping-add-u16 .ensures), mapped)
+    (omega arith, omega arith, goes-next _ _ _ _ _ (b .before .before .before .before .before .loop .inv .2) u (c .before .before .if1 .left) (c .next-mark .ensures), mapped)
 
 same-length-3 : tie.Need-same-length-3 Inv-loop μ-loop
 same-length-3 c = omega arith
@@ -85,7 +85,7 @@ run-tape-spec =
     same-length-2
     returns
     add-done
-    wrapping-add-u16-requires
+    next-mark-requires
     loop-less
     loop-again
     same-length-3

@@ -1,7 +1,7 @@
 -- `tree::family::kid_ok` meets its contract, by whether there is a kid.
 -- Assumes nothing.
 use mathlib.Core.Path.{sym}
-use Rattle.table.proofs.Offsets.{kid-word-at}
+use Rattle.worked.proofs.Offsets.{kid-word-at}
 use Rattle.tree.proofs.FamilyRows.{kid-none, kid-some}
 use Rattle.table.proofs.LinkRanges.{kept-as-is}
 use borrow.Author.Needs.{needs}

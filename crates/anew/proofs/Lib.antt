@@ -1,0 +1,2 @@
+-- The laws that the proofs of flags worked out anew cite.
+pub mod FlagRows

@@ -1,0 +1,2 @@
+-- The laws that the proofs of what is asked cite.
+pub mod AskedArms

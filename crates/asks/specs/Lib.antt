@@ -1,0 +1,2 @@
+-- What is asked of rows.
+pub mod Asks

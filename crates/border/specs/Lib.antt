@@ -1,0 +1,2 @@
+-- The rows along the border of a cell.
+pub mod Borders

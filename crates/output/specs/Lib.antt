@@ -1,0 +1,2 @@
+-- What a call that writes leaves.
+pub mod OutputLists

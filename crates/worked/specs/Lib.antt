@@ -1,0 +1,3 @@
+-- What is worked out from the words of other rows.
+pub mod FlagDigits
+pub mod Worked
