@@ -9,14 +9,14 @@ use Rattle.mesh.specs.Valid.{Valid}
 use Rattle.mesh.specs.Picture.{Lent, picture}
 use Rattle.mesh.specs.Refusal.{Check, refusal}
 use Rattle.mesh.specs.Decode.{decode}
-use Rattle.mesh.specs.Call.{lentChecks, checkCall}
+use Rattle.mesh.specs.Call.{lentChecks, lentRefusal}
 use Rattle.number_laws.proofs.Checks.{past}
 use Rattle.picture_laws.proofs.Decoding.{decode-back}
 use Rattle.picture_laws.proofs.Accepted.{lent-sizes, lent-sound, sound-capacity}
 
-module _ (cap : ℕ) (l : Lent) (h : checkCall cap l ≡ 0) where
+module _ (cap : ℕ) (l : Lent) (h : lentRefusal cap l ≡ 0) where
   pub checks-after : (cs : List Check) → refusal (lentChecks cap l ++ cs) ≡ refusal cs
-  unfolding checkCall lentChecks
+  unfolding lentRefusal lentChecks
   checks-after cs = past (lentChecks cap l) cs tt h
 
   -- what holds of the pictures of valid states holds of what was lent

@@ -18,7 +18,7 @@ use Rattle.mesh.specs.Picture.{table, amounts, Lent}
 use Rattle.mesh.specs.Refusal.{_if_, refusal}
 use Rattle.mesh.specs.Lookup.{tries, lookup, lookupChecks}
 use Rattle.mesh.specs.Decode.{decode}
-use Rattle.mesh.specs.Call.{Found, checkCall, unless, lookupCall}
+use Rattle.mesh.specs.Call.{Found, lentRefusal, unless, lookupCall}
 use Rattle.carried.specs.Carried.{carriedOf, carriedFor, valueCarried}
 use Rattle.lookup.specs.LookupRows.{rowLookupOut}
 use Rattle.table_laws.proofs.Pictured.{carried-there}
@@ -61,14 +61,14 @@ module _ (u v : ℕ) where
   lookup-picture s x = rw (← value-there s (lookup s u v), row-lookup s x u v)
 
   -- the lookup call
-  pub lookup-call : (cap : ℕ) (l : Lent) → checkCall cap l ≡ 0 → lookupCall cap l u v ≡ rowLookupOut (l .header .grid) (l .words) (l .values) cap (base (l .header .grid)) u v
+  pub lookup-call : (cap : ℕ) (l : Lent) → lentRefusal cap l ≡ 0 → lookupCall cap l u v ≡ rowLookupOut (l .header .grid) (l .words) (l .values) cap (base (l .header .grid)) u v
   unfolding lookupCall
   lookup-call cap l h =
       ap (answer (decode l)) (checks-after cap l h (lookupChecks (decode l) u v))
       ∙ by-picture cap l h (λ s. answer s (refusal (lookupChecks s u v))) (λ x c. byRows (x .header .grid) (x .words) (x .values) c) lookup-picture
 
   -- the leaf that the tries find first, and 19 exactly where none of them reaches the area
-  pub lookup-finds : (cap : ℕ) (l : Lent) → checkCall cap l ≡ 0
+  pub lookup-finds : (cap : ℕ) (l : Lent) → lentRefusal cap l ≡ 0
       → let s = decode l in Valid s × (lookupCall cap l u v .leaf ≡ lookup s u v) × (lookupCall cap l u v .refusal ≡ cond (any (reaches s u v) tries) 0 19)
   unfolding lookupCall lookupChecks
   lookup-finds cap l h =

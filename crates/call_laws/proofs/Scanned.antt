@@ -17,7 +17,7 @@ use Rattle.mesh.specs.Picture.{table, Lent}
 use Rattle.mesh.specs.Refusal.{refusal}
 use Rattle.mesh.specs.Scan.{permutation, scan, scanChecks}
 use Rattle.mesh.specs.Decode.{decode}
-use Rattle.mesh.specs.Call.{checkCall, unless, wrote, scanCall}
+use Rattle.mesh.specs.Call.{lentRefusal, unless, wrote, scanCall}
 use Rattle.walk.specs.Walkable.{Walkable}
 use Rattle.scan.specs.ScanRows.{levelOf, rowScan, Few, rowScanOut}
 use Rattle.scan.proofs.ScanBranches.{opened}
@@ -61,7 +61,7 @@ module _ (n : ℕ) (o : List ℕ) (k : ℕ) (from to : ℤ) where
             rw (taken-row s v n, level-there t, scan-there t (is-yes (permutation o) f))
 
   -- the scan call, by rows
-  pub scan-call : (out : List ℕ) (cap : ℕ) (l : Lent) → checkCall cap l ≡ 0
+  pub scan-call : (out : List ℕ) (cap : ℕ) (l : Lent) → lentRefusal cap l ≡ 0
       → scanCall cap l n o k from to out ≡ rowScanOut (l .words) cap (base (l .header .grid)) n o k from to out
   unfolding scanCall
   scan-call out cap l h =
@@ -69,9 +69,9 @@ module _ (n : ℕ) (o : List ℕ) (k : ℕ) (from to : ℤ) where
       ∙ by-picture cap l h (λ s. wrote (refusal (scanChecks s (length out) n o k from to)) (scan s n o k from to) out) (λ x c. rowScanOut (x .words) c (base (x .header .grid)) n o k from to out) (λ s v. scan-picture s v out)
 
   -- and it lists no more numbers than the table has rows
-  pub few-lent : (cap : ℕ) (l : Lent) → checkCall cap l ≡ 0 → Few (l .words) cap (base (l .header .grid)) n o k from to
+  pub few-lent : (cap : ℕ) (l : Lent) → lentRefusal cap l ≡ 0 → Few (l .words) cap (base (l .header .grid)) n o k from to
   few-lent cap l h = of-picture cap l h (λ x c. Few (x .words) c (base (x .header .grid)) n o k from to) few-there
 
 -- what was lent can be read as it stands
-pub walkable-lent : (cap : ℕ) (l : Lent) → checkCall cap l ≡ 0 → Walkable (l .words) cap (base (l .header .grid))
+pub walkable-lent : (cap : ℕ) (l : Lent) → lentRefusal cap l ≡ 0 → Walkable (l .words) cap (base (l .header .grid))
 walkable-lent cap l h = of-picture cap l h (λ x c. Walkable (x .words) c (base (x .header .grid))) walkable-picture

@@ -13,7 +13,7 @@ use native.Mathlib.Decide.{decLt}
 use Rattle.table.specs.Words.{Fits, FitsAt}
 use Rattle.mesh.specs.Picture.{Lent}
 use Rattle.mesh.specs.Refusal.{Check, refusal}
-use Rattle.mesh.specs.Call.{missized, Sizes, misfit, no1, no2, no3, lentChecks, checkCall, Rectangle}
+use Rattle.mesh.specs.Call.{missized, Sizes, misfit, no1, no2, no3, lentChecks, lentRefusal, Rectangle}
 use Rattle.mesh.specs.Place.{Grid, base}
 use Rattle.place_laws.proofs.Ranges.{fits-sizes, sizes-fit}
 use Rattle.place_laws.proofs.Base.{fits-range, range-fits}
@@ -77,10 +77,10 @@ module _ (cap : ℕ) (l : Lent) (z : Sizes cap l) (r : Rectangle (l .header .gri
       go true = refl
       go false = refl
 
-  pub rows-pass : {x : Bool} → x ≡ rowwise (l .header .grid) (l .words) cap (l .values) → x ≡ true → 0 ≡ checkCall cap l
-  unfolding checkCall lentChecks
+  pub rows-pass : {x : Bool} → x ≡ rowwise (l .header .grid) (l .words) cap (l .values) → x ≡ true → 0 ≡ lentRefusal cap l
+  unfolding lentRefusal lentChecks
   rows-pass e y = sym (both-pass cap l (l .header .grid) _ z r ∙ by-rows true (sym y ∙ e))
 
-  pub rows-fail : {x : Bool} → x ≡ rowwise (l .header .grid) (l .words) cap (l .values) → x ≡ false → 3 ≡ checkCall cap l
-  unfolding checkCall lentChecks
+  pub rows-fail : {x : Bool} → x ≡ rowwise (l .header .grid) (l .words) cap (l .values) → x ≡ false → 3 ≡ lentRefusal cap l
+  unfolding lentRefusal lentChecks
   rows-fail e y = sym (both-pass cap l (l .header .grid) _ z r ∙ by-rows false (sym y ∙ e))

@@ -2,7 +2,7 @@
 ghost use mathlib.Core.Path.{_≡_};
 ghost use Prim.Native.Nat.{_<_};
 ghost use lib.ListN.{length};
-ghost use Rattle.mesh.specs.Call.{checkCall};
+ghost use Rattle.mesh.specs.Call.{lentRefusal};
 ghost use Rattle.header.specs.Headers.{lentOf};
 ghost use Rattle.table.specs.Words.{Fits, FitsAt};
 use crate::first_checks::first_refusal;
@@ -30,7 +30,7 @@ fn sound_word(t: &[i32], i: usize) -> i32
 
 // 0 for yes, or the refusal: of any lists of any length, any capacity and any header. The mark plays no part.
 pub fn check(header: Header, t: &[i32], v: &[f64], capacity: u32) -> u32
-    ensures { λ r. ⌜ r ≡ checkCall capacity (lentOf header (now (t .entry)) (now (v .entry))) ⌝ }
+    ensures { λ r. ⌜ r ≡ lentRefusal capacity (lentOf header (now (t .entry)) (now (v .entry))) ⌝ }
 {
     let early = first_refusal(header, t, v, capacity);
     if early != 0 {

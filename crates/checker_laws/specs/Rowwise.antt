@@ -8,7 +8,7 @@ use lib.Dec.{eqb, leb, ltb}
 use lib.IntN.{ℤ}
 use lib.Ieee.{Float}
 use Rattle.mesh.specs.Tools.{every, digits}
-use Rattle.mesh.specs.Place.{Grid, base, N, E, S, W}
+use Rattle.mesh.specs.Place.{Grid, inRectangle, base, N, E, S, W}
 use Rattle.mesh.specs.Valid.{finite}
 use Rattle.mesh.specs.Mesh.{completeBit, sentencedBit}
 use Rattle.mesh.specs.Picture.{eastWord, flagsWord, iWord, jWord, neWord, northWord, nwWord, parentWord, seWord, southWord, swWord, westWord}
@@ -113,7 +113,7 @@ module _ (t : List ℤ) (cap : ℕ) where
 module _ (g : Grid) (t : List ℤ) (cap d : ℕ) where
   -- a cell of level 0 lies in the rectangle, and any other in a cell of the level below
   abbrev pub insideOk : ℕ → Bool
-  insideOk n = cond (eqb (depthOf t d n) d) (ltb (wordOf t n iWord) (g .columns) && ltb (wordOf t n jWord) (g .rows)) (flagOf t completeBit (linkOf t cap n parentWord))
+  insideOk n = cond (eqb (depthOf t d n) d) (inRectangle g (wordOf t n iWord) (wordOf t n jWord)) (flagOf t completeBit (linkOf t cap n parentWord))
 
   -- a cell has its patches E, N and NE, lies inside, and its kids are four cells or none
   abbrev pub cellTests : ℕ → List Bool

@@ -22,7 +22,7 @@ use Rattle.mesh.specs.Lookup.{lookupChecks}
 use Rattle.mesh.specs.Page.{pageChecks}
 use Rattle.mesh.specs.Picture.{Lent, picture}
 use Rattle.mesh.specs.Decode.{decode}
-use Rattle.mesh.specs.Call.{lentChecks, unless, checkCall, Built, buildChecks, buildCall, Taped, tapeCall, Wrote, scanCall, Found, lookupCall, pageCall}
+use Rattle.mesh.specs.Call.{lentChecks, lentRefusal, unless, checkCall, Built, buildChecks, buildCall, Taped, tapeCall, Wrote, scanCall, Found, lookupCall, pageCall}
 use Rattle.mesh.proofs.Runs.{run-stop, run-next}
 use Rattle.demand_laws.proofs.Exactly.{refused-is}
 use Rattle.demand_laws.proofs.Refusals.{unless-names}
@@ -104,7 +104,7 @@ from-among (k ∷ bs) zero s n o = go (stepBy s (kind k) bs) refl (from-among bs
 
 module _ (cap : ℕ) (l : Lent) where
   pub check-answers : T (among (0 ∷ 1 ∷ 2 ∷ 3 ∷ []) (checkCall cap l))
-  unfolding checkCall lentChecks
+  unfolding checkCall lentRefusal lentChecks
   check-answers = refusal-among (lentChecks cap l)
 
   pub build-answers : (g : Grid) → T (among (0 ∷ 1 ∷ 2 ∷ 11 ∷ []) (buildCall cap l g .refusal))
@@ -130,8 +130,8 @@ module _ (cap : ℕ) (l : Lent) where
       subst (λ (n : ℕ). T (among (0 ∷ 1 ∷ 2 ∷ 3 ∷ 18 ∷ []) n)) (sym (unless-names _ _ (λ (r : Wrote). r .refusal) (λ n. refl) refl (refusal cs))) (refusal-among cs)
 
   pub tape-answers : (bytes : List ℕ) → T (among ofTapes (tapeCall cap l bytes .refusal))
-  unfolding tapeCall run unless checkCall
-  tape-answers bytes = go (refusal (lentChecks cap l)) (among-more (0 ∷ 1 ∷ 2 ∷ 3 ∷ []) ofTapes tt (refusal (lentChecks cap l)) check-answers)
+  unfolding tapeCall run unless
+  tape-answers bytes = go (checkCall cap l) (among-more (0 ∷ 1 ∷ 2 ∷ 3 ∷ []) ofTapes tt (checkCall cap l) check-answers)
     where
       ran : Taped
       ran = let r = run (decode l) bytes in record { done = r .done; refusal = r .refusal; offset = r .offset; lent = picture (r .state) }

@@ -14,7 +14,7 @@ use Rattle.mesh.specs.Picture.{Lent, picture}
 use Rattle.mesh.specs.Refusal.{refusal}
 use Rattle.mesh.specs.Build.{numbered, built}
 use Rattle.mesh.specs.Tape.{run}
-use Rattle.mesh.specs.Call.{lentChecks, checkCall, buildChecks, Taped, tapeCall, Rectangle}
+use Rattle.mesh.specs.Call.{checkCall, buildChecks, Taped, tapeCall, Rectangle}
 use Rattle.place_laws.proofs.Ranges.{fits-sizes}
 use Rattle.place_laws.proofs.Base.{fits-range}
 use Rattle.number_laws.proofs.Checks.{passes}
@@ -32,12 +32,12 @@ module _ (s : State) (v : Valid s) where
   pub tape-runs : (cap : ℕ) → capacity s ≡ cap → (bytes : List ℕ) → tapeCall cap (picture s) bytes ≡ (let r = run s bytes in record { done = r .done; refusal = r .refusal; offset = r .offset; lent = picture (r .state) })
   unfolding tapeCall checkCall
   tape-runs cap c bytes =
-      unless-accepted _ _ (refusal (lentChecks cap (picture s))) (ap (λ (n : ℕ). checkCall n (picture s)) (sym c) ∙ picture-accepted s v)
+      unless-accepted _ _ (checkCall cap (picture s)) (ap (λ (n : ℕ). checkCall n (picture s)) (sym c) ∙ picture-accepted s v)
       ∙ ap (λ (t : State). let r = run t bytes in record { done = r .done; refusal = r .refusal; offset = r .offset; lent = picture (r .state) }) (decode-back s v)
 
 -- and leaves the picture of a state that no first check refuses
 pub tape-checked : (s : State) → Valid s → (cap : ℕ) → capacity s ≡ cap → (bytes : List ℕ) → checkCall cap (tapeCall cap (picture s) bytes .lent) ≡ 0
-unfolding run
+unfolding run checkCall
 tape-checked s v cap c bytes =
     let u = run s bytes .state in
     let (led, n) = run-led bytes 0 s 0 0 v in

@@ -12,7 +12,7 @@ use Rattle.mesh.specs.Refusal.{refusal}
 use Rattle.mesh.specs.Tape.{run}
 use Rattle.mesh.specs.Picture.{Lent, picture}
 use Rattle.mesh.specs.Decode.{decode}
-use Rattle.mesh.specs.Call.{lentChecks, unless, Built, buildCall, Taped, tapeCall, Wrote, scanCall, pageCall, Found, lookupCall}
+use Rattle.mesh.specs.Call.{checkCall, unless, Built, buildCall, Taped, tapeCall, Wrote, scanCall, pageCall, Found, lookupCall}
 use Rattle.demand_laws.proofs.Prefixes.{run-refused}
 
 -- ---- what a call answers
@@ -54,7 +54,7 @@ build-refused cap l g = unless-named _ _ (λ (r : Built). r .refusal) (λ n. ref
 -- "for 1 to 3 count and offset 0": what refuses a request, 4 or above, is the tape's own
 pub tape-refused : (cap : ℕ) (l : Lent) (bytes : List ℕ) → tapeCall cap l bytes .refusal ≢ 0 → tapeCall cap l bytes .refusal ≤ 3 → tapeCall cap l bytes ≡ record { done = 0; refusal = tapeCall cap l bytes .refusal; offset = 0; lent = l }
 unfolding tapeCall unless
-tape-refused cap l bytes = go (refusal (lentChecks cap l))
+tape-refused cap l bytes = go (checkCall cap l)
   where
     ran : Taped
     ran = let r = run (decode l) bytes in record { done = r .done; refusal = r .refusal; offset = r .offset; lent = picture (r .state) }

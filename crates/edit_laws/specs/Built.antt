@@ -4,11 +4,11 @@
 use Prim.Native.Nat.{ℕ, zero, suc, _+_, _-_, _*_, _^_}
 use mathlib.Core.Bool.{Bool, _&&_, cond}
 use mathlib.Core.List.{List, _++_}
-use lib.Dec.{eqb, leb, ltb}
+use lib.Dec.{eqb, leb}
 use lib.ListN.{set, replicate}
 use lib.IntN.{ℤ, subℕ}
 use Rattle.mesh.specs.Tools.{flat}
-use Rattle.mesh.specs.Place.{Grid, isRing}
+use Rattle.mesh.specs.Place.{Grid, isRing, inRectangle}
 use Rattle.mesh.specs.Seam.{lastJ}
 use Rattle.mesh.specs.Picture.{rowWords, flagsWord, iWord, jWord, northWord, southWord, levelWord}
 use Rattle.table.specs.Words.{wordOf}
@@ -48,7 +48,7 @@ seamRow g cap d t p =
 
 -- a row of level 0 is a cell, if the rectangle has it
 abbrev pub groundRow : Grid → List ℤ → ℕ → List ℤ
-groundRow g t p = cond (ltb (wordOf t p iWord) (g .columns) && ltb (wordOf t p jWord) (g .rows)) (putWord t p flagsWord 1) t
+groundRow g t p = cond (inRectangle g (wordOf t p iWord) (wordOf t p jWord)) (putWord t p flagsWord 1) t
 
 module _ (g : Grid) (cap d : ℕ) where
   -- the kid of the row p with the digits l and m, where the rectangle has it

@@ -17,7 +17,7 @@ use Rattle.mesh.specs.Refusal.{Check, refusal}
 use Rattle.mesh.specs.Scan.{permutation, scan, scanChecks}
 use Rattle.mesh.specs.Picture.{Lent}
 use Rattle.mesh.specs.Decode.{decode}
-use Rattle.mesh.specs.Call.{lentChecks, checkCall, unless, Built, buildCall, Wrote, scanCall}
+use Rattle.mesh.specs.Call.{lentChecks, lentRefusal, unless, Built, buildCall, Wrote, scanCall}
 use Rattle.place_laws.proofs.Bools.{is-yes, neither}
 use Rattle.number_laws.proofs.Checks.{passes, kept}
 use Rattle.number_laws.proofs.Building.{built-in-use}
@@ -50,7 +50,7 @@ module _ (cap : ℕ) (l : Lent) where
   build-fits g b e = omega (arith, build-count g, ap (λ (x : Built). x .in-use) e)
 
   -- the state that is lent, where the first checks pass
-  module _ (ok : checkCall cap l ≡ 0) where
+  module _ (ok : lentRefusal cap l ≡ 0) where
     lent-valid : Valid (decode l)
     lent-valid = sound-valid (lent-sound cap l ok)
 
@@ -71,7 +71,7 @@ module _ (cap : ℕ) (l : Lent) where
         omega (arith, lent-few, scan-few s lent-valid n o k from to used (is-yes (permutation o) (not-false _ p)))
 
   scan-count : (n : ℕ) (o : List ℕ) (k : ℕ) (from to : ℤ) (out : List ℕ) → scanCall cap l n o k from to out .count ≤ 4096
-  unfolding scanCall checkCall
+  unfolding scanCall lentRefusal
   scan-count n o k from to out =
       bounded (λ (w : Wrote). w .count) 4096 _ _ _ (λ n. omega arith) (λ ok.
       let first = firsts (lentChecks cap l) _ ok in

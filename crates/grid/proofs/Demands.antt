@@ -17,7 +17,7 @@ use Rattle.mesh.specs.Lookup.{tries, lookup}
 use Rattle.mesh.specs.Build.{full, built}
 use Rattle.mesh.specs.Call as Call
 use Rattle.mesh.specs.Decode.{decode}
-use Rattle.mesh.specs.Call.{Sizes, checkCall, buildCall, tapeCall, scanCall, lookupCall, pageCall}
+use Rattle.mesh.specs.Call.{Sizes, lentRefusal, checkCall, buildCall, tapeCall, scanCall, lookupCall, pageCall}
 use Rattle.lookup.specs.declared.Found.{Found}
 use Rattle.lookup.specs.LookupRows.{foundOf, valueOfReading}
 use Rattle.walk_laws.specs.Points.{total}
@@ -109,6 +109,7 @@ tape-acts-before l cap l′ bytes r b ok =
 -- ---- demand 2: "the checker says yes to exactly the tables that picture a mesh"
 
 pub demand-2 : (l : Lent) (cap r : ℕ) → r ≡ checkCall cap l → (r ≡ 0) ↔ (Sizes cap l × Sound l)
+unfolding checkCall
 demand-2 l cap r e = (
   λ z. let y : checkCall cap l ≡ 0 = sym e ∙ z in (lent-sizes cap l y, lent-sound cap l y),
   λ p. e ∙ sound-accepted cap l (p .0) (p .1),
@@ -116,6 +117,7 @@ demand-2 l cap r e = (
 
 -- so a tape on a sound table, refused or not, leaves a sound one
 pub tape-keeps-sound : (l : Lent) (cap : ℕ) (l′ : Lent) (bytes : List ℕ) (r : Taped) → Tapes l cap bytes l′ r → Sizes cap l → Sound l → Sizes cap l′ × Sound l′
+unfolding checkCall
 tape-keeps-sound l cap l′ bytes r b z o =
     let s = o .state in
     let left : l′ ≡ tapeCall cap (picture s) bytes .lent = ap (λ (x : Call.Taped). x .lent) (b .is) ∙ ap (λ (x : Lent). tapeCall cap x bytes .lent) (o .is-picture) in
@@ -152,7 +154,7 @@ build-counts {l} cap columns rows mode r b ok =
 -- ---- 02, No. 2: "the first leaf found is the answer, 19 if none"
 
 -- on a table that the checker takes: the leaf that the tries find first, and 19 exactly where none of them reaches the area
-pub lookup-finds : (l : Lent) (cap x y : ℕ) (r : Found) → foundOf r ≡ lookupCall cap l x y → checkCall cap l ≡ 0
+pub lookup-finds : (l : Lent) (cap x y : ℕ) (r : Found) → foundOf r ≡ lookupCall cap l x y → lentRefusal cap l ≡ 0
     → let s = decode l in Valid s × (r .leaf ≡ lookup s x y) × (r .refusal ≡ cond (any (reaches s x y) tries) 0 19)
 lookup-finds l cap x y r e ok =
     let (valid, leaf, refusal) = calling.lookup-finds x y cap l ok in

@@ -13,7 +13,7 @@ use Rattle.mesh.specs.State.{blank}
 use Rattle.mesh.specs.Scan.{scanChecks}
 use Rattle.mesh.specs.Lookup.{lookupChecks}
 use Rattle.mesh.specs.Decode.{decode}
-use Rattle.mesh.specs.Call.{lentChecks, checkCall, Taped, tapeCall, Wrote, Found, scanCall, lookupCall, pageCall}
+use Rattle.mesh.specs.Call.{lentChecks, lentRefusal, checkCall, Taped, tapeCall, Wrote, Found, scanCall, lookupCall, pageCall}
 use Rattle.place_laws.proofs.Base.{base-range}
 use lib.IntN.{ℤ}
 use Rattle.walk.specs.Walkable.{Walkable}
@@ -35,13 +35,13 @@ abbrev pub ranOf : Run → Taped
 ranOf r = record { done = r .done; refusal = r .refusal; offset = r .offset; lent = picture (r .state) }
 
 pub tape-ran : (cap : ℕ) (l : Lent) → checkCall cap l ≡ 0 → (bytes : List ℕ) → tapeCall cap l bytes ≡ ranOf (run (decode l) bytes)
-unfolding checkCall tapeCall
-tape-ran cap l h bytes = unless-accepted _ _ (refusal (lentChecks cap l)) h
+unfolding tapeCall
+tape-ran cap l h bytes = unless-accepted _ _ (checkCall cap l) h
 
 -- a call that the first checks refuse, whatever its own are
-module _ (cap : ℕ) (l : Lent) (r : ℕ) (is : r ≡ checkCall cap l) (some : r ≢ 0) where
+module _ (cap : ℕ) (l : Lent) (r : ℕ) (is : r ≡ lentRefusal cap l) (some : r ≢ 0) where
   first : (cs : List Check) → refusal (lentChecks cap l ++ cs) ≡ r
-  unfolding checkCall
+  unfolding lentRefusal
   first cs = kept (lentChecks cap l) cs (λ z. some (is ∙ z)) ∙ sym is
 
   pub scan-first : (n : ℕ) (o : List ℕ) (k : ℕ) (from to : ℤ) (out : List ℕ) → record { refusal = r; count = 0; out = out } ≡ scanCall cap l n o k from to out
@@ -57,31 +57,31 @@ module _ (cap : ℕ) (l : Lent) (r : ℕ) (is : r ≡ checkCall cap l) (some : r
   page-first out = sym (rw (first (pageChecks (decode l) (length out))) (unless-refused _ _ r some))
 
 -- the depth of level 0, where they let a call through
-pub shallow : (cap : ℕ) (l : Lent) → checkCall cap l ≡ 0 → base (l .header .grid) ≤ 6
+pub shallow : (cap : ℕ) (l : Lent) → lentRefusal cap l ≡ 0 → base (l .header .grid) ≤ 6
 shallow cap l ok = base-range (l .header .grid) (lent-rectangle cap l ok) .1
 
 -- a scan and a lookup that they let through; the levels are passed on as words
-pub scan-done : (cap : ℕ) (l : Lent) (n : ℕ) (o : List ℕ) (k : ℕ) {from to from′ to′ : ℤ} (out : List ℕ) (d : ℕ) (w : Wrote) → checkCall cap l ≡ 0 → d ≡ base (l .header .grid)
+pub scan-done : (cap : ℕ) (l : Lent) (n : ℕ) (o : List ℕ) (k : ℕ) {from to from′ to′ : ℤ} (out : List ℕ) (d : ℕ) (w : Wrote) → lentRefusal cap l ≡ 0 → d ≡ base (l .header .grid)
     → from′ ≡ from → to′ ≡ to → w ≡ rowScanOut (l .words) cap d n o k from′ to′ out → w ≡ scanCall cap l n o k from to out
 scan-done cap l n o k {from} {to} {from′} {to′} out d w ok e f g h =
     let same : rowScanOut (l .words) cap d n o k from′ to′ out ≡ rowScanOut (l .words) cap (base (l .header .grid)) n o k from to out = λ i. rowScanOut (l .words) cap (e i) n o k (f i) (g i) out in
     h ∙ same ∙ sym (scan-call n o k from to out cap l ok)
 
 -- what a scan and a lookup ask of what is lent
-pub lent-walkable : (cap : ℕ) (l : Lent) (d : ℕ) → checkCall cap l ≡ 0 → d ≡ base (l .header .grid) → Walkable (l .words) cap d
+pub lent-walkable : (cap : ℕ) (l : Lent) (d : ℕ) → lentRefusal cap l ≡ 0 → d ≡ base (l .header .grid) → Walkable (l .words) cap d
 lent-walkable cap l d ok e = rw e (walkable-lent cap l ok)
 
-pub lent-few : (cap : ℕ) (l : Lent) (n : ℕ) (o : List ℕ) (k : ℕ) {from to from′ to′ : ℤ} (d : ℕ) → checkCall cap l ≡ 0 → d ≡ base (l .header .grid)
+pub lent-few : (cap : ℕ) (l : Lent) (n : ℕ) (o : List ℕ) (k : ℕ) {from to from′ to′ : ℤ} (d : ℕ) → lentRefusal cap l ≡ 0 → d ≡ base (l .header .grid)
     → from′ ≡ from → to′ ≡ to → Few (l .words) cap d n o k from′ to′
 lent-few cap l n o k {from} {to} {from′} {to′} d ok e f g = rw (e, f, g) (few-lent n o k from to cap l ok)
 
-pub lookup-done : (cap : ℕ) (l : Lent) (x y d : ℕ) (w : Found) → checkCall cap l ≡ 0 → d ≡ base (l .header .grid) → w ≡ rowLookupOut (l .header .grid) (l .words) (l .values) cap d x y → w ≡ lookupCall cap l x y
+pub lookup-done : (cap : ℕ) (l : Lent) (x y d : ℕ) (w : Found) → lentRefusal cap l ≡ 0 → d ≡ base (l .header .grid) → w ≡ rowLookupOut (l .header .grid) (l .words) (l .values) cap d x y → w ≡ lookupCall cap l x y
 lookup-done cap l x y d w ok e h = h ∙ ap (λ (d : ℕ). rowLookupOut (l .header .grid) (l .words) (l .values) cap d x y) e ∙ sym (lookup-call x y cap l ok)
 
 -- a page call that they let through
-pub page-listed : (cap : ℕ) (l : Lent) (d : ℕ) → checkCall cap l ≡ 0 → cap ≤ 4095 → d ≡ base (l .header .grid) → length (leavesFrom (l .words) cap (d + 12) 1) ≤ 4096
+pub page-listed : (cap : ℕ) (l : Lent) (d : ℕ) → lentRefusal cap l ≡ 0 → cap ≤ 4095 → d ≡ base (l .header .grid) → length (leavesFrom (l .words) cap (d + 12) 1) ≤ 4096
 page-listed cap l d ok h e = rw e (omega (arith, page-few cap l ok))
 
-pub page-done : (cap : ℕ) (l : Lent) (out : List ℕ) (d : ℕ) (w : Wrote) → checkCall cap l ≡ 0 → d ≡ base (l .header .grid)
+pub page-done : (cap : ℕ) (l : Lent) (out : List ℕ) (d : ℕ) (w : Wrote) → lentRefusal cap l ≡ 0 → d ≡ base (l .header .grid)
     → w ≡ rowOut (l .header) (l .words) (l .values) cap d out → w ≡ pageCall cap l out
 page-done cap l out d w ok e h = h ∙ ap (λ (d : ℕ). rowOut (l .header) (l .words) (l .values) cap d out) e ∙ sym (page-call cap l out ok)

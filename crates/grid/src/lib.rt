@@ -6,6 +6,7 @@ ghost use Rattle.header.specs.Headers.{headerOf, lentOf};
 ghost use Rattle.lookup.specs.LookupRows.{foundOf};
 ghost use Rattle.output.specs.OutputLists.{wroteOf};
 ghost use Rattle.grid.specs.Calls.{Builds, Tapes};
+use checker::checks;
 use header::Header;
 use header::fresh;
 use header::with_mark;
@@ -28,7 +29,7 @@ pub struct BuildOut {
 pub fn check(header: Header, table: &[i32], values: &[f64], capacity: u32) -> u32
     ensures { λ r. ⌜ r ≡ checkCall capacity (lentOf header (now (table .entry)) (now (values .entry))) ⌝ }
 {
-    checker::checks::check(header, table, values, capacity)
+    checks::check(header, table, values, capacity)
 }
 
 // The numbers of the patches of a kind that a walk from a start meets, on levels from and to.
@@ -46,7 +47,7 @@ pub fn scan(
 ) -> Wrote
     ensures { λ r. ⌜ wroteOf r (now (out .exit)) ≡ scanCall capacity (lentOf header (now (table .entry)) (now (values .entry))) start order kind from to (now (out .entry)) ⌝ }
 {
-    let refusal = check(header, table, values, capacity);
+    let refusal = checks::check(header, table, values, capacity);
     if refusal != 0 {
         return Wrote { refusal, count: 0 };
     }
@@ -68,7 +69,7 @@ pub fn scan(
 pub fn lookup(header: Header, table: &[i32], values: &[f64], capacity: u32, x: u32, y: u32) -> Found
     ensures { λ r. ⌜ foundOf r ≡ lookupCall capacity (lentOf header (now (table .entry)) (now (values .entry))) x y ⌝ }
 {
-    let refusal = check(header, table, values, capacity);
+    let refusal = checks::check(header, table, values, capacity);
     if refusal != 0 {
         return Found {
             refusal: refusal,
@@ -84,7 +85,7 @@ pub fn lookup(header: Header, table: &[i32], values: &[f64], capacity: u32, x: u
 pub fn page(header: Header, table: &[i32], values: &[f64], capacity: u32, out: &mut [u8]) -> Wrote
     ensures { λ r. ⌜ wroteOf r (now (out .exit)) ≡ pageCall capacity (lentOf header (now (table .entry)) (now (values .entry))) (now (out .entry)) ⌝ }
 {
-    let refusal = check(header, table, values, capacity);
+    let refusal = checks::check(header, table, values, capacity);
     if refusal != 0 {
         return Wrote { refusal, count: 0 };
     }

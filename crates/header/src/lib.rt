@@ -1,9 +1,7 @@
 // What is lent beside the table, and the depth of level 0 by it. Every header is made here, so that one with another field is made here too.
 ghost use mathlib.Core.Path.{_≡_};
-ghost use mathlib.Core.Bool.{_&&_};
 ghost use Prim.Native.Nat.{_+_, _%_, _≤_};
-ghost use lib.Dec.{ltb};
-ghost use Rattle.mesh.specs.Place.{base, isRing};
+ghost use Rattle.mesh.specs.Place.{base, isRing, inRectangle};
 ghost use Rattle.mesh.specs.Seam.{lastJ};
 ghost use Rattle.mesh.specs.Call as Call;
 ghost use Rattle.header.specs.Headers.{headerOf, freshHeader, withMark};
@@ -69,7 +67,7 @@ pub fn misfit(header: Header) -> bool
 
 // Whether the rectangle has a cell of level 0 in the column i and the row j.
 pub fn has_cell(header: Header, i: u32, j: u32) -> bool
-    ensures { λ r. ⌜ r ≡ (ltb i (header .columns) && ltb j (header .rows)) ⌝ }
+    ensures { λ r. ⌜ r ≡ inRectangle (headerOf header .grid) i j ⌝ }
 {
     (i < header.columns) & (j < header.rows)
 }

@@ -4,16 +4,16 @@ use Prim.Native.Nat.{ℕ, zero, suc, _-_}
 use mathlib.Core.Bool.{Bool, false, _&&_, cond}
 use mathlib.Core.Option.{none, some}
 use mathlib.Core.List.{List, [], _∷_, _++_, map}
-use lib.Dec.{ltb, eqb}
+use lib.Dec.{eqb}
 use lib.ListN.{length, replicate}
 use Rattle.mesh.specs.Tools.{flat, keep}
-use Rattle.mesh.specs.Place.{Place, Grid, NE, SE, SW, NW, base, kid, root}
+use Rattle.mesh.specs.Place.{Place, Grid, NE, SE, SW, NW, inRectangle, base, kid, root}
 use Rattle.mesh.specs.Mesh.{patch}
 use Rattle.mesh.specs.State.{State, nil, free, used, Cell, blank}
 
 -- every level-0 cell of the rectangle
 unfoldable pub full : Grid → Place → Bool
-full g p = eqb (p .depth) (base g) && (ltb (p .i) (g .columns) && ltb (p .j) (g .rows))
+full g p = eqb (p .depth) (base g) && inRectangle g (p .i) (p .j)
 
 -- "within a level by parents in their own order, kids in the order SW, NW, SE, NE"
 unfoldable pub nextLevel : Grid → List Place → List Place

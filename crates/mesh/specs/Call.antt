@@ -66,6 +66,10 @@ no3 l = 3 if not (sound l)
 unfoldable pub lentChecks : ℕ → Lent → List Check
 lentChecks cap l = no1 cap l ∷ no2 (l .header .grid) ∷ no3 l ∷ []
 
+-- what they answer, where a call begins with them; 0 for nothing
+unfoldable pub lentRefusal : ℕ → Lent → ℕ
+lentRefusal cap l = refusal (lentChecks cap l)
+
 -- what a call answers if it is refused with a number above 0, and if it is not
 unfoldable pub unless : {A : Type 0} → ℕ → (ℕ → A) → A → A
 unless zero refused done = done
@@ -74,7 +78,7 @@ unless (suc n) refused done = refused (suc n)
 -- ---- check: 0 for yes
 
 unfoldable pub checkCall : ℕ → Lent → ℕ
-checkCall cap l = refusal (lentChecks cap l)
+checkCall cap l = lentRefusal cap l
 
 -- ---- build: "build checks 1, 2, 11"
 
@@ -92,7 +96,7 @@ buildCall cap l g =
     (λ n. record { refusal = n; in-use = 0; lent = l })
     (record { refusal = 0; in-use = inUse (built g cap .entries); lent = picture (built g cap) })
 
--- ---- tape: "a tape: those done; for 1 to 3 count and offset 0"
+-- ---- tape: "a tape: those done; for 1 to 3 count and offset 0"; it begins with the checks of the checker
 
 pub record Taped : Type 0 where
   pub done : ℕ
@@ -103,7 +107,7 @@ pub record Taped : Type 0 where
 unfoldable pub tapeCall : ℕ → Lent → List ℕ → Taped
 tapeCall cap l bytes =
     let r = run (decode l) bytes in
-    unless (refusal (lentChecks cap l))
+    unless (checkCall cap l)
     (λ n. record { done = 0; refusal = n; offset = 0; lent = l })
     (record { done = r .done; refusal = r .refusal; offset = r .offset; lent = picture (r .state) })
 

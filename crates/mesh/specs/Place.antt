@@ -5,7 +5,7 @@ use Prim.Native.Nat.{ℕ, zero, suc, _+_, _-_, _*_, _/_, _^_, max}
 use mathlib.Core.Bool.{Bool, _&&_, cond}
 use mathlib.Core.Option.{Option, none, some, Option·map}
 use mathlib.Core.List.{List, [], _∷_, _++_, map}
-use lib.Dec.{eqb, leb, T}
+use lib.Dec.{eqb, leb, ltb, T}
 use lib.IntN.{ℤ, subℕ}
 use lib.Count.{leadingZeros}
 use Rattle.mesh.specs.Tools.{orElse, any}
@@ -34,6 +34,10 @@ rectangle c r = record { columns = c; rows = r; mode = 0 }
 
 abbrev pub isRing : Grid → Bool
 isRing g = eqb (g .mode) 1
+
+-- it has a place of level 0 in the column i and the row j
+abbrev pub inRectangle : Grid → ℕ → ℕ → Bool
+inRectangle g i j = ltb i (g .columns) && ltb j (g .rows)
 
 -- "the root level is minus d, d being the bit length of the larger of columns and rows": a word's width less its leading zeros
 unfoldable pub base : Grid → ℕ

@@ -7,7 +7,7 @@ use lib.Dec.{leb, ltb, eqb}
 use lib.Ieee.{Float, nan, inf, fin}
 use lib.IntN.{ℤ, pos, negsuc}
 use Rattle.mesh.specs.Tools.{any, all, every, orElse, sameList}
-use Rattle.mesh.specs.Place.{Place, Grid, isRing, root, base, parent, kids, toNorth, toEast}
+use Rattle.mesh.specs.Place.{Place, Grid, isRing, inRectangle, root, base, parent, kids, toNorth, toEast}
 use Rattle.mesh.specs.Mesh.{on, patch, hasKids, leaf}
 use Rattle.mesh.specs.State.{State, Entry, Cell, Value, blank, measured, carried, amount, isBlank, isNil, placeOf, cellOf, stands, entry, cells, gridOf, capacity}
 use Rattle.mesh.specs.Valid.{finite, aboveOf}
@@ -46,7 +46,7 @@ there es p = any (stands p) es
 -- the rules of a mesh, of one cell
 unfoldable pub meshTests : Grid → (Place → Bool) → Place → List Bool
 meshTests g c p =
-    (not (eqb (p .depth) (base g)) || (ltb (p .i) (g .columns) && ltb (p .j) (g .rows))) ∷
+    (not (eqb (p .depth) (base g)) || inRectangle g (p .i) (p .j)) ∷
     leb (base g) (p .depth) ∷
     leb (p .depth) (base g + 12) ∷
     (not (ltb (base g) (p .depth)) || on g c (parent p)) ∷

@@ -16,7 +16,7 @@ use Rattle.mesh.specs.Scan.{no18}
 use Rattle.mesh.specs.Page.{page, pageChecks}
 use Rattle.mesh.specs.Call as Call
 use Rattle.mesh.specs.Decode.{decode}
-use Rattle.mesh.specs.Call.{checkCall, buildChecks, buildCall, tapeCall, wrote, pageCall, writing}
+use Rattle.mesh.specs.Call.{lentRefusal, buildChecks, buildCall, tapeCall, wrote, pageCall, writing}
 use Rattle.mesh.specs.Program.{gridIn, refusedLine, headChecks, tapePage, program, programCall, gridChecks, inputChecks}
 use Rattle.number_laws.proofs.Checks.{past, kept}
 use Rattle.picture_laws.proofs.Decoding.{decode-back}
@@ -36,7 +36,7 @@ use Rattle.program.proofs.PrintedTape.{started, ran, started-valid, ran
 pub page-prints : (s : State) → Valid s → (cap : ℕ) → capacity s ≡ cap → (out : List ℕ) → pageCall cap (picture s) out ≡ writing (page s) out
 unfolding pageCall pageChecks
 page-prints s v cap c out =
-    let ok : checkCall cap (picture s) ≡ 0 = ap (λ (n : ℕ). checkCall n (picture s)) (sym c) ∙ picture-accepted s v in
+    let ok : lentRefusal cap (picture s) ≡ 0 = ap (λ (n : ℕ). lentRefusal n (picture s)) (sym c) ∙ picture-accepted s v in
     ap (λ (r : ℕ). wrote r (page (decode (picture s))) out) (checks-after cap (picture s) ok (no18 (length out) (page (decode (picture s))) ∷ []))
     ∙ ap (λ (t : State). writing (page t) out) (decode-back s v)
 

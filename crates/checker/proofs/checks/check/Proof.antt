@@ -4,7 +4,7 @@ use native.Mathlib.Omega.{arith}
 use borrow.Author.Needs.{needs}
 use borrow.Author.Tests.{not-true, not-false}
 use mathlib.Core.Path.{refl, sym, _∙_}
-use Rattle.mesh.specs.Call.{lentChecks, checkCall}
+use Rattle.mesh.specs.Call.{lentChecks, lentRefusal}
 use Rattle.place_laws.proofs.Base.{base-range}
 use Rattle.readable.proofs.ReadableRows.{not-plain, plain-table, levelled-table}
 use Rattle.checker.proofs.Checking.{rows-pass, rows-fail, shallow}
@@ -15,7 +15,7 @@ first-refusal-requires : tie.Need-first-refusal-requires
 first-refusal-requires c κs = search needs
 
 returns : tie.Need-returns
-unfolding checkCall lentChecks
+unfolding lentRefusal lentChecks
 returns c = c .before .first-refusal .ensures .refused (c .if1 .taken) _
 
 words-fit-requires : tie.Need-words-fit-requires
