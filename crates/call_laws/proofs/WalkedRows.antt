@@ -9,14 +9,14 @@ use mathlib.Core.Logic.{_≢_}
 use mathlib.Core.Bool.{Bool, _&&_, cond}
 use mathlib.Core.Option.{some}
 use mathlib.Core.List.{List, [], _∷_, _++_, map}
-use lib.Dec.{T, eqb, eqb→eq, leb, leb→le}
+use lib.Dec.{T, leb, leb→le}
 use lib.IntN.{ℤ, _-ℤ_, natAbs}
 use lib.Signed.{leZ}
 use borrow.Author.Tests.{ne-eqb}
 use Rattle.mesh.specs.Tools.{all, flat, orElse}
-use Rattle.mesh.specs.Place.{Place, Grid, NE, kidWinds, root, base, level, kid}
+use Rattle.mesh.specs.Place.{Place, Grid, kidWinds, root, base, level, kid}
 use Rattle.mesh.specs.Winds.{wordOfWind, _of_}
-use Rattle.mesh.specs.Mesh.{patch, leaf, derived, flags, wallH, wallV, isWall}
+use Rattle.mesh.specs.Mesh.{leaf, derived, flags, wallH, wallV, isWall}
 use Rattle.mesh.specs.State.{State, Entry, placeOf, isUsed, entry, cells, number, placeAt, gridOf, capacity}
 use Rattle.mesh.specs.Valid.{Valid}
 use Rattle.mesh.specs.Picture.{table}
@@ -24,15 +24,13 @@ use Rattle.mesh.specs.Scan.{listed, standing, own, walk, windOf, permutation, s
 use Rattle.table.specs.Words.{linkOf, flagOf}
 use Rattle.walk.specs.WalkRows.{kidsWord, leafRow, rowWalk}
 use Rattle.listing.specs.ListedRows.{listedRow, fromLevel, scans}
-use Rattle.place_laws.proofs.Bools.{and-both, and-left, and-right, bool-ext}
+use Rattle.place_laws.proofs.Bools.{and-left, and-right}
 use Rattle.scan.proofs.OrderWords.{permutation-words}
-use Rattle.place_laws.proofs.Kids.{parent-kid, all-kids, kid-has, leaf-cell, leaf-kidless, is-leaf}
-use Rattle.place_laws.proofs.Tree.{cell-patch}
-use Rattle.place_laws.proofs.Growing.{middle-new}
 use Rattle.number_laws.proofs.Entries.{used-is}
-use Rattle.number_laws.proofs.NumberedPlaces.{valid-numbered, number-place, place-number, not-zero, numbered-not-zero}
+use Rattle.number_laws.proofs.NumberedPlaces.{valid-numbered, number-place, place-number, not-zero}
 use Rattle.table_laws.proofs.Pictured.{level-word, flag-of}
 use Rattle.table_laws.proofs.LinkedRows.{depth-of, link-kid}
+use Rattle.table_laws.proofs.KidRows as KidRows
 
 -- ---- the words of the kids
 
@@ -113,28 +111,8 @@ module _ (s : State) (v : Valid s) where
     unfolding flags derived
     side-row = flag-of s (number es p) p is-place 2
 
-    -- a cell has kids exactly if a patch stands in its middle
     pub leaf-row : leafRow (table s) (capacity s) (number es p) ≡ leaf g c p
-    unfolding leafRow
-    leaf-row = rw (complete-row, link-word-kid p 1 tt) (bool-ext (c p && eqb (number es (kid NE p)) 0) (leaf g c p) there back)
-      where
-        middle : T (patch g c (kid NE p)) → number es (kid NE p) ≢ 0
-        middle t = numbered-not-zero es (valid-numbered v) (kid NE p) (v .every (kid NE p) t)
-
-        there : T (c p && eqb (number es (kid NE p)) 0) → T (leaf g c p)
-        there t =
-            let a = and-left (c p) (eqb (number es (kid NE p)) 0) t in
-            let z = eqb→eq (number es (kid NE p)) 0 (and-right (c p) (eqb (number es (kid NE p)) 0) t) in
-            is-leaf g c p a (λ q e b.
-            let k = all-kids c p (v .mesh .four p a (kid-has g c p q e b)) (kid NE p) (parent-kid NE p) in
-            middle (cell-patch g c (v .mesh) (kid NE p) k) z)
-
-        back : T (leaf g c p) → T (c p && eqb (number es (kid NE p)) 0)
-        back t = and-both (c p) (eqb (number es (kid NE p)) 0) (leaf-cell g c p t) (go (ℕ-discrete (number es (kid NE p)) 0))
-          where
-            go : Dec (number es (kid NE p) ≡ 0) → T (eqb (number es (kid NE p)) 0)
-            go (yes z) = rw z tt
-            go (no z) = absurd (middle-new g c (v .mesh) p (leaf-cell g c p t) (leaf-kidless g c p t) (v .each (number es (kid NE p)) (kid NE p) (number-place es (kid NE p) z)))
+    leaf-row = KidRows.leaf-row s v (number es p) p is-place
 
     pub from-row : (z : ℤ) → fromLevel (table s) z (number es p) ≡ leZ z (level g p)
     unfolding fromLevel

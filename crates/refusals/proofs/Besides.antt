@@ -29,7 +29,8 @@ use Rattle.number_laws.proofs.NumberedPlaces.{valid-numbered, number-place, pla
 use Rattle.table_laws.proofs.Pictured.{flag-of}
 use Rattle.table_laws.proofs.LinkedRows.{link-side, link-nil, link-kid}
 use Rattle.asks.specs.Asks.{parental, besideKid, finerRound}
-use Rattle.refusals.proofs.AskedRows.{cell-numbered, kid-numbered, parental-row}
+use Rattle.table_laws.proofs.KidRows.{cell-numbered, kid-numbered}
+use Rattle.refusals.proofs.AskedRows.{parental-row}
 
 module _ (s : State) (v : Valid s) where
   abbrev g : Grid

@@ -28,7 +28,8 @@ use Rattle.table_laws.proofs.LinkedRows.{depth-of}
 use Rattle.table_laws.proofs.TakenRows.{taken-row}
 use Rattle.asks.specs.Asks.{parental}
 use Rattle.refusals.specs.Decide.{row6, row7, refineRows, sentenceRows, removeRows, killRows, setRows, refineRefusal, sentenceRefusal, removeRefusal, killRefusal, setRefusal}
-use Rattle.refusals.proofs.AskedRows.{cell-row, sentenced-row, parental-row, kids-sentenced-row}
+use Rattle.table_laws.proofs.KidRows.{cell-row}
+use Rattle.refusals.proofs.AskedRows.{sentenced-row, parental-row, kids-sentenced-row}
 use Rattle.refusals.proofs.Besides.{coarse-row, finer-row}
 use Rattle.refusals.proofs.Lacking.{lacking-row}
 use Rattle.refusals.proofs.CountedFree.{free-total}
