@@ -26,7 +26,8 @@ impl Case {
         let header = Header { columns: self.number() as u32, rows: self.number() as u32, mode: self.number() as u32, mark: self.number() as u16 };
         let table = self.list().into_iter().map(|word| word as i32).collect();
         let values = self.list().into_iter().map(|bits| f64::from_bits(bits as u64)).collect();
-        Lists { header, table, values }
+        let counts = self.list().into_iter().map(|number| number as u32).collect();
+        Lists { header, table, values, counts }
     }
 }
 
@@ -35,12 +36,13 @@ struct Lists {
     header: Header,
     table: Vec<i32>,
     values: Vec<f64>,
+    counts: Vec<u32>,
 }
 
 impl Lists {
     fn same(&self, other: &Lists) -> bool {
         let bits = |lists: &Lists| lists.values.iter().map(|x| x.to_bits()).collect::<Vec<_>>();
-        self.header == other.header && self.table == other.table && bits(self) == bits(other)
+        self.header == other.header && self.table == other.table && bits(self) == bits(other) && self.counts == other.counts
     }
 }
 
@@ -56,27 +58,28 @@ fn case_agrees(text: &str) -> bool {
             let (columns, rows, mode) = (case.number() as u32, case.number() as u32, case.number() as u32);
             let wanted = (case.number() as u32, case.number() as u32);
             let left = case.lists();
-            let by_hand = hand::build(&mut a.header, &mut a.table, &mut a.values, capacity, columns, rows, mode);
-            let by_proof = proved::build(&mut b.header, &mut b.table, &mut b.values, capacity, columns, rows, mode);
+            let by_hand = hand::build(&mut a.header, &mut a.table, &mut a.values, &mut a.counts, capacity, columns, rows, mode);
+            let by_proof = proved::build(&mut b.header, &mut b.table, &mut b.values, &mut b.counts, capacity, columns, rows, mode);
             by_hand == wanted && by_proof == wanted && a.same(&left) && b.same(&left)
         }
         2 => {
             let requests: Vec<u8> = case.list().into_iter().map(|byte| byte as u8).collect();
             let wanted = (case.number() as usize, case.number() as u32, case.number() as usize);
             let left = case.lists();
-            let by_hand = hand::tape(&mut a.header, &mut a.table, &mut a.values, capacity, &requests);
-            let by_proof = proved::tape(&mut b.header, &mut b.table, &mut b.values, capacity, &requests);
+            let by_hand = hand::tape(&mut a.header, &mut a.table, &mut a.values, &mut a.counts, capacity, &requests);
+            let by_proof = proved::tape(&mut b.header, &mut b.table, &mut b.values, &mut b.counts, capacity, &requests);
             by_hand == wanted && by_proof == wanted && a.same(&left) && b.same(&left)
         }
         3 => {
             case.number();
             let wanted = case.number() as u32;
-            let by_hand = hand::check(&a.header, &a.table, &a.values, capacity);
-            by_hand == wanted && proved::check(&b.header, &b.table, &b.values, capacity) == wanted
+            let by_hand = hand::check(&a.header, &a.table, &a.values, &a.counts, capacity);
+            by_hand == wanted && proved::check(&b.header, &b.table, &b.values, &b.counts, capacity) == wanted
         }
         4 => scan_agrees(&mut case, capacity, &lists),
         5 => lookups_agree(&mut case, capacity, &lists),
-        _ => page_agrees(&mut case, capacity, &lists),
+        6 => page_agrees(&mut case, capacity, &lists),
+        _ => counts_agree(&mut case, &lists),
     }
 }
 
@@ -104,6 +107,15 @@ fn lookups_agree(case: &mut Case, capacity: u32, lists: &Lists) -> bool {
     })
 }
 
+fn counts_agree(case: &mut Case, lists: &Lists) -> bool {
+    let questions: Vec<(u32, u32)> = (0..case.number()).map(|_| (case.number() as u32, case.number() as u32)).collect();
+    case.number();
+    questions.into_iter().all(|(level, status)| {
+        let wanted = (case.number() as u32, case.number() as u32);
+        hand::count(&lists.counts, level, status) == wanted && proved::count(&lists.counts, level, status) == wanted
+    })
+}
+
 fn page_agrees(case: &mut Case, capacity: u32, lists: &Lists) -> bool {
     let (length, filler) = (case.number() as usize, case.number() as u8);
     let wanted = (case.number() as u32, case.number() as usize);
@@ -120,20 +132,22 @@ macro_rules! program {
         let input: &[u8] = $input;
         let capacity = 1000;
         let header = Header { columns: 0, rows: 0, mode: 0, mark: 0 };
-        let mut lists = Lists { header, table: vec![0; 14 * 1001], values: vec![0.0; 1001] };
+        let mut lists = Lists { header, table: vec![0; 14 * 1001], values: vec![0.0; 1001], counts: vec![0; hand::PLACES] };
         let mut page = vec![0; 60000];
         let head = match input {
             _ if input.len() > 60000 => 20,
             [] => 4,
             [7, columns, rows, ..] => {
-                $calls::build(&mut lists.header, &mut lists.table, &mut lists.values, capacity, *columns as u32, *rows as u32, hand::OPEN).0
+                let (columns, rows) = (*columns as u32, *rows as u32);
+                $calls::build(&mut lists.header, &mut lists.table, &mut lists.values, &mut lists.counts, capacity, columns, rows, hand::OPEN).0
             }
             [7, ..] => 4,
             _ => 5,
         };
         let (refusal, at) = match head {
             0 => {
-                let (_, refusal, offset) = $calls::tape(&mut lists.header, &mut lists.table, &mut lists.values, capacity, &input[3..]);
+                let (_, refusal, offset) =
+                    $calls::tape(&mut lists.header, &mut lists.table, &mut lists.values, &mut lists.counts, capacity, &input[3..]);
                 (refusal, offset + 3)
             }
             _ => (head, 0),

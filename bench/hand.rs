@@ -1,6 +1,6 @@
-//! The six calls written by hand in safe Rust, for the comparison of speed: from the scope paper alone, with no proof. A table that a caller lends
-//! is tested row by row by its links; a request touches the rows near its cell alone; along a tape the lowest number that may be free is remembered.
-//! Only the build and the checker know of a ring's seam: requests go by the links.
+//! The seven calls written by hand in safe Rust, for the comparison of speed: from the scope paper alone, with no proof. A table that a caller lends
+//! is tested row by row by its links, and its leaves are counted on the way; a request touches the rows near its cell and a few counts alone; along a
+//! tape the lowest number that may be free is remembered. Only the build and the checker know of a ring's seam: requests go by the links.
 
 #[repr(C)]
 #[derive(Clone, Copy, Debug, PartialEq, Eq)]
@@ -45,6 +45,8 @@ const KIDS: [[usize; 2]; 2] = [[SW, NW], [SE, NE]];
 const FREE: Row = [0, 0, 0, 0, 0, 0, 0, 0, 0, 0, 0, 0, DEAD, 0];
 const LAST_LEVEL: i32 = 12;
 const MOST: usize = 4095;
+const STATUSES: usize = 3;
+pub const PLACES: usize = STATUSES * (LAST_LEVEL as usize + 1);
 const EXPONENT: u64 = 0x7ff << 52;
 
 pub fn row(t: &[i32], n: usize) -> &Row {
@@ -59,6 +61,11 @@ fn row_mut(t: &mut [i32], n: usize) -> &mut Row {
 fn linked(t: &[i32], word: i32) -> Option<&Row> {
     let at = word as u32 as usize * ROW;
     t.get(at..at + ROW)?.try_into().ok()
+}
+
+/// Where the leaves of a level and a status are counted.
+fn place(level: i32, status: i32) -> usize {
+    STATUSES * level as usize + status as usize
 }
 
 /// The levels below level 0.
@@ -107,11 +114,12 @@ fn cell(own: i32, north: i32, east: i32) -> i32 {
 
 // ---- the checker
 
-/// What a tape wants to know of a sound table.
+/// What a tape wants to know of a sound table, and how many leaves of each level and status it has.
 struct Facts {
     free: usize,
     low: usize,
     ground_cells: usize,
+    counts: [u32; PLACES],
 }
 
 fn refuse_lengths(t: &[i32], v: &[f64], capacity: u32) -> bool {
@@ -133,11 +141,23 @@ fn admit(h: &Header, t: &[i32], v: &[f64], capacity: u32) -> Result<Facts, u32> 
     sound(h, t, v).ok_or(3)
 }
 
+/// The same with the counts of the leaves.
+fn admit_counted(h: &Header, t: &[i32], v: &[f64], c: &[u32], capacity: u32) -> Result<Facts, u32> {
+    if c.len() != PLACES {
+        return Err(1);
+    }
+    let facts = admit(h, t, v, capacity)?;
+    if facts.counts != *c {
+        return Err(3);
+    }
+    Ok(facts)
+}
+
 /// Every row names its parent, and the parent names the row; so there is a kid word for each row but the root, and if there are no more, none names
 /// anything else.
 fn sound(h: &Header, t: &[i32], v: &[f64]) -> Option<Facts> {
     let root_level = -(ground_depth(h.columns, h.rows) as i32);
-    let mut facts = Facts { free: 0, low: v.len(), ground_cells: 0 };
+    let mut facts = Facts { free: 0, low: v.len(), ground_cells: 0, counts: [0; PLACES] };
     let mut kids = 0;
     if *row(t, 0) != [0; ROW] || v[0].to_bits() != 0 || !is_root(row(t, 1), root_level) {
         return None;
@@ -173,6 +193,9 @@ fn sound(h: &Header, t: &[i32], v: &[f64]) -> Option<Facts> {
             cell_agrees(h, t, r, p, count)?;
             value_agrees(r[STATUS], bits, p[STATUS], above)?;
             facts.ground_cells += (r[LEVEL] == 0) as usize;
+            if r[NE] == 0 {
+                *facts.counts.get_mut(place(r[LEVEL], r[STATUS]))? += 1;
+            }
         }
     }
     (kids + facts.free + 2 == v.len()).then_some(facts)
@@ -262,15 +285,28 @@ fn value_agrees(status: i32, bits: u64, status_above: i32, above: u64) -> Option
     good.then_some(())
 }
 
-pub fn check(h: &Header, t: &[i32], v: &[f64], capacity: u32) -> u32 {
-    admit(h, t, v, capacity).err().unwrap_or(0)
+pub fn check(h: &Header, t: &[i32], v: &[f64], c: &[u32], capacity: u32) -> u32 {
+    admit_counted(h, t, v, c, capacity).err().unwrap_or(0)
+}
+
+// ---- the question
+
+/// The refusal, and the count.
+pub fn count(c: &[u32], level: u32, status: u32) -> (u32, u32) {
+    if c.len() != PLACES {
+        return (1, 0);
+    }
+    if level > LAST_LEVEL as u32 || status >= STATUSES as u32 {
+        return (23, 0);
+    }
+    (0, c[place(level as i32, status as i32)])
 }
 
 // ---- build
 
 /// The refusal, and the number in use.
-pub fn build(h: &mut Header, t: &mut [i32], v: &mut [f64], capacity: u32, columns: u32, rows: u32, mode: u32) -> (u32, u32) {
-    if refuse_lengths(t, v, capacity) {
+pub fn build(h: &mut Header, t: &mut [i32], v: &mut [f64], c: &mut [u32], capacity: u32, columns: u32, rows: u32, mode: u32) -> (u32, u32) {
+    if refuse_lengths(t, v, capacity) || c.len() != PLACES {
         return (1, 0);
     }
     if refuse_size(columns, rows, mode) {
@@ -284,6 +320,8 @@ pub fn build(h: &mut Header, t: &mut [i32], v: &mut [f64], capacity: u32, column
     }
     *h = Header { columns, rows, mode, mark: 0 };
     v.fill(0.0);
+    c.fill(0);
+    c[place(0, 0)] = columns * rows;
     *row_mut(t, 0) = [0; ROW];
     for n in used as usize + 1..v.len() {
         *row_mut(t, n) = FREE;
@@ -362,14 +400,15 @@ fn ground_flags(i: i32, j: i32, columns: i32, rows: i32, mode: u32) -> i32 {
 pub struct Desk<'a> {
     pub t: &'a mut [i32],
     v: &'a mut [f64],
+    counts: &'a mut [u32; PLACES],
     pub free: usize,
     low: usize,
     ground_cells: usize,
 }
 
 /// The requests done, the refusal, and the offset.
-pub fn tape(h: &mut Header, t: &mut [i32], v: &mut [f64], capacity: u32, tape: &[u8]) -> (usize, u32, usize) {
-    let mut desk = match Desk::new(h, t, v, capacity) {
+pub fn tape(h: &mut Header, t: &mut [i32], v: &mut [f64], c: &mut [u32], capacity: u32, tape: &[u8]) -> (usize, u32, usize) {
+    let mut desk = match Desk::new(h, t, v, c, capacity) {
         Ok(desk) => desk,
         Err(refusal) => return (0, refusal, 0),
     };
@@ -396,9 +435,10 @@ pub fn tape(h: &mut Header, t: &mut [i32], v: &mut [f64], capacity: u32, tape: &
 }
 
 impl<'a> Desk<'a> {
-    pub fn new(h: &Header, t: &'a mut [i32], v: &'a mut [f64], capacity: u32) -> Result<Self, u32> {
-        let facts = admit(h, t, v, capacity)?;
-        Ok(Desk { t, v, free: facts.free, low: facts.low, ground_cells: facts.ground_cells })
+    pub fn new(h: &Header, t: &'a mut [i32], v: &'a mut [f64], c: &'a mut [u32], capacity: u32) -> Result<Self, u32> {
+        let facts = admit_counted(h, t, v, c, capacity)?;
+        let counts = c.try_into().unwrap();
+        Ok(Desk { t, v, counts, free: facts.free, low: facts.low, ground_cells: facts.ground_cells })
     }
 
     /// One whole request: its refusal, or 0.
@@ -438,7 +478,9 @@ impl<'a> Desk<'a> {
                     return 16;
                 }
                 self.v[n] = f64::from_bits(bits);
+                *self.count(n) -= 1;
                 self.t[n * ROW + STATUS] = 1;
+                *self.count(n) += 1;
                 0
             }
         }
@@ -446,6 +488,12 @@ impl<'a> Desk<'a> {
 
     fn word(&self, n: usize, wind: usize) -> usize {
         self.t[n * ROW + wind] as usize
+    }
+
+    /// How many leaves have the level and the status of a cell.
+    fn count(&mut self, n: usize) -> &mut u32 {
+        let r = row(self.t, n);
+        &mut self.counts[place(r[LEVEL], r[STATUS])]
     }
 
     fn flags(&self, n: usize) -> i32 {
@@ -481,6 +529,7 @@ impl<'a> Desk<'a> {
                 self.link(q, p, wind);
             }
         }
+        *self.count(n) -= 1;
         let (status, value) = (self.t[n * ROW + STATUS], self.v[n]);
         for &q in &under[..4] {
             let kid = row_mut(self.t, q);
@@ -490,6 +539,7 @@ impl<'a> Desk<'a> {
                 self.v[q] = value;
             }
         }
+        *self.count(under[0]) += 4;
         let beside = self.beside(&under);
         self.refresh(&under, &beside);
         0
@@ -601,8 +651,9 @@ impl<'a> Desk<'a> {
             return 22;
         }
         for &q in &under[..4] {
-            self.take_cell(q);
+            self.take_leaf(q);
         }
+        *self.count(n) += 1;
         for q in &mut under {
             if !self.touched(*q) {
                 self.release(*q);
@@ -613,7 +664,8 @@ impl<'a> Desk<'a> {
         0
     }
 
-    fn take_cell(&mut self, q: usize) {
+    fn take_leaf(&mut self, q: usize) {
+        *self.count(q) -= 1;
         self.t[q * ROW + FLAGS] = 0;
         self.t[q * ROW + STATUS] = 0;
         self.v[q] = 0.0;
@@ -646,7 +698,7 @@ impl<'a> Desk<'a> {
         let corner = self.word(east, N);
         let mut under = [n, north, east, corner];
         let beside = [self.word(n, W), self.word(n, S)];
-        self.take_cell(n);
+        self.take_leaf(n);
         self.ground_cells -= 1;
         for q in &mut under {
             if !self.touched(*q) {

@@ -5,7 +5,8 @@
 //!     bench list                    a line for each workload: its name, its units, the calls that check the table it starts from
 //!     bench stack                   how much stack the proved calls take
 //!     bench NAME SIDE REPEATS       one workload alone, compared with nothing, for counting instructions. SIDE is proved or hand; proved-idle or
-//!                                   hand-idle: one call with nothing to do on the table that the workload starts from; none: the same with calls of nothing
+//!                                   hand-idle: one call with nothing to do on the table that the workload starts from; none and none-idle: the same
+//!                                   with calls of nothing
 
 mod hand;
 mod nothing;
@@ -30,14 +31,16 @@ macro_rules! run {
         let (job, lists, outcome): (&Job, &mut Lists, &mut Outcome) = ($job, $lists, $outcome);
         let capacity = lists.capacity();
         match &job.work {
-            Work::Check => outcome.answers.push($calls::check(&lists.header, &lists.table, &lists.values, capacity) as u64),
+            Work::Check => outcome.answers.push($calls::check(&lists.header, &lists.table, &lists.values, &lists.counts, capacity) as u64),
             Work::Build(columns, rows, mode) => {
-                let (refusal, used) = $calls::build(&mut lists.header, &mut lists.table, &mut lists.values, capacity, *columns, *rows, *mode);
+                let Lists { header, table, values, counts } = lists;
+                let (refusal, used) = $calls::build(header, table, values, counts, capacity, *columns, *rows, *mode);
                 outcome.answers.extend([refusal as u64, used as u64]);
             }
             Work::Tapes(tapes) => {
                 for tape in tapes {
-                    let (done, refusal, at) = $calls::tape(&mut lists.header, &mut lists.table, &mut lists.values, capacity, tape);
+                    let Lists { header, table, values, counts } = &mut *lists;
+                    let (done, refusal, at) = $calls::tape(header, table, values, counts, capacity, tape);
                     outcome.answers.extend([done as u64, refusal as u64, at as u64]);
                 }
             }
@@ -45,6 +48,12 @@ macro_rules! run {
                 for &(speed, load) in points {
                     let found: Found = $calls::lookup(&lists.header, &lists.table, &lists.values, capacity, speed, load);
                     outcome.answers.extend([found.refusal as u64, found.number as u64, found.status as u64, found.bits]);
+                }
+            }
+            Work::Questions(questions) => {
+                for &(level, status) in questions {
+                    let (refusal, count) = $calls::count(&lists.counts, level, status);
+                    outcome.answers.extend([refusal as u64, count as u64]);
                 }
             }
             Work::Scan => {
@@ -60,16 +69,24 @@ macro_rules! run {
     }};
 }
 
-/// A call that has nothing to do but what such a call begins with: a tape of no request, or a check.
+/// A call that has nothing to do but what such a call begins with: a tape of no request; a check; or, as lookup, scan and page are lent no counts, a
+/// scan from no patch, which is refused after its check of the rest.
 macro_rules! idle {
     ($calls:ident, $job:expr, $lists:expr, $outcome:expr) => {{
         let (lists, outcome): (&mut Lists, &mut Outcome) = ($lists, $outcome);
         let capacity = lists.capacity();
-        if let Work::Tapes(_) = &$job.work {
-            let (done, refusal, at) = $calls::tape(&mut lists.header, &mut lists.table, &mut lists.values, capacity, &[]);
-            outcome.answers.extend([done as u64, refusal as u64, at as u64]);
-        } else {
-            outcome.answers.push($calls::check(&lists.header, &lists.table, &lists.values, capacity) as u64);
+        match &$job.work {
+            Work::Tapes(_) => {
+                let Lists { header, table, values, counts } = lists;
+                let (done, refusal, at) = $calls::tape(header, table, values, counts, capacity, &[]);
+                outcome.answers.extend([done as u64, refusal as u64, at as u64]);
+            }
+            Work::Lookups(_) | Work::Scan | Work::Page => {
+                let what = Scan { start: 0, order: &[3, 4, 2, 1], kind: 3, from: 0, to: 12 };
+                let (refusal, count) = $calls::scan(&lists.header, &lists.table, &lists.values, capacity, &what, &mut outcome.numbers);
+                outcome.answers.extend([refusal as u64, count as u64]);
+            }
+            _ => outcome.answers.push($calls::check(&lists.header, &lists.table, &lists.values, &lists.counts, capacity) as u64),
         }
     }};
 }

@@ -3,17 +3,22 @@
 use crate::hand::{Found, Header, Scan};
 
 #[inline(never)]
-pub fn check(_: &Header, _: &[i32], _: &[f64], capacity: u32) -> u32 {
+pub fn check(_: &Header, _: &[i32], _: &[f64], _: &[u32], capacity: u32) -> u32 {
     capacity
 }
 
 #[inline(never)]
-pub fn build(_: &mut Header, _: &mut [i32], _: &mut [f64], capacity: u32, columns: u32, _: u32, _: u32) -> (u32, u32) {
+pub fn count(_: &[u32], level: u32, status: u32) -> (u32, u32) {
+    (level, status)
+}
+
+#[inline(never)]
+pub fn build(_: &mut Header, _: &mut [i32], _: &mut [f64], _: &mut [u32], capacity: u32, columns: u32, _: u32, _: u32) -> (u32, u32) {
     (capacity, columns)
 }
 
 #[inline(never)]
-pub fn tape(_: &mut Header, _: &mut [i32], _: &mut [f64], capacity: u32, tape: &[u8]) -> (usize, u32, usize) {
+pub fn tape(_: &mut Header, _: &mut [i32], _: &mut [f64], _: &mut [u32], capacity: u32, tape: &[u8]) -> (usize, u32, usize) {
     (0, capacity, tape.len())
 }
 

@@ -9,6 +9,8 @@ extern "C" {
         t_len: usize,
         v: *mut f64,
         v_len: usize,
+        c: *mut u32,
+        c_len: usize,
         capacity: u32,
         columns: u32,
         rows: u32,
@@ -21,13 +23,25 @@ extern "C" {
         t_len: usize,
         v: *mut f64,
         v_len: usize,
+        c: *mut u32,
+        c_len: usize,
         capacity: u32,
         tape: *const u8,
         tape_len: usize,
         done: *mut usize,
         offset: *mut usize,
     ) -> u32;
-    pub fn grid_check(h: *const Header, t: *const i32, t_len: usize, v: *const f64, v_len: usize, capacity: u32) -> u32;
+    pub fn grid_check(
+        h: *const Header,
+        t: *const i32,
+        t_len: usize,
+        v: *const f64,
+        v_len: usize,
+        c: *const u32,
+        c_len: usize,
+        capacity: u32,
+    ) -> u32;
+    pub fn grid_count(c: *const u32, c_len: usize, level: u32, status: u32, count: *mut u32) -> u32;
     pub fn grid_scan(
         h: *const Header,
         t: *const i32,
@@ -71,20 +85,55 @@ extern "C" {
     ) -> u32;
 }
 
-pub fn check(h: &Header, t: &[i32], v: &[f64], capacity: u32) -> u32 {
-    unsafe { grid_check(h, t.as_ptr(), t.len(), v.as_ptr(), v.len(), capacity) }
+pub fn check(h: &Header, t: &[i32], v: &[f64], c: &[u32], capacity: u32) -> u32 {
+    unsafe { grid_check(h, t.as_ptr(), t.len(), v.as_ptr(), v.len(), c.as_ptr(), c.len(), capacity) }
 }
 
-pub fn build(h: &mut Header, t: &mut [i32], v: &mut [f64], capacity: u32, columns: u32, rows: u32, mode: u32) -> (u32, u32) {
+pub fn count(c: &[u32], level: u32, status: u32) -> (u32, u32) {
+    let mut count = u32::MAX;
+    let refusal = unsafe { grid_count(c.as_ptr(), c.len(), level, status, &mut count) };
+    (refusal, count)
+}
+
+pub fn build(h: &mut Header, t: &mut [i32], v: &mut [f64], c: &mut [u32], capacity: u32, columns: u32, rows: u32, mode: u32) -> (u32, u32) {
     let mut used = u32::MAX;
-    let refusal = unsafe { grid_build(h, t.as_mut_ptr(), t.len(), v.as_mut_ptr(), v.len(), capacity, columns, rows, mode, &mut used) };
+    let refusal = unsafe {
+        grid_build(
+            h,
+            t.as_mut_ptr(),
+            t.len(),
+            v.as_mut_ptr(),
+            v.len(),
+            c.as_mut_ptr(),
+            c.len(),
+            capacity,
+            columns,
+            rows,
+            mode,
+            &mut used,
+        )
+    };
     (refusal, used)
 }
 
-pub fn tape(h: &mut Header, t: &mut [i32], v: &mut [f64], capacity: u32, tape: &[u8]) -> (usize, u32, usize) {
+pub fn tape(h: &mut Header, t: &mut [i32], v: &mut [f64], c: &mut [u32], capacity: u32, tape: &[u8]) -> (usize, u32, usize) {
     let (mut done, mut offset) = (usize::MAX, usize::MAX);
-    let refusal =
-        unsafe { grid_tape(h, t.as_mut_ptr(), t.len(), v.as_mut_ptr(), v.len(), capacity, tape.as_ptr(), tape.len(), &mut done, &mut offset) };
+    let refusal = unsafe {
+        grid_tape(
+            h,
+            t.as_mut_ptr(),
+            t.len(),
+            v.as_mut_ptr(),
+            v.len(),
+            c.as_mut_ptr(),
+            c.len(),
+            capacity,
+            tape.as_ptr(),
+            tape.len(),
+            &mut done,
+            &mut offset,
+        )
+    };
     (done, refusal, offset)
 }
 

@@ -73,6 +73,7 @@ END {
     grows("the same, on its right edge: one try more", "lookup-right", "less")
     grows("the same, on its upper edge: two", "lookup-top", "less")
     grows("the same, at its upper right corner: three", "lookup-corner", "less")
+    grows("a question about the counts, the whole call", "count", "whole")
     grows("page without the check, a leaf, of 427 leaves", "page-quarter", "less", 427)
     grows("page without the check, a leaf, of 1,714 leaves", "page", "less", 1714)
     grows("scan without the check, a leaf, of 427 leaves", "scan-quarter", "less", 427)

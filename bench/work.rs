@@ -1,13 +1,14 @@
 //! The workloads: lists to start from and calls to make on them. Tapes are made by a seeded generator that looks at the hand-written version's state,
 //! so that every request is accepted and the table stays near full.
 
-use crate::hand::{self, row, Desk, Header, COMPLETE, E, FLAGS, GRN_CELL, I, J, LEVEL, N, NE, NW, OPEN, RING, ROW, S, SE, SENTENCED, SW, W};
+use crate::hand::{self, row, Desk, Header, COMPLETE, E, FLAGS, GRN_CELL, I, J, LEVEL, N, NE, NW, OPEN, PLACES, RING, ROW, S, SE, SENTENCED, SW, W};
 
 #[derive(Clone)]
 pub struct Lists {
     pub header: Header,
     pub table: Vec<i32>,
     pub values: Vec<f64>,
+    pub counts: Vec<u32>,
 }
 
 impl Lists {
@@ -19,11 +20,12 @@ impl Lists {
         self.header = other.header;
         self.table.copy_from_slice(&other.table);
         self.values.copy_from_slice(&other.values);
+        self.counts.copy_from_slice(&other.counts);
     }
 
     pub fn same(&self, other: &Lists) -> bool {
         let bits = |lists: &Lists| lists.values.iter().map(|x| x.to_bits()).collect::<Vec<_>>();
-        self.header == other.header && self.table == other.table && bits(self) == bits(other)
+        self.header == other.header && self.table == other.table && bits(self) == bits(other) && self.counts == other.counts
     }
 
     /// What is in the table, in words.
@@ -40,6 +42,7 @@ pub enum Work {
     Build(u32, u32, u32),
     Tapes(Vec<Vec<u8>>),
     Lookups(Vec<(u32, u32)>),
+    Questions(Vec<(u32, u32)>),
     Scan,
     Page,
 }
@@ -65,6 +68,7 @@ impl Job {
             (_, Per::Row) => self.start.values.len() - 1,
             (_, Per::Requests(units)) => units,
             (Work::Lookups(points), _) => points.len(),
+            (Work::Questions(questions), _) => questions.len(),
             (Work::Tapes(tapes), _) => tapes.len(),
             _ => 1,
         }
@@ -73,7 +77,7 @@ impl Job {
     /// How often a call with nothing to do is taken off; 0: the figure is one of whole calls.
     pub fn checks(&self) -> usize {
         match &self.work {
-            Work::Check | Work::Build(..) => 0,
+            Work::Check | Work::Build(..) | Work::Questions(_) => 0,
             Work::Lookups(points) => points.len(),
             Work::Tapes(tapes) if tapes.len() > 1 => 0,
             _ => 1,
@@ -92,6 +96,7 @@ impl Job {
         match &self.work {
             Work::Tapes(_) => answers.chunks(3).all(|answer| answer[1] == 0),
             Work::Lookups(_) => answers.chunks(4).all(|answer| answer[0] == 0),
+            Work::Questions(_) => answers.chunks(2).all(|answer| answer[0] == 0),
             _ => answers[0] == 0,
         }
     }
@@ -122,6 +127,7 @@ pub const WORKLOADS: &[(&str, fn() -> Job)] = &[
     ("lookup-right", || lookups(OPEN, |_, load| (EDGE, load))),
     ("lookup-top", || lookups(OPEN, |speed, _| (speed, EDGE))),
     ("lookup-corner", || lookups(OPEN, |_, _| (EDGE, EDGE))),
+    ("count", questions),
     ("page", || Job { start: leaves(OPEN, 486), work: Work::Page, per: Per::Call }),
     ("page-quarter", || Job { start: leaves(OPEN, 57), work: Work::Page, per: Per::Call }),
     ("scan", || Job { start: leaves(OPEN, 486), work: Work::Scan, per: Per::Call }),
@@ -166,7 +172,7 @@ struct Maker<'a> {
 impl<'a> Maker<'a> {
     fn new(lists: &'a mut Lists, seed: u64) -> Maker<'a> {
         let capacity = lists.capacity();
-        let desk = Desk::new(&lists.header, &mut lists.table, &mut lists.values, capacity).expect("a sound table");
+        let desk = Desk::new(&lists.header, &mut lists.table, &mut lists.values, &mut lists.counts, capacity).expect("a sound table");
         Maker { desk, tape: vec![], requests: 0, chance: Chance(seed) }
     }
 
@@ -289,8 +295,9 @@ impl<'a> Maker<'a> {
 
 fn built(columns: u32, rows: u32, mode: u32, capacity: usize) -> Lists {
     let header = Header { columns: 0, rows: 0, mode: 0, mark: 0 };
-    let mut lists = Lists { header, table: vec![0; ROW * (capacity + 1)], values: vec![0.0; capacity + 1] };
-    let (refusal, _) = hand::build(&mut lists.header, &mut lists.table, &mut lists.values, capacity as u32, columns, rows, mode);
+    let mut lists = Lists { header, table: vec![0; ROW * (capacity + 1)], values: vec![0.0; capacity + 1], counts: vec![0; PLACES] };
+    let Lists { header, table, values, counts } = &mut lists;
+    let (refusal, _) = hand::build(header, table, values, counts, capacity as u32, columns, rows, mode);
     assert_eq!(refusal, 0);
     lists
 }
@@ -521,4 +528,11 @@ fn lookups(mode: u32, moved: fn(u32, u32) -> (u32, u32)) -> Job {
     let mut some = || chance.below(EDGE as usize) as u32;
     let points = (0..10_000).map(|_| moved(some(), some())).collect();
     Job { start, work: Work::Lookups(points), per: Per::Call }
+}
+
+/// Levels and statuses, of a grid of 1,714 leaves.
+fn questions() -> Job {
+    let mut chance = Chance(14);
+    let questions = (0..10_000).map(|_| (chance.below(13) as u32, chance.below(3) as u32)).collect();
+    Job { start: leaves(OPEN, 486), work: Work::Questions(questions), per: Per::Call }
 }

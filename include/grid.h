@@ -1,16 +1,19 @@
-/* The grid library from C: six calls, proved (crates/face). Link target/staticlib/libface.a, for x86-64 Linux, which `rt staticlib face` writes.
+/* The grid library from C: seven calls, proved (crates/face). Link target/staticlib/libface.a, for x86-64 Linux, which `rt staticlib face` writes.
  *
- * A grid is lent to every call: the header, a table of 14 * (capacity + 1) words, capacity + 1 values, and the capacity, 5 to 4,095. The lists may
- * have any length and any contents: what is wrong with them is refused. Only this is asked of a caller: every pointer is aligned and not null, also
- * beside a length of 0; a list has as many places as its length says; and nothing that a call writes overlaps anything else that it is lent.
+ * A grid is lent to every call but grid_count: the header, a table of 14 * (capacity + 1) words, capacity + 1 values, and the capacity, 5 to 4,095.
+ * Build, tape and check are also lent the counts, 39 numbers beside the table: how many leaves of level l have status s stands at place 3 * l + s. A
+ * build and every accepted request leave a full count there, and a refused one changes none. Scan, lookup and page are not lent the counts and do not
+ * ask about them; grid_count is lent nothing else. The lists may have any length and any contents: what is wrong with them is refused. Only this is
+ * asked of a caller: every pointer is aligned and not null, also beside a length of 0; a list has as many places as its length says; and nothing that
+ * a call writes overlaps anything else that it is lent.
  *
  * Every call returns the number of a refusal, or 0. What its last pointers name is always written: 0, or +0 for the value, when it is refused (of a
  * tape: what was done). The refused step changes nothing else. docs/FORMAT.md says what a tape, a table, a page and the flags are.
  *
  * The refusals, each given exactly when:
- *    1  table_len is not 14 * (capacity + 1), values_len is not capacity + 1, or the capacity is not 5 to 4,095
+ *    1  table_len is not 14 * (capacity + 1), values_len is not capacity + 1, the capacity is not 5 to 4,095, or counts_len is not 39
  *    2  the columns or the rows are not 1 to 32, the mode is neither, or a ring has fewer than 3 rows
- *    3  header, table and values are not sound: they do not picture a grid
+ *    3  header, table and values are not sound: they do not picture a grid; or the counts are not those of the grid's leaves
  *    4  the tape ends inside a request
  *    5  the kind of a request is none of 1 to 5
  *    6  the number is 0, above the capacity, or free
@@ -30,6 +33,7 @@
  *   19  no leaf holds the point, nor the points it is tried again at; or it lies past the rows of a ring
  *   21  the cell to be refined is above level 0, and one of the four places beside it on its level lies in the remaining area and is no cell
  *   22  beside one of the four kids to be removed, across an edge, lies a cell of their level that is none of them and has kids
+ *   23  the level asked for is above 12, or the status above 2
  * (20 is the program's own.) Of a request the first of its list is given: refine 6, 7, 8, 9, 10, 21, 11; sentence 6, 7, 8, 12; remove 6, 7, 13, 14,
  * 22; kill 6, 7, 12, 8, 15; set value 6, 7, 8, 16. */
 #ifndef GRID_H
@@ -52,17 +56,22 @@ typedef struct {
     uint16_t mark;
 } grid_header;
 
-/* Builds the rectangle, blank: the header, all rows and all values. in_use: the numbers in use. Refuses 1, 2, 11. */
-uint32_t grid_build(grid_header *header, int32_t *table, size_t table_len, double *values, size_t values_len, uint32_t capacity,
-                    uint32_t columns, uint32_t rows, uint32_t mode, uint32_t *in_use);
+/* Builds the rectangle, blank: the header, all rows, all values and all counts, whatever they held. in_use: the numbers in use. Refuses 1, 2, 11. */
+uint32_t grid_build(grid_header *header, int32_t *table, size_t table_len, double *values, size_t values_len, uint32_t *counts, size_t counts_len,
+                    uint32_t capacity, uint32_t columns, uint32_t rows, uint32_t mode, uint32_t *in_use);
 
 /* Runs requests end to end, up to the first that is refused. done: those carried out. offset: the refused request's first byte, or tape_len.
  * Refuses 1 to 16, 21 and 22. */
-uint32_t grid_tape(grid_header *header, int32_t *table, size_t table_len, double *values, size_t values_len, uint32_t capacity,
-                   const uint8_t *tape, size_t tape_len, size_t *done, size_t *offset);
+uint32_t grid_tape(grid_header *header, int32_t *table, size_t table_len, double *values, size_t values_len, uint32_t *counts, size_t counts_len,
+                   uint32_t capacity, const uint8_t *tape, size_t tape_len, size_t *done, size_t *offset);
 
-/* Whether the table, the values and the header are sound: 0 for yes, or 1, 2, 3. */
-uint32_t grid_check(const grid_header *header, const int32_t *table, size_t table_len, const double *values, size_t values_len, uint32_t capacity);
+/* Whether the table, the values and the header are sound, and the counts those of the leaves: 0 for yes, or 1, 2, 3. */
+uint32_t grid_check(const grid_header *header, const int32_t *table, size_t table_len, const double *values, size_t values_len,
+                    const uint32_t *counts, size_t counts_len, uint32_t capacity);
+
+/* How many leaves of a level have a status: 0 blank, 1 measured, 2 carried. The answer is the number that stands in the counts; they are held against
+ * nothing. Refuses 1, 23. */
+uint32_t grid_count(const uint32_t *counts, size_t counts_len, uint32_t level, uint32_t status, uint32_t *count);
 
 /* Writes the numbers that a walk down from start meets, a patch before its kids, on the levels from_level to to_level. order: the four kid winds,
  * NE 1, SE 2, SW 3, NW 4. kind: 1 patches, 2 cells, 3 leaves, 4 H-walls, 5 V-walls, 6 points. count: how many were written; places past them stay.

@@ -19,7 +19,7 @@ def call_of(line):
         case["capacity"],
         bytes.fromhex(case["tape"]),
         r.Taped(case["done"], case["refusal"], case["offset"]),
-        (r.Header(*size, case["mark"]), case["table"], values),
+        (r.Header(*size, case["mark"]), case["table"], values, case["counts"]),
         case["page"].encode("ascii"),
         looked,
     )

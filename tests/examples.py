@@ -38,6 +38,15 @@ class Told(Lent):
         print(f"page {answer.refusal} bytes {answer.count}")
         print(answer.output[: answer.count].decode("ascii"), end="")
 
+    def count(self, level, status):
+        answer = r.count(self.counts, level, status)
+        print(f"count {answer.refusal} is {answer.count}")
+
+    def lacking(self):
+        for level in (0, 1):
+            blank, measured, carried = (r.count(self.counts, level, status).count for status in r.STATUSES)
+            print(f"level {level}: blank {blank} measured {measured} carried {carried}")
+
     def checked(self):
         print(f"check {self.check()}")
 
@@ -131,6 +140,42 @@ def ring():
     Told(1, 3, mode=2)
 
 
+def counts():
+    print("how many cells lack a measurement")
+    m = Told(2, 1)
+    m.lacking()
+    m.tape(1, 0, 4)
+    m.lacking()
+    m.tape(5, 0, 10, 0x3F, 0xF8, 0, 0, 0, 0, 0, 0)
+    m.lacking()
+    m.tape(5, 0, 6, 0x3F, 0xF8, 0, 0, 0, 0, 0, 0, 1, 0, 6)
+    m.lacking()
+    m.tape(5, 0, 11, 0x3F, 0xF8, 0, 0, 0, 0, 0, 0, 1, 0, 4, 1, 0, 11)
+    m.lacking()
+    m.tape(2, 0, 10, 2, 0, 11, 2, 0, 12, 2, 0, 13, 3, 0, 4)
+    m.lacking()
+    m.tape(4, 0, 4)
+    m.lacking()
+    m.checked()
+    m.count(13, 0)
+    m.count(0, 3)
+    m.count(2**32 - 1, 2**32 - 1)
+    m.counts[4] += 1
+    m.checked()
+    m.tape(1, 0, 16)
+    m.count(1, 1)
+    m.scan(3)
+    m.counts[4] -= 1
+    m.checked()
+    m.counts = m.counts[:38]
+    m.checked()
+    m.tape(1, 0, 16)
+    m.count(13, 0)
+    m.counts = m.counts + [0, 0]
+    m.checked()
+    m.count(1, 2)
+
+
 def points():
     print("P10 P11")
     m = Told(1, 1)
@@ -184,4 +229,5 @@ one_cell()
 more_cells()
 no_jump()
 ring()
+counts()
 refusals(points())

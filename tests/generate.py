@@ -2,8 +2,8 @@
 
     python3 generate.py KIND SEED COUNT FOLDER
 
-KIND is builds, tapes, damaged, scans, lookups, pages, older, rings or programs.
-The same kind, seed and count give the same files.
+KIND is builds, tapes, damaged, scans, lookups, pages, older, rings, counts or
+programs.  The same kind, seed and count give the same files.
 
 Kind programs writes NNNN.in and NNNN.out, an input of the program and what it
 prints.  Every other kind writes one file KIND-SEED-NNNN.case for each case: one
@@ -11,14 +11,15 @@ call on lent lists, and what it must answer.  All its tokens are decimal
 numbers separated by single blanks, a minus sign only before table words and
 levels.  A list is its length, then its items, on one line.
 
-    line 1   call: 1 build, 2 tape, 3 check, 4 scan, 5 lookup, 6 page
+    line 1   call: 1 build, 2 tape, 3 check, 4 scan, 5 lookup, 6 page, 7 count
     line 2   capacity
     line 3   header: columns rows mode mark
     line 4   table: a list of words, signed 32-bit
     line 5   values: a list of 64-bit patterns, unsigned
-    line 6   arguments
-    line 7   answer
-    line 8+  what was changed
+    line 6   counts: a list of numbers, unsigned 32-bit
+    line 7   arguments
+    line 8   answer
+    line 9+  what was changed
 
     call     arguments                           answer
     build    columns rows mode                   refusal count
@@ -29,12 +30,15 @@ levels.  A list is its length, then its items, on one line.
     lookup   count, then count times             count, then count times
              speed load                          refusal number status bits
     page     output-length filler                refusal count
+    count    count, then count times             count, then count times
+             level status                        refusal count
 
-A refusal of 0 is none.  For build and tape lines 8, 9 and 10 are header, table
-and values after the call.  For scan and page line 8 is the output after the
-call, a list of numbers or of bytes; before it every place holds the filler.
+A refusal of 0 is none.  For build and tape lines 9 to 12 are header, table,
+values and counts after the call.  For scan and page line 9 is the output after
+the call, a list of numbers or of bytes; before it every place holds the filler.
 A lookup has status 0 blank, 1 measured, 2 carried.  The calls check, scan,
-lookup and page leave header, table and values as they were.
+lookup, page and count leave all that they are lent as it was.  Scan, lookup and
+page are not lent the counts, and count is lent nothing else.
 """
 
 import argparse
@@ -45,7 +49,7 @@ import struct
 
 import reference as r
 
-BUILD, TAPE, CHECK, SCAN, LOOKUP, PAGE = range(1, 7)
+BUILD, TAPE, CHECK, SCAN, LOOKUP, PAGE, COUNT = range(1, 8)
 INT_MIN, INT_MAX = -(2**31), 2**31 - 1
 EXTREMES = (INT_MIN, -65536, -1, 0, 1, 2, 12, 13, 4095, 8192, 65535, 65536, INT_MAX)
 
@@ -331,8 +335,16 @@ def ring_grid(rng):
 
 
 def lend(grid):
-    """Capacity, header, table and values of a grid, as a list to be damaged."""
+    """Capacity, header, table, values and counts of a grid, as a list to be damaged."""
     return [grid.capacity, *r.drawn(grid)]
+
+
+def recount(lists):
+    """The counts of what a table's own words claim, in the place of those that are lent."""
+    if not r.refuses_lengths(*lists[:1], *lists[2:]):
+        claimed = r.decode(*lists[:4])
+        lists[4] = lists[4] if claimed is None else r.leaf_counts(claimed)
+    return lists
 
 
 # ------------------------------------------------------------ damage
@@ -473,8 +485,30 @@ def damage_seam(rng, grid, lists):
         table[r.WORDS * table[place] + r.N + r.S - wind] = rng.choice((0, other, table[place]))
 
 
+def some_count(rng):
+    return rng.choice((0, 1, 2, rng.randint(0, 60), 2**31, 2**32 - 1, rng.getrandbits(32)))
+
+
+def damage_counts(rng, grid, lists):
+    """A count changed; one more here and one less there; or the right numbers in another order."""
+    counts, roll = lists[4], rng.randrange(5)
+    filled = [place for place, number in enumerate(counts) if number]
+    place, other = rng.choice((rng.choice(filled), rng.randrange(r.PLACES))), rng.choice(filled)
+    if roll == 0:
+        counts[place] = abs(counts[place] + rng.choice((-1, 1)))
+    elif roll == 1:
+        counts[place], counts[other] = counts[place] + 1, counts[other] - (place != other)
+    elif roll == 2:
+        counts[place], counts[other] = counts[other], counts[place]
+    elif roll == 3:
+        turn = rng.choice((1, 2, 3, r.PLACES - 1))
+        lists[4] = counts[turn:] + counts[:turn]
+    else:
+        counts[place] = some_count(rng)
+
+
 def damage_length(rng, grid, lists):
-    which = rng.choice((2, 3))
+    which = rng.choice((2, 3, 4))
     if chance(rng, 2):
         lists[which] = lists[which][: rng.randint(0, len(lists[which]))]
     else:
@@ -496,6 +530,7 @@ def garbage(rng, grid, lists):
     lists[1] = r.Header(rng.randint(0, 34), rng.randint(0, 34), mode, some_mark(rng))
     lists[2] = [some_word(rng) for _ in range(max(0, length))]
     lists[3] = [rng.getrandbits(64) * rng.randrange(2) for _ in range(count)]
+    lists[4] = [some_count(rng) for _ in range(rng.choice((r.PLACES, r.PLACES, rng.randint(0, 48))))]
 
 
 def row_above(grid):
@@ -615,6 +650,7 @@ DAMAGES = (
     damage_status,
     damage_header,
     damage_mode,
+    damage_counts,
     damage_length,
     damage_capacity,
     garbage,
@@ -624,9 +660,12 @@ DAMAGES = (
 
 
 def damage(rng, grid, lists):
-    """One of all damages; to a ring often one at its seam."""
+    """One of all damages; to a ring often one at its seam.  The counts are mostly those that a damaged table claims."""
     seam = (*[damage_seam] * 4, damage_by_a_row_above) if grid.header.mode == r.RING else ()
-    rng.choice(DAMAGES + seam)(rng, grid, lists)
+    chosen = rng.choice(DAMAGES + seam)
+    chosen(rng, grid, lists)
+    if chosen is not damage_counts and not chance(rng, 4):
+        recount(lists)
 
 
 # ------------------------------------------------------------ cases
@@ -637,8 +676,8 @@ def listing(items):
 
 
 def lines_of(call, lists, arguments, answer, *changed):
-    capacity, header, table, values = lists
-    lines = [[call], [capacity], header, listing(table), listing(values), arguments, answer]
+    capacity, header, *kept = lists
+    lines = [[call], [capacity], header, *map(listing, kept), arguments, answer]
     return "".join(" ".join(map(str, line)) + "\n" for line in [*lines, *changed])
 
 
@@ -657,17 +696,17 @@ def build_case(rng, some=some_size):
     capacity = rng.choice((least, least, least - 1, least + rng.randint(0, 20), wild))
     words = r.WORDS * (capacity + 1) + (rng.randint(-1, 1) if chance(rng, 10) else 0)
     count = capacity + 1 + (rng.randint(-1, 1) if chance(rng, 10) else 0)
+    places = rng.choice((0, 38, 40, 48)) if chance(rng, 10) else r.PLACES
     table = [some_word(rng) for _ in range(words)]
-    lists = [capacity, r.Header(5, 6, 7, 8), table, [rng.getrandbits(64) for _ in range(count)]]
-    answer, header, table, values = r.build(*lists, columns, rows, mode)
-    changed = header, listing(table), listing(values)
-    return lines_of(BUILD, lists, [columns, rows, mode], answer, *changed)
+    values, counts = [rng.getrandbits(64) for _ in range(count)], [some_count(rng) for _ in range(places)]
+    lists = [capacity, r.Header(5, 6, 7, 8), table, values, counts]
+    answer, header, *left = r.build(*lists, columns, rows, mode)
+    return lines_of(BUILD, lists, [columns, rows, mode], answer, header, *map(listing, left))
 
 
 def tape_lines(lists, requests):
-    answer, header, table, values = r.tape(*lists, requests)
-    changed = header, listing(table), listing(values)
-    return lines_of(TAPE, lists, listing(requests), answer, *changed)
+    answer, header, *left = r.tape(*lists, requests)
+    return lines_of(TAPE, lists, listing(requests), answer, header, *map(listing, left))
 
 
 def tape_case(rng, some=some_grid):
@@ -688,6 +727,11 @@ def damaged_case(rng, some=some_grid):
         damage(rng, grid, lists)
     if not chance(rng, 4):
         return check_lines(lists)
+    return other_lines(rng, lists)
+
+
+def other_lines(rng, lists):
+    """Another call than the checker on lists that may be damaged."""
     roll = rng.randrange(4)
     if roll == 0:
         return tape_lines(lists, encode(rng.randint(1, 5), rng.randint(0, 12)) * 2)
@@ -700,7 +744,7 @@ def damaged_case(rng, some=some_grid):
 
 def scan_lines(lists, arguments, length, filler=65535):
     start, order, kind, from_level, to_level = arguments
-    answer = r.scan(*lists, *arguments, [filler] * length)[0]
+    answer = r.scan(*lists[:4], *arguments, [filler] * length)[0]
     told = [start, *order, kind, from_level, to_level, length, filler]
     return lines_of(SCAN, lists, told, answer[:2], listing(answer.output))
 
@@ -731,13 +775,13 @@ def scan_case(rng, some=some_grid):
     level = grid.places().get(start, (0, 0, 0))[0]
     arguments = (start, some_order(rng), kind, *some_levels(rng, level))
     lists = lend(grid)
-    count = r.scan(*lists, *arguments, [0] * 250)[0].count
+    count = r.scan(*lists[:4], *arguments, [0] * 250)[0].count
     length = max(0, rng.choice((count, count, count - 1, count + 1, count + 7, 250, 0)))
     return scan_lines(lists, arguments, length, rng.choice((0, 65535, 7)))
 
 
 def lookup_lines(lists, points):
-    answers = [word for point in points for word in r.lookup(*lists, *point)[0]]
+    answers = [word for point in points for word in r.lookup(*lists[:4], *point)[0]]
     told = [word for point in points for word in point]
     return lines_of(LOOKUP, lists, [len(points), *told], [len(points), *answers])
 
@@ -766,7 +810,7 @@ def lookup_case(rng, some=some_grid):
 
 
 def page_lines(lists, length, filler=46):
-    answer = r.page(*lists, bytes([filler]) * length)[0]
+    answer = r.page(*lists[:4], bytes([filler]) * length)[0]
     return lines_of(PAGE, lists, [length, filler], answer[:2], listing(answer.output))
 
 
@@ -790,6 +834,34 @@ def ring_case(rng):
         return build_case(rng, ring_size)
     kinds = (tape_case, tape_case, tape_case, damaged_case, damaged_case, scan_case, lookup_case, page_case)
     return rng.choice(kinds)(rng, ring_grid)
+
+
+def count_lines(lists, questions):
+    answers = [word for question in questions for word in r.count(lists[4], *question)]
+    told = [word for question in questions for word in question]
+    return lines_of(COUNT, lists, [len(questions), *told], [len(questions), *answers])
+
+
+def some_question(rng):
+    """A level and a status, mostly in range."""
+    wild = (13, 14, 255, 256, 2**16, 2**31, 2**32 - 1)
+    level = rng.choice(wild) if chance(rng, 8) else rng.choice((rng.randint(0, 3), rng.randint(0, r.LAST_LEVEL)))
+    return level, rng.choice((3, *wild)) if chance(rng, 8) else rng.choice(r.STATUSES)
+
+
+def some_counts(rng):
+    """Numbers that count nothing, now and then too few or too many of them."""
+    return [some_count(rng) for _ in range(rng.choice((0, 38, 40, rng.randint(0, 48))) if chance(rng, 4) else r.PLACES)]
+
+
+def count_case(rng):
+    """Questions, mostly of a grid's counts; and every other call with counts that are damaged."""
+    lists = lend(rng.choice((some_grid, some_grid, ring_grid, older_grid))(rng))
+    if chance(rng, 2):
+        lists[4] = some_counts(rng) if chance(rng, 3) else lists[4]
+        return count_lines(lists, [some_question(rng) for _ in range(20)])
+    damage_counts(rng, None, lists)
+    return check_lines(lists) if chance(rng, 2) else other_lines(rng, lists)
 
 
 def program_case(rng):
@@ -818,6 +890,7 @@ CASES = {
     "pages": page_case,
     "older": older_case,
     "rings": ring_case,
+    "counts": count_case,
 }
 
 

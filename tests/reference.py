@@ -1,21 +1,26 @@
-"""A reference of the rules of 01, with 02's No. 1, 2 and 4, written for reading and comparing.
+"""A reference of the rules of 01, with 02's No. 1, 2, 4 and 5, written for reading and comparing.
 
 The grid is held as sets: the cells are a set of (level, i, j), the numbers a
 dict from patch (level, i, j) to number.  The table is a picture of these and
 is never edited: every call decodes it, works on the sets and draws it anew.
 
-Every call takes (capacity, header, table, values, its own arguments) and
-returns (answer, header, table, values).  The lists that were lent are not
-changed.  `check` alone returns its answer only.  A refusal is its number in
-01 or 02, 0 stands for none.  Values are 64-bit patterns, never floats.
+Build, tape and the checker take (capacity, header, table, values, counts, their
+own arguments) and return (answer, header, table, values, counts); scan, lookup
+and page are lent no counts, and take and return the same without them.  `check`
+returns its answer only, and so does `count`, which takes the counts, a level and
+a status alone.  The lists that were lent are not changed.  A refusal is its
+number in 01 or 02, 0 stands for none.  Values are 64-bit patterns, never floats.
 
 02's No. 4 closes the load direction.  The rules are the same in both modes:
 whatever goes a step north or south goes by `moved`, which alone counts rows
 round a ring; besides it only the refusals, a lookup's first check and the
 page's first line ask for the mode.
+
+02's No. 5 keeps counts of the leaves beside the table.  They are never kept up
+to date here: whoever leaves them counts all leaves of the sets.
 """
 
-from collections import namedtuple
+from collections import Counter, namedtuple
 
 Header = namedtuple("Header", "columns rows mode mark")
 
@@ -24,6 +29,7 @@ Built = namedtuple("Built", "refusal count")
 Taped = namedtuple("Taped", "done refusal offset")
 Written = namedtuple("Written", "refusal count output")
 Found = namedtuple("Found", "refusal number status bits")
+Count = namedtuple("Count", "refusal count")
 
 # 01, "Rows and header".
 WORDS = 14
@@ -39,7 +45,7 @@ PREGNANT, SENTENCED, DEAD = 1 << 11, 1 << 12, 1 << 13
 NIL_ROW = (0,) * WORDS
 FREE_ROW = (0,) * FLAGS + (DEAD, 0)
 
-BLANK, MEASURED, CARRIED = 0, 1, 2
+BLANK, MEASURED, CARRIED = STATUSES = range(3)
 NO_VALUE = (BLANK, 0)
 
 # 01, bounds.
@@ -52,6 +58,9 @@ OPEN, RING = 0, 1
 MODES = ("open", "ring")
 LEAST_RING = 3  # rows
 UNITS = 1 << LAST_LEVEL  # lookup counts in 1/4096 of a level-0 cell
+
+# 02, No. 5: the places of the counts.
+PLACES = len(STATUSES) * (LAST_LEVEL + 1)
 PROGRAM_CAPACITY = 1000
 PROGRAM_INPUT = 60000
 
@@ -256,6 +265,12 @@ def picture(grid):
     return [word for words in rows for word in words], values
 
 
+def leaf_counts(grid):
+    """02, No. 5: "a list of 39 leaf counts, level l and status s at place 3l + s"."""
+    leaves = Counter((cell[0], grid.value(cell)[0]) for cell in grid.cells if grid.is_leaf(cell))
+    return [leaves[level, status] for level in range(LAST_LEVEL + 1) for status in STATUSES]
+
+
 # ---------------------------------------------------------------- soundness
 
 
@@ -333,10 +348,10 @@ def decode(capacity, header, table, values):
     return grid
 
 
-def admit(capacity, header, table, values):
-    """Checks 1, 2, 3: a refusal and no grid, or 0 and the grid."""
+def admit(capacity, header, table, values, counts=None):
+    """Checks 1, 2, 3: a refusal and no grid, or 0 and the grid.  Counts that are not lent are not asked about."""
     header = Header(*header)
-    if refuses_lengths(capacity, table, values):
+    if refuses_lengths(capacity, table, values, counts):
         return 1, None
     if refuses_size(header.columns, header.rows, header.mode):
         return 2, None
@@ -344,11 +359,20 @@ def admit(capacity, header, table, values):
     grid = decode(capacity, header, table, values)
     if grid is None or not is_sound(grid) or picture(grid) != (table, values):
         return 3, None
+    if counts is not None and list(counts) != leaf_counts(grid):
+        return 3, None
     return 0, grid
 
 
-def refuses_lengths(capacity, table, values):
+def refuses_places(counts):
+    """02, No. 5: "1 also if the list has not 39 places"."""
+    return len(counts) != PLACES
+
+
+def refuses_lengths(capacity, table, values, counts=None):
     if not LEAST_CAPACITY <= capacity <= MOST_CAPACITY:
+        return True
+    if counts is not None and refuses_places(counts):
         return True
     return len(table) != WORDS * (capacity + 1) or len(values) != capacity + 1
 
@@ -360,19 +384,19 @@ def refuses_size(columns, rows, mode):
     return not (1 <= columns <= MOST_SIZE and 1 <= rows <= MOST_SIZE)
 
 
-def check(capacity, header, table, values):
+def check(capacity, header, table, values, counts):
     """The checker: 0 for yes, or refusal 1, 2 or 3."""
-    return admit(capacity, header, table, values)[0]
+    return admit(capacity, header, table, values, counts)[0]
 
 
-def lent(header, table, values):
-    """Header, table and values as they were lent."""
-    return Header(*header), list(table), list(values)
+def lent(header, *lists):
+    """The header and the lists as they were lent."""
+    return (Header(*header), *map(list, lists))
 
 
 def drawn(grid):
-    """Header, table and values of a grid."""
-    return (grid.header, *picture(grid))
+    """Header, table, values and counts of a grid."""
+    return (grid.header, *picture(grid), leaf_counts(grid))
 
 
 # ---------------------------------------------------------------- build
@@ -397,10 +421,10 @@ def built(capacity, columns, rows, mode):
     return Grid(capacity, header, cells, numbers)
 
 
-def build(capacity, header, table, values, columns, rows, mode):
+def build(capacity, header, table, values, counts, columns, rows, mode):
     """Checks 1, 2, 11; the answer is the number in use."""
-    before = lent(header, table, values)
-    if refuses_lengths(capacity, table, values):
+    before = lent(header, table, values, counts)
+    if refuses_lengths(capacity, table, values, counts):
         return (Built(1, 0), *before)
     if refuses_size(columns, rows, mode):
         return (Built(2, 0), *before)
@@ -539,34 +563,34 @@ def step(grid, kind, number, bits=0, checks=CHECKS):
     return 0
 
 
-def request(capacity, header, table, values, kind, number, bits=0):
+def request(capacity, header, table, values, counts, kind, number, bits=0):
     """One request as a call of its own; the answer is the refusal."""
-    refusal, grid = admit(capacity, header, table, values)
+    refusal, grid = admit(capacity, header, table, values, counts)
     if not refusal:
         refusal = step(grid, kind, number, bits)
     if refusal:
-        return (refusal, *lent(header, table, values))
+        return (refusal, *lent(header, table, values, counts))
     return (0, *drawn(grid))
 
 
-def refine(capacity, header, table, values, number):
-    return request(capacity, header, table, values, REFINE, number)
+def refine(capacity, header, table, values, counts, number):
+    return request(capacity, header, table, values, counts, REFINE, number)
 
 
-def sentence(capacity, header, table, values, number):
-    return request(capacity, header, table, values, SENTENCE, number)
+def sentence(capacity, header, table, values, counts, number):
+    return request(capacity, header, table, values, counts, SENTENCE, number)
 
 
-def remove(capacity, header, table, values, number):
-    return request(capacity, header, table, values, REMOVE, number)
+def remove(capacity, header, table, values, counts, number):
+    return request(capacity, header, table, values, counts, REMOVE, number)
 
 
-def kill(capacity, header, table, values, number):
-    return request(capacity, header, table, values, KILL, number)
+def kill(capacity, header, table, values, counts, number):
+    return request(capacity, header, table, values, counts, KILL, number)
 
 
-def set_value(capacity, header, table, values, number, bits):
-    return request(capacity, header, table, values, SET_VALUE, number, bits)
+def set_value(capacity, header, table, values, counts, number, bits):
+    return request(capacity, header, table, values, counts, SET_VALUE, number, bits)
 
 
 # ---------------------------------------------------------------- tape
@@ -595,12 +619,25 @@ def run(grid, requests):
     return Taped(done, 0, offset)
 
 
-def tape(capacity, header, table, values, requests):
+def tape(capacity, header, table, values, counts, requests):
     """Requests end to end; what was done before a refusal stays."""
-    refusal, grid = admit(capacity, header, table, values)
+    refusal, grid = admit(capacity, header, table, values, counts)
     if refusal:
-        return (Taped(0, refusal, 0), *lent(header, table, values))
+        return (Taped(0, refusal, 0), *lent(header, table, values, counts))
     return (run(grid, requests), *drawn(grid))
+
+
+# ---------------------------------------------------------------- count
+
+
+def count(counts, level, status):
+    """02, No. 5: the question, "lent the list alone": 1, then "23 for a level or status out of
+    range", or the number at the place.  The list is held against nothing."""
+    if refuses_places(counts):
+        return Count(1, 0)
+    if level > LAST_LEVEL or status not in STATUSES:
+        return Count(23, 0)
+    return Count(0, counts[len(STATUSES) * level + status])
 
 
 # ---------------------------------------------------------------- scan

@@ -1,4 +1,4 @@
-"""Tests of the reference: P1 to P11 of 01, its refusals, No. 1, 2 and 4 of 02, and the vectors.
+"""Tests of the reference: P1 to P11 of 01, its refusals, No. 1, 2, 4 and 5 of 02, and the vectors.
 
     python3 test_reference.py [folder of vectors]
 
@@ -33,22 +33,26 @@ def expect(name, got, wanted):
 
 
 class Lent:
-    """Capacity, header, table and values, as one caller holds them."""
+    """Capacity, header, table, values and counts, as one caller holds them."""
 
     def __init__(self, columns, rows, capacity=100, mode=r.OPEN):
         self.capacity = capacity
         self.header = r.Header(0, 0, 0, 0)
         self.table = [-1] * (r.WORDS * (capacity + 1))
         self.values = [7] * (capacity + 1)
+        self.counts = [9] * r.PLACES
         self.answer = self.call(r.build, columns, rows, mode)
 
     def call(self, function, *arguments):
-        """Call and keep what comes back."""
-        answer, self.header, self.table, self.values = function(*self.lists(), *arguments)
+        """Call and keep what comes back; scan, lookup and page are not lent the counts."""
+        if function in (r.scan, r.lookup, r.page):
+            answer, self.header, self.table, self.values = function(*self.lists()[:4], *arguments)
+        else:
+            answer, self.header, self.table, self.values, self.counts = function(*self.lists(), *arguments)
         return answer
 
     def lists(self):
-        return self.capacity, self.header, self.table, self.values
+        return self.capacity, self.header, self.table, self.values, self.counts
 
     def row(self, number):
         return self.table[r.WORDS * number : r.WORDS * (number + 1)]
@@ -117,7 +121,7 @@ def test_p1_to_p5():
     for number in (6, 7, 8, 9):
         expect("P5 sentence", grid.call(r.sentence, number), 0)
     expect("P5 remove", grid.call(r.remove, 2), 0)
-    expect("P5 rows", (grid.table, grid.values), built[2:])
+    expect("P5 rows", (grid.table, grid.values, grid.counts), built[2:])
     expect("P5 mark", grid.header, (1, 1, r.OPEN, 6))
     one = Lent(1, 1)
     answer = one.call(r.tape, refine(2) + sentence(6, 7, 8, 9) + remove(2))
@@ -173,10 +177,9 @@ def test_build():
     expect("build 11 leaves all", Lent(1, 2, 8).table, [-1] * 14 * 9)
     for capacity in (4, 4096):
         expect("build 1", Lent(1, 1, capacity).answer, (1, 0))
-    answer = r.build(5, (3, 3, 3, 3), [0] * 83, [0] * 6, 1, 1, r.OPEN)[0]
-    expect("build 1, table", answer, (1, 0))
-    answer = r.build(5, (3, 3, 3, 3), [0] * 84, [0] * 5, 1, 1, r.OPEN)[0]
-    expect("build 1, values", answer, (1, 0))
+    for name, lengths, wanted in (("table", (83, 6, 39), (1, 0)), ("values", (84, 5, 39), (1, 0)), ("none", (84, 6, 39), (0, 5))):
+        answer = r.build(5, (3, 3, 3, 3), *([0] * length for length in lengths), 1, 1, r.OPEN)[0]
+        expect(f"build, length of {name} is wrong", answer, wanted)
 
 
 def test_refusals_of_a_tape():
@@ -255,29 +258,32 @@ def test_soundness():
     grid = Lent(3, 2)
     grid.call(r.tape, value(6, 5) + refine(6) + sentence(18) + kill(8))
     expect("sound", grid.check(), 0)
-    capacity, header, table, values = grid.lists()
-    expect("same bit length", r.check(capacity, (3, 3, r.OPEN, 9), table, values), 0)
-    expect("other bit length", r.check(capacity, (4, 2, r.OPEN, 9), table, values), 3)
-    expect("outside", r.check(capacity, (2, 2, r.OPEN, 9), table, values), 3)
-    expect("no columns", r.check(capacity, (0, 2, r.OPEN, 9), table, values), 2)
-    expect("33 rows", r.check(capacity, (3, 33, r.OPEN, 9), table, values), 2)
-    expect("other capacity", r.check(capacity + 1, header, table, values), 1)
+    capacity, header, table, values, counts = grid.lists()
+    expect("same bit length", r.check(capacity, (3, 3, r.OPEN, 9), table, values, counts), 0)
+    expect("other bit length", r.check(capacity, (4, 2, r.OPEN, 9), table, values, counts), 3)
+    expect("outside", r.check(capacity, (2, 2, r.OPEN, 9), table, values, counts), 3)
+    expect("no columns", r.check(capacity, (0, 2, r.OPEN, 9), table, values, counts), 2)
+    expect("33 rows", r.check(capacity, (3, 33, r.OPEN, 9), table, values, counts), 2)
+    expect("other capacity", r.check(capacity + 1, header, table, values, counts), 1)
     for place in range(len(table)):
-        spoilt = table[:place] + [table[place] ^ 1] + table[place + 1 :]
+        spoilt = [capacity, header, table[:place] + [table[place] ^ 1] + table[place + 1 :], values, counts]
+        if r.check(*spoilt) != 3:
+            expect(f"word {place} spoilt", 0, 3)
         wanted = 0 if may_flip(grid, place) else 3
-        if r.check(capacity, header, spoilt, values) != wanted:
-            expect(f"word {place} spoilt", 3 - wanted, wanted)
+        if r.check(*generate.recount(spoilt)) != wanted:
+            expect(f"word {place} spoilt, with its counts", 3 - wanted, wanted)
     for place in range(len(values)):
         spoilt = values[:place] + [values[place] ^ 1] + values[place + 1 :]
-        expect(f"value {place} spoilt", r.check(capacity, header, table, spoilt), 3)
+        expect(f"value {place} spoilt", r.check(capacity, header, table, spoilt, counts), 3)
     swapped = values[:]
     swapped[0] = bits(-0.0)
-    expect("row 0 with -0", r.check(capacity, header, table, swapped), 3)
+    expect("row 0 with -0", r.check(capacity, header, table, swapped, counts), 3)
 
 
 def may_flip(grid, place):
     """No flip of a lowest bit is sound here: status 2 to 3, 1 to 0, 0 to 1 among
-    them, except a blank leaf with a blank parent, which becomes measured +0."""
+    them, except a blank leaf with a blank parent, which becomes measured +0, and is
+    then counted as such."""
     number, word = divmod(place, r.WORDS)
     row = grid.row(number)
     leaf = row[r.FLAGS] & r.COMPLETE and row[r.STATUS] == 0
@@ -808,8 +814,8 @@ def test_refusal_2_of_modes():
 
 def sound_as(lists):
     """What the checker says of a table lent as an open grid and as a ring."""
-    capacity, header, table, values = lists
-    return [r.check(capacity, header._replace(mode=mode), table, values) for mode in (r.OPEN, r.RING)]
+    capacity, header, *rest = lists
+    return [r.check(capacity, header._replace(mode=mode), *rest) for mode in (r.OPEN, r.RING)]
 
 
 def lies_at_seam(grid):
@@ -840,7 +846,7 @@ def test_sound_in_one_mode():
 def test_links_over_the_seam():
     """Each of them dropped, turned to its own row, and given what another one names."""
     grid = refined(2, 3, (0, 0, 2), mode=r.RING)
-    capacity, header, table, values = generate.lend(grid)
+    capacity, header, table, *rest = generate.lend(grid)
     links = generate.over_seam(grid)
     expect("three columns of level 0, three of level 1, both ways", len(links), 12)
     named = {table[r.WORDS * number + wind] for number, wind in links}
@@ -848,7 +854,7 @@ def test_links_over_the_seam():
         place = r.WORDS * number + wind
         for word in {0, number, *named} - {table[place]}:
             spoilt = table[:place] + [word] + table[place + 1 :]
-            if r.check(capacity, header, spoilt, values) != 3:
+            if r.check(capacity, header, spoilt, *rest) != 3:
                 expect(f"word {wind} of row {number} is {word}", 0, 3)
 
 
@@ -879,6 +885,153 @@ def test_turned_rings():
                 other = r.flags(header, turned(point, by, rows), cells, its_kinds, {})
                 if one != other:
                     expect(f"flags of {point} turned by {by}", other, one)
+
+
+# ------------------------------------------------------------ No. 5: how many cells still lack a measurement
+
+
+def counted(levels):
+    """Counts by hand: those of some levels, blank, measured and carried."""
+    return [number for level in range(13) for number in levels.get(level, (0, 0, 0))]
+
+
+def test_counts_of_requests():
+    """Every request that changes a leaf, by hand: two cells, of which 4 is refined and 6 killed."""
+    grid = Lent(2, 1)
+    for name, requests, wanted in [
+        ("built", b"", {0: (2, 0, 0)}),
+        ("a blank cell refined", refine(4), {0: (1, 0, 0), 1: (4, 0, 0)}),
+        ("a kid measured", value(10, 1), {0: (1, 0, 0), 1: (3, 1, 0)}),
+        ("measured again", value(10, 2), {0: (1, 0, 0), 1: (3, 1, 0)}),
+        ("6 measured", value(6, 0), {0: (0, 1, 0), 1: (3, 1, 0)}),
+        ("a measured cell refined", refine(6), {1: (3, 1, 4)}),
+        ("a carried one measured", value(16, 5), {1: (3, 2, 3)}),
+        ("a carried one refined", refine(17), {1: (3, 2, 2), 2: (0, 0, 4)}),
+        ("sentenced", sentence(*range(25, 29)), {1: (3, 2, 2), 2: (0, 0, 4)}),
+        ("a sentenced one measured", value(25, 7), {1: (3, 2, 2), 2: (0, 1, 3)}),
+        ("removed: a carried cell again", remove(17), {1: (3, 2, 3)}),
+        ("removed: a measured cell again", sentence(16, 17, 19, 20) + remove(6), {0: (0, 1, 0), 1: (3, 1, 0)}),
+        ("killed", kill(6), {1: (3, 1, 0)}),
+        ("removed: a blank cell again", sentence(10, 11, 12, 13) + remove(4), {0: (1, 0, 0)}),
+    ]:
+        answer = grid.call(r.tape, requests)
+        expect(f"{name}, done", (answer.refusal, answer.offset), (0, len(requests)))
+        expect(name, grid.counts, counted(wanted))
+        expect(f"{name}, sound", grid.check(), 0)
+
+
+def test_counts_of_a_build():
+    for (columns, rows, mode), cells in {(1, 1, r.OPEN): 1, (3, 2, r.OPEN): 6, (1, 3, r.RING): 3, (32, 32, r.OPEN): 1024}.items():
+        expect(f"{columns} by {rows}", Lent(columns, rows, 2000, mode).counts, counted({0: (cells, 0, 0)}))
+    expect("a refused build leaves them", Lent(1, 2, 8).counts, [9] * 39)
+
+
+def test_counts_on_the_last_level():
+    grid = Lent(1, 1, 200)
+    deep = b"".join(refine(n) for n in [2, 6] + [15 + 9 * k for k in range(10)])
+    expect("refined", grid.call(r.tape, value(2, 3) + deep).refusal, 0)
+    expect("levels 1 to 12", grid.counts, counted({**{level: (0, 0, 3) for level in range(1, 12)}, 12: (0, 0, 4)}))
+    expect("asked", r.count(grid.counts, 12, r.CARRIED), (0, 4))
+
+
+def test_counts_of_a_refused_tape():
+    """What was done before the refused request is counted, and nothing of it or behind it."""
+    grid = Lent(2, 1)
+    expect("8 after two", grid.call(r.tape, refine(4) + value(6, 1) + refine(4) + value(10, 1)), (2, 8, 14))
+    expect("counts of two", grid.counts, counted({0: (0, 1, 0), 1: (4, 0, 0)}))
+    before = grid.lists()
+    accepted = value(10, 1)
+    refused = (b"\x06", value(9, 1), value(10, 0x7FF << 52), kill(10), remove(4), refine(11))
+    for requests in (accepted[:10], *(one + accepted for one in refused)):
+        expect("refused at once", grid.call(r.tape, requests).done, 0)
+        expect("nothing changed", grid.lists(), before)
+
+
+def with_counts(lists, counts):
+    return [*lists[:4], counts]
+
+
+def test_refusals_of_counts():
+    """1 for another length, before 2; 3 for other numbers, after 2; a build asks for the length alone."""
+    grid = Lent(2, 1)
+    grid.call(r.tape, value(4, 5) + refine(4) + value(10, 6))
+    lists = grid.lists()
+    right = lists[4]
+    expect("counts", right, counted({0: (1, 0, 0), 1: (0, 1, 3)}))
+    wrong = [right[:place] + [number] + right[place + 1 :] for place, old in enumerate(right) for number in (old + 1, 2**32 - 1)]
+    wrong += [counted({0: (0, 0, 0), 1: (0, 2, 3)}), counted({0: (1, 0, 0), 1: (0, 3, 1)}), counted({1: (1, 1, 3)}), right[::-1], [0] * 39]
+    for counts in wrong:
+        lent = with_counts(lists, counts)
+        expect("check", r.check(*lent), 3)
+        expect("tape", r.tape(*lent, value(6, 1)), ((0, 3, 0), *lent[1:]))
+        expect("a tape of nothing", r.tape(*lent, b""), ((0, 3, 0), *lent[1:]))
+    for length in (0, 1, 38, 40, 78):
+        lent = with_counts(lists, (right * 2)[:length])
+        expect("check 1", r.check(*lent), 1)
+        expect("tape 1", r.tape(*lent, b"\x09"), ((0, 1, 0), *lent[1:]))
+        expect("build 1", r.build(*lent, 1, 1, r.OPEN), ((1, 0), *lent[1:]))
+        expect("build 1 before 2", r.build(*lent, 0, 1, r.OPEN)[0], (1, 0))
+        lent[1] = r.Header(0, 1, r.OPEN, 0)
+        expect("check 1 before 2", r.check(*lent), 1)
+    small = with_counts(lists, [0] * 39)
+    small[1] = r.Header(1, 1, 2, 0)
+    expect("2 before 3", r.check(*small), 2)
+    expect("build on any numbers", r.build(*with_counts(lists, [2**32 - 1] * 39), 1, 1, r.OPEN)[4], counted({0: (1, 0, 0)}))
+
+
+def test_calls_that_are_not_lent_counts():
+    grid = Lent(1, 1)
+    for counts in ([], [5] * 39, [0] * 40):
+        grid.counts = counts
+        expect("scan", grid.call(r.scan, 1, [3, 4, 2, 1], 3, -1, 12, [7] * 2), (0, 1, [2, 7]))
+        expect("lookup", grid.call(r.lookup, 0, 0), (0, 2, 0, 0))
+        expect("page", grid.call(r.page, bytes(100)).refusal, 0)
+        expect("counts stay", grid.counts, counts)
+
+
+def test_the_question():
+    """The number at a place of whatever list; 1, then 23."""
+    some = [7 * place + 2**32 - 300 for place in range(39)]
+    for level, status in itertools.product(range(13), range(3)):
+        expect(f"level {level}, status {status}", r.count(some, level, status), (0, some[3 * level + status]))
+    for level, status in ((13, 0), (0, 3), (12, 3), (13, 3), (2**32 - 1, 0), (0, 2**32 - 1), (2**31, 2**31)):
+        expect(f"23 of {level}, {status}", r.count(some, level, status), (23, 0))
+        for length in (0, 38, 40):
+            expect("1 before 23", r.count((some * 2)[:length], level, status), (1, 0))
+    for length in (0, 1, 38, 40, 78):
+        expect(f"1 of {length}", r.count((some * 2)[:length], 0, 0), (1, 0))
+    grid = Lent(2, 1)
+    grid.call(r.tape, value(4, 5) + refine(4))
+    expect("two blank at first, one now", r.count(grid.counts, 0, r.BLANK), (0, 1))
+    expect("four carried", r.count(grid.counts, 1, r.CARRIED), (0, 4))
+
+
+def counts_by_page(grid):
+    """The counts of a page's lines."""
+    lines = [line.split() for line in r.page_text(grid).decode().splitlines()[1:-1]]
+    found = collections.Counter((int(level), "nmc".index(letter)) for _, level, _, _, letter, _ in lines)
+    return [found[level, status] for level in range(13) for status in range(3)]
+
+
+def test_counts_by_page():
+    for seed, some in itertools.product(range(40), (generate.some_size, generate.ring_size)):
+        grid = generate.some_grid(random.Random(seed), some)
+        expect(f"counts of {seed}", r.leaf_counts(grid), counts_by_page(grid))
+
+
+def test_damaged_counts():
+    """Damage that changes the counts is refused 3, and damage to their length 1."""
+    told = collections.Counter()
+    for seed in range(120):
+        rng = random.Random(seed)
+        grid = generate.some_grid(rng)
+        lists, right = generate.lend(grid), r.leaf_counts(grid)
+        generate.damage_counts(rng, grid, lists)
+        answer = r.check(*lists)
+        told[answer] += 1
+        expect(f"damaged counts {seed}", answer, 0 if lists[4] == right else 3)
+        expect(f"damaged counts {seed}, numbers", all(0 <= number < 2**32 for number in lists[4]), True)
+    expect("mostly refused", told[3] > 90, True)
 
 
 # ------------------------------------------------------------ random grids
@@ -975,9 +1128,9 @@ def random_grids(rng, mode):
         grid = r.built(200, rng.randint(1, 6), rng.randint(3 if mode == r.RING else 1, 6), mode)
         accepted = 0
         for _ in range(60):
-            before = (grid.header, *r.picture(grid))
+            before = r.drawn(grid)
             refusal = random_step(rng, grid)
-            after = (grid.header, *r.picture(grid))
+            after = r.drawn(grid)
             accepted += refusal == 0
             if refusal and before != after:
                 expect(f"refusal {refusal} changes nothing", before, after)
@@ -1008,16 +1161,19 @@ def generated(kind, count):
 
 
 def replay(lines):
-    """Whether the reference gives a check or tape case's answer again."""
+    """Whether the reference gives the answer of a check, a tape or questions again."""
     numbers = [[int(word) for word in line.split()] for line in lines]
-    (call,), (capacity,), header, table, values, told, answer = numbers[:7]
-    lists = capacity, r.Header(*header), table[1:], values[1:]
+    (call,), (capacity,), header, table, values, counts, told, answer = numbers[:8]
+    lists = capacity, r.Header(*header), table[1:], values[1:], counts[1:]
     if call == generate.CHECK:
         return [r.check(*lists)] == answer
     if call == generate.TAPE:
         taped, *after = r.tape(*lists, bytes(told[1:]))
         after = [list(after[0])] + [[len(one), *one] for one in after[1:]]
-        return [list(taped), *after] == numbers[6:]
+        return [list(taped), *after] == numbers[7:]
+    if call == generate.COUNT:
+        answers = [r.count(lists[4], *question) for question in zip(told[1::2], told[2::2])]
+        return [len(answers), *itertools.chain(*answers)] == answer
     return True
 
 
@@ -1046,7 +1202,7 @@ def stored_calls(folder):
         columns, rows, mode = one.size
         grid = Lent(columns, rows, one.capacity, mode)
         expect(f"call {place}, tape", grid.call(r.tape, one.requests), one.taped)
-        expect(f"call {place}, left", (grid.header, list(grid.table), list(grid.values)), one.left)
+        expect(f"call {place}, left", grid.lists()[1:], one.left)
         page = grid.call(r.page, bytes(20000))
         expect(f"call {place}, page", page.output[: page.count], one.page)
         for point, found in one.lookups:

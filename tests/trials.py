@@ -3,12 +3,13 @@
     python3 trials.py                                crates/trials/stdin and stdout
     python3 trials.py KIND SEED COUNT STDIN STDOUT   COUNT cases of one kind, of another seed
 
-KIND is damaged, tapes, scans, lookups, pages, older or rings.  crates/trials/src/main.rt
-says what the program reads: it keeps the words, the values and thirteen numbers from
-call to call, so that a case is given by what differs from the case before.  It
-writes a line for each call: the answer, then the header that the call left and
-the sums by place of all words and of all values.  The calls of vectors/calls.jsonl
-have the answers stored there; only of their builds the reference tells the answer.
+KIND is damaged, tapes, scans, lookups, pages, older, rings or counts.
+crates/trials/src/main.rt says what the program reads: it keeps the words, the values,
+the counts and fourteen numbers from call to call, so that a case is given by what
+differs from the case before.  It writes a line for each call: the answer, then the
+header that the call left and the sums by place of all words, of all values and of all
+counts.  The calls of vectors/calls.jsonl have the answers stored there; only of their
+builds the reference tells the answer.
 """
 
 import copy
@@ -22,8 +23,8 @@ import generate as g
 import reference as r
 
 WORDS, VALUES, NUMBERS = 1, 2, 3
-CHECK, BUILD, TAPE, SCAN, LOOKUP, PAGE, SWEEP = range(4, 11)
-ROOM = {WORDS: 2844, VALUES: 231, NUMBERS: 13}  # the places that the program has
+CHECK, BUILD, TAPE, SCAN, LOOKUP, PAGE, SWEEP, COUNTS, COUNT = range(4, 13)
+ROOM = {WORDS: 2844, VALUES: 231, COUNTS: 69, NUMBERS: 14}  # the places that the program has
 SCAN_ROOM, PAGE_ROOM = 256, 16384
 SWEPT = 64
 MOST_BYTES = 4096
@@ -107,34 +108,43 @@ class Desk:
     """What is lent, what the program reads, and what it must write."""
 
     def __init__(self):
-        self.words, self.values, self.numbers = ([0] * ROOM[k] for k in (WORDS, VALUES, NUMBERS))
+        self.words, self.values, self.counts, self.numbers = ([0] * ROOM[k] for k in (WORDS, VALUES, COUNTS, NUMBERS))
         self.data, self.lines = [], []
 
     def lend(self, lists, *arguments):
-        capacity, header, table, values = lists
-        told = [*header, capacity, len(table), len(values), *arguments]
+        """Header, table, values and counts; without counts those of the calls before stay."""
+        capacity, header, table, values, *counts = lists
+        told = [*header, capacity, len(table), len(values)]
         self.data.append(changes(WORDS, self.words, [code(word) for word in table]))
         self.data.append(changes(VALUES, self.values, values))
-        self.data.append(changes(NUMBERS, self.numbers, told))
+        self.lend_counts(told, *counts or [self.counts[: self.numbers[7]]], *arguments)
+
+    def lend_counts(self, told, counts, *arguments):
+        self.data.append(changes(COUNTS, self.counts, counts))
+        self.data.append(changes(NUMBERS, self.numbers, [*told, len(counts), *arguments]))
 
     def kept(self, capacity):
-        """What was lent last and left, lent again with another capacity."""
+        """What was lent last and left, lent again with another capacity, and as many counts as are right."""
         header, rows = r.Header(*self.numbers[:4]), capacity + 1
-        return [capacity, header, [decode(word) for word in self.words[: r.WORDS * rows]], self.values[:rows]]
+        table = [decode(word) for word in self.words[: r.WORDS * rows]]
+        return [capacity, header, table, self.values[:rows], self.counts[: r.PLACES]]
 
-    def leave(self, kind, items, answer, left):
+    def leave(self, kind, items, answer, left=()):
         """The call itself, and its line: the answer, and what the call left."""
-        header, table, values = left
         self.data.append(run_of_bytes(kind, 0, bytes(items), 1))
-        self.words[: len(table)] = [code(word) for word in table]
-        self.values[: len(values)] = values
-        self.numbers[:4] = header
-        sums = mix(1, self.words), mix(1, (x for bits in self.values for x in halves(bits)))
-        self.lines.append(" ".join(map(str, [*answer, *header, *sums])) + " \n")
+        if left:
+            header, table, values, *counts = left
+            self.words[: len(table)] = [code(word) for word in table]
+            self.values[: len(values)] = values
+            for counted in counts:
+                self.counts[: len(counted)] = counted
+            self.numbers[:4] = header
+        sums = mix(1, self.words), mix(1, (x for bits in self.values for x in halves(bits))), mix(1, self.counts)
+        self.lines.append(" ".join(map(str, [*answer, *self.numbers[:4], *sums])) + " \n")
 
     def check(self, lists):
         self.lend(lists)
-        self.leave(CHECK, b"", [r.check(*lists)], lists[1:])
+        self.leave(CHECK, b"", [r.check(*lists)])
 
     def build(self, lists, *size):
         self.lend(lists, *size)
@@ -152,32 +162,37 @@ class Desk:
 
     def scan(self, lists, arguments, length, filler):
         start, order, kind, first, last = arguments
-        self.lend(lists, start, kind, code(first), code(last), length, filler)
-        answer, *left = r.scan(*lists, *arguments, [filler] * length)
+        self.lend(lists[:4], start, kind, code(first), code(last), length, filler)
+        answer, *left = r.scan(*lists[:4], *arguments, [filler] * length)
         out = list(answer.output) + [filler] * (SCAN_ROOM - length)
         self.leave(SCAN, order, [*answer[:2], mix(1, out)], left)
 
     def page(self, lists, length, filler):
-        self.paged(lists, length, filler, r.page(*lists, bytes([filler]) * length)[0])
+        self.paged(lists, length, filler, r.page(*lists[:4], bytes([filler]) * length)[0])
 
     def paged(self, lists, length, filler, answer):
-        self.lend(lists, 0, 0, 0, 0, length, filler)
+        self.lend(lists[:4], 0, 0, 0, 0, length, filler)
         out = bytes(answer.output) + bytes([filler]) * (PAGE_ROOM - length)
-        self.leave(PAGE, b"", [*answer[:2], mix(1, out)], lists[1:])
+        self.leave(PAGE, b"", [*answer[:2], mix(1, out)])
 
     def lookup(self, lists, speed, load):
-        self.looked(lists, speed, load, r.lookup(*lists, speed, load)[0])
+        self.looked(lists, speed, load, r.lookup(*lists[:4], speed, load)[0])
 
     def looked(self, lists, speed, load, answer):
-        self.lend(lists, speed, load)
+        self.lend(lists[:4], speed, load)
         refusal, number, status, bits = answer
         shown = [f"{bits:016x}"] if status else []
-        self.leave(LOOKUP, b"", [refusal, number, status, *shown], lists[1:])
+        self.leave(LOOKUP, b"", [refusal, number, status, *shown])
+
+    def count(self, counts, level, status):
+        """The counts alone are lent; what else was lent before stays."""
+        self.lend_counts(self.numbers[:7], counts, level, status)
+        self.leave(COUNT, b"", r.count(counts, level, status))
 
     def sweep(self, lists, speed, load, step):
         """Lookups of 64 times 64 points; the checks 1, 2 and 3 are the same for all."""
-        self.lend(lists, speed, load, step)
-        refusal, grid = r.admit(*lists)
+        self.lend(lists[:4], speed, load, step)
+        refusal, grid = r.admit(*lists[:4])
         total = 1
         for up, east in itertools.product(range(SWEPT), range(SWEPT)):
             x, y = (speed + east * step) % 2**32, (load + up * step) % 2**32
@@ -187,7 +202,7 @@ class Desk:
                 continue
             status, bits = grid.value(leaf)
             total = mix(total, (0, grid.numbers[leaf], status, *(halves(bits) if status else ())))
-        self.leave(SWEEP, b"", [total], lists[1:])
+        self.leave(SWEEP, b"", [total])
 
 
 # ------------------------------------------------------------ damaged tables
@@ -203,13 +218,16 @@ def small_grid():
 
 
 def each_word():
-    """Every word of a small table in turn, one more and far off."""
+    """Every word of a small table in turn, one more and far off; where the table then claims other counts, with those too."""
     lists = g.lend(small_grid())
     for place, old in enumerate(lists[2]):
         for word in (old + 1, g.signed(old ^ 1 << 31)):
             table = list(lists[2])
             table[place] = word
-            yield [lists[0], lists[1], table, lists[3]]
+            yield [lists[0], lists[1], table, *lists[3:]]
+            claimed = g.recount([lists[0], lists[1], table, *lists[3:]])
+            if claimed[4] != lists[4]:
+                yield claimed
 
 
 def each_flag():
@@ -219,7 +237,7 @@ def each_flag():
         for bit in range(14):
             table = list(lists[2])
             table[r.WORDS * number + r.FLAGS] ^= 1 << bit
-            yield [lists[0], lists[1], table, lists[3]]
+            yield g.recount([lists[0], lists[1], table, *lists[3:]])
 
 
 def each_value():
@@ -227,30 +245,32 @@ def each_value():
     lists = g.lend(small_grid())
     for place, old in enumerate(lists[3]):
         for bits in (MINUS_ZERO, NAN, INFINITE, old ^ 1, old ^ MINUS_ZERO):
-            yield [*lists[:3], lists[3][:place] + [bits] + lists[3][place + 1 :]]
+            yield [*lists[:3], lists[3][:place] + [bits] + lists[3][place + 1 :], lists[4]]
 
 
 def each_length():
-    """A small table at every length of the table and of the values, and every small capacity."""
-    capacity, header, table, values = g.lend(r.built(5, 1, 1, r.OPEN))
+    """A small table at every length of the table, of the values and of the counts, and every small capacity."""
+    capacity, header, table, values, counts = g.lend(r.built(5, 1, 1, r.OPEN))
     for length in range(len(table) + 16):
-        yield [capacity, header, (table + [0] * 16)[:length], values]
+        yield [capacity, header, (table + [0] * 16)[:length], values, counts]
     for length in range(len(values) + 4):
-        yield [capacity, header, table, (values + [0] * 4)[:length]]
+        yield [capacity, header, table, (values + [0] * 4)[:length], counts]
+    for length in range(len(counts) + 4):
+        yield [capacity, header, table, values, (counts + [0] * 4)[:length]]
     for other in range(12):
         room = r.WORDS * (other + 1)
-        yield [other, header, (table + list(r.FREE_ROW) * 7)[:room], (values + [0] * 7)[: other + 1]]
+        yield [other, header, (table + list(r.FREE_ROW) * 7)[:room], (values + [0] * 7)[: other + 1], counts]
 
 
 def each_size():
     """A sound table under every number of columns and of rows, and under many modes; of both modes."""
     for size in ((2, 2, r.OPEN), (2, 4, r.RING)):
-        capacity, header, table, values = g.lend(r.built(20, *size))
+        capacity, header, *lists = g.lend(r.built(20, *size))
         for size in (*range(36), 64, 2**16, 2**31, 2**32 - 1):
-            yield [capacity, header._replace(columns=size), table, values]
-            yield [capacity, header._replace(rows=size), table, values]
+            yield [capacity, header._replace(columns=size), *lists]
+            yield [capacity, header._replace(rows=size), *lists]
         for mode in (r.OPEN, r.RING, *g.WRONG_MODES):
-            yield [capacity, header._replace(mode=mode), table, values]
+            yield [capacity, header._replace(mode=mode), *lists]
 
 
 PLAIN = (g.damage_word, g.damage_used_word, g.damage_flag, g.damage_value, g.damage_status)
@@ -265,6 +285,8 @@ def damaged_lists(rng, sound, count):
             g.damage(rng, grid, lists)
         if g.chance(rng, 8) and lists[0] == sound.capacity and not r.refuses_lengths(lists[0], *lists[2:]):
             rng.choice(PLAIN)(rng, sound, lists)
+            if g.chance(rng, 2):
+                g.recount(lists)
         yield lists
 
 
@@ -294,7 +316,8 @@ def some_start(desk, rng):
         words, room = words + rng.randint(-1, 1), room + rng.randint(-1, 1)
     garbage = [g.some_word(rng) for _ in range(rng.choice((0, 20)))]
     table = (garbage + [0] * words)[:words]
-    return desk.build([capacity, r.Header(5, 6, 7, 8), table, [0] * room], columns, rows, mode)
+    counts = g.some_counts(rng) if g.chance(rng, 12) else [0] * r.PLACES
+    return desk.build([capacity, r.Header(5, 6, 7, 8), table, [0] * room, counts], columns, rows, mode)
 
 
 def grid_of(lists):
@@ -340,7 +363,7 @@ def scans(desk, rng, count):
             level = grid.places().get(start, (0, 0, 0))[0]
             kind = rng.choice((0, 7, 255)) if g.chance(rng, 20) else rng.randint(1, 6)
             arguments = (start, g.some_order(rng), kind, *g.some_levels(rng, level))
-            found = r.scan(*lists, *arguments, [0] * 250)[0].count
+            found = r.scan(*lists[:4], *arguments, [0] * 250)[0].count
             length = max(0, rng.choice((found, found - 1, found + 1, 250, 0)))
             desk.scan(lists, arguments, length, rng.choice((0, 65535)))
         done += 60
@@ -373,7 +396,8 @@ def stored_calls(desk):
     """Build, tape, page and lookups of each line of vectors/calls.jsonl, as they are stored there."""
     for one in calls.stored(HERE / "vectors"):
         rows = one.capacity + 1
-        lists = desk.build([one.capacity, r.Header(5, 6, 7, 8), [0] * (r.WORDS * rows), [0] * rows], *one.size)
+        blank = [one.capacity, r.Header(5, 6, 7, 8), [0] * (r.WORDS * rows), [0] * rows, [0] * r.PLACES]
+        lists = desk.build(blank, *one.size)
         lists = desk.taped(lists, one.requests, one.taped, *one.left)
         desk.paged(lists, PAGE_ROOM, 46, r.Written(0, len(one.page), one.page.ljust(PAGE_ROOM, b".")))
         for point, found in one.lookups:
@@ -477,8 +501,8 @@ def wrong_modes(desk):
             desk.lookup(lent, 0, 3 * 4096)
             desk.page(lent, 300, 46)
             desk.page(lent, 0, 46)
-            desk.check([lent[0], lent[1], lent[2][1:], lent[3]])
-            desk.check([lent[0], lent[1], [5] + lent[2][1:], lent[3]])
+            desk.check([lent[0], lent[1], lent[2][1:], *lent[3:]])
+            desk.check([lent[0], lent[1], [5] + lent[2][1:], *lent[3:]])
 
 
 def ring_of(capacity, *requests, size=(1, 3), checks=r.CHECKS):
@@ -550,7 +574,7 @@ def each_word_of_a_ring():
     seam = [(r.WORDS * number + wind, word) for number, wind in g.over_seam(grid) for word in range(grid.capacity + 2)]
     for place, word in [(place, old + 1) for place, old in enumerate(lists[2])] + seam:
         if word != lists[2][place]:
-            yield [lists[0], lists[1], lists[2][:place] + [word] + lists[2][place + 1 :], lists[3]]
+            yield g.recount([lists[0], lists[1], lists[2][:place] + [word] + lists[2][place + 1 :], *lists[3:]])
 
 
 def fixed_ring_damage(desk):
@@ -593,7 +617,165 @@ def rings(desk, rng, count):
         done += 13 + 2 * some
 
 
-KINDS = {"damaged": damaged, "tapes": tapes, "scans": scans, "lookups": lookups, "pages": pages, "older": older, "rings": rings}
+# ------------------------------------------------------------ counts
+
+MOST = 2**32 - 1
+SOME = 0x4045000000000000
+
+
+def counted_grid():
+    """Two by one, with leaves of every status on two levels, one of them sentenced."""
+    grid = r.built(30, 2, 1, r.OPEN)
+    requests = (r.SET_VALUE, (0, 0, 0)), (r.REFINE, (0, 0, 0)), (r.SET_VALUE, (1, 0, 0)), (r.SENTENCE, (1, 0, 1))
+    for kind, cell in requests:
+        if r.step(grid, kind, grid.numbers[cell], SOME):
+            raise ValueError(f"a request of the counted grid is refused: {kind} {cell}")
+    return grid
+
+
+def with_counts(lists, changed):
+    """The lists with other numbers at some places of the counts."""
+    return [*lists[:4], [changed.get(place, number) for place, number in enumerate(lists[4])]]
+
+
+def each_count(lists):
+    """Every place of the counts in turn: one more, one less, and far off."""
+    for place, old in enumerate(lists[4]):
+        for number in sorted({old + 1, abs(old - 1), old ^ 1 << 31, MOST}):
+            yield with_counts(lists, {place: number})
+
+
+def moved_counts(lists):
+    """The right sum with wrong numbers, and the right numbers in wrong places."""
+    counts = lists[4]
+    for one, other in itertools.permutations([place for place, number in enumerate(counts) if number], 2):
+        yield with_counts(lists, {one: counts[one] + 1, other: counts[other] - 1})
+        yield with_counts(lists, {one: counts[other], other: counts[one]})
+    for turn in (1, 2, 3, -1, -3):
+        yield [*lists[:4], counts[turn:] + counts[:turn]]
+    yield [*lists[:4], counts[::-1]]
+    yield [*lists[:4], [counts[3 * level + status] for status in r.STATUSES for level in range(13)]]
+    for statuses in ((0, 2, 1), (1, 0, 2), (2, 1, 0)):
+        yield [*lists[:4], [counts[3 * level + status] for level in range(13) for status in statuses]]
+    yield [*lists[:4], [0] * r.PLACES]
+
+
+LENGTHS = (0, 1, 38, 40, 42, ROOM[COUNTS])
+
+
+def of_lengths(counts):
+    return [(counts + [0] * ROOM[COUNTS])[:length] for length in LENGTHS]
+
+
+def counts_by_check(desk):
+    """The checker with counts that disagree, on a grid and on a ring; and what is told before: 1, then 2, then 3."""
+    lists = g.lend(counted_grid())
+    ring = g.lend(small_rings()[1])
+    for lent in (lists, *each_count(lists), *moved_counts(lists), ring, *moved_counts(ring)):
+        desk.check(lent)
+    sizes = (lists[1], lists[1]._replace(columns=0), lists[1]._replace(mode=2), lists[1]._replace(columns=1))
+    for header, counts in itertools.product(sizes, (lists[4], lists[4][1:] + [0], *of_lengths(lists[4]))):
+        desk.check([lists[0], header, *lists[2:4], counts])
+        desk.check([lists[0], header, [1, *lists[2][1:]], lists[3], counts])
+    for counts in of_lengths(lists[4]):
+        desk.check([4, lists[1], *lists[2:4], counts])
+        desk.check([lists[0], lists[1], lists[2], lists[3][1:], counts])
+
+
+def counts_by_tape(desk):
+    """Tapes with counts that disagree or are too few or too many, and then with the right ones; and a longer tape cut off before each of its
+    requests, with one behind it that is refused: what was done before it is counted."""
+    lists = g.lend(counted_grid())
+    first = g.encode(r.SET_VALUE, 6, SOME)
+    for lent in (*moved_counts(lists), *([*lists[:4], counts] for counts in of_lengths(lists[4]))):
+        desk.tape(lent, first)
+    for requests in (b"", first[:5], g.encode(9, 0)):
+        desk.tape(with_counts(lists, {0: 7}), requests)
+        desk.tape([*lists[:4], lists[4][:38]], requests)
+        desk.tape(lists, requests)
+    left, right, fine, finest = (0, 0, 0), (0, 1, 0), (1, 0, 0), (2, 1, 1)
+
+    def removal(cell):
+        return [*((r.SENTENCE, kid) for kid in r.kids(cell)), (r.REMOVE, cell)]
+
+    plan = [(r.SET_VALUE, left), (r.REFINE, left), (r.REFINE, right), (r.SET_VALUE, fine), (r.REFINE, fine)]
+    plan += [(r.SET_VALUE, finest), (r.SET_VALUE, finest), *removal(fine), *removal(right), (r.KILL, right), *removal(left)]
+    start, grid = g.lend(r.built(40, 2, 1, r.OPEN)), r.built(40, 2, 1, r.OPEN)
+    done, refused = b"", (g.encode(r.REFINE, 0), g.encode(r.SET_VALUE, 4, INFINITE), g.encode(r.KILL, 1), b"\x09", b"\x01\x00")
+    for place, (kind, cell) in enumerate(plan):
+        desk.tape(start, done)
+        desk.tape(start, done + refused[place % len(refused)] + g.encode(kind, grid.numbers[cell], SOME))
+        done += g.encode(kind, grid.numbers[cell], SOME)
+        if r.step(grid, kind, grid.numbers[cell], SOME):
+            raise ValueError(f"a request of the long tape is refused: {kind} {cell}")
+    desk.tape(start, done)
+
+
+def counts_by_build(desk):
+    """Builds on counts of every kind of contents, and on too few or too many: 1 is told before 2 and 11."""
+    full = [MOST - place for place in range(ROOM[COUNTS])]
+    for columns, rows, mode in ((2, 1, r.OPEN), (1, 3, r.RING), (0, 1, r.OPEN), (3, 3, r.OPEN), (1, 2, r.RING)):
+        for length in (39, *LENGTHS):
+            desk.build([*desk.kept(10)[:4], full[:length]], columns, rows, mode)
+    for size in ((1, 1, r.OPEN), (8, 8, r.OPEN), (1, 32, r.OPEN), (32, 1, r.OPEN), (3, 8, r.RING), (1, 32, r.RING)):
+        desk.build([*desk.kept(200)[:4], full[: r.PLACES]], *size)
+
+
+def counts_asked(desk):
+    """Every place of numbers that count nothing, levels and statuses that are none, and lists of other lengths; and of a grid after requests."""
+    far = (255, 256, 2**16, 2**31, 2**31 + 1, 2**32 - 3, MOST)
+    full = [MOST - 1000003 * place for place in range(ROOM[COUNTS])]
+    counts = full[: r.PLACES]
+    for level, status in itertools.product((*range(15), *far), (0, 1, 2, 3)):
+        desk.count(counts, level, status)
+    for level, status in itertools.product((0, 5, 12, 13), far):
+        desk.count(counts, level, status)
+    for length, level, status in itertools.product(LENGTHS, (0, 12, 13), (0, 2, 3)):
+        desk.count(full[:length], level, status)
+    lists = g.lend(r.built(40, 2, 1, r.OPEN))
+    for requests in ((5, 4), (1, 4), (1, 6), (5, 10), (2, 10), (4, 6)):
+        lists = desk.tape(lists, g.encode(*requests, SOME))
+        for level, status in itertools.product((0, 1, 2), r.STATUSES):
+            desk.count(lists[4], level, status)
+
+
+def fixed_counts(desk):
+    counts_by_check(desk)
+    counts_by_tape(desk)
+    counts_by_build(desk)
+    counts_asked(desk)
+
+
+def counts(desk, rng, count):
+    """Of each grid: checks and tapes with counts that disagree, questions, and tapes, each with questions behind it."""
+    done = 0
+    while done < count:
+        grid = rng.choice((g.some_grid, g.some_grid, g.ring_grid, g.older_grid))(rng)
+        sound = g.lend(grid)
+        for _ in range(6):
+            lists = copy.deepcopy(sound)
+            g.damage_counts(rng, grid, lists)
+            desk.check(lists)
+            desk.tape(lists, g.some_tape(rng, copy.deepcopy(grid), 3)[:MOST_BYTES])
+        lists = sound
+        for _ in range(rng.randint(1, 4)):
+            lists = desk.tape(lists, g.some_tape(rng, grid_of(lists), rng.choice((1, 6, 20)))[:MOST_BYTES])
+            for _ in range(6):
+                desk.count(lists[4] if g.chance(rng, 2) else g.some_counts(rng), *g.some_question(rng))
+            done += 7
+        done += 12
+
+
+KINDS = {
+    "damaged": damaged,
+    "tapes": tapes,
+    "scans": scans,
+    "lookups": lookups,
+    "pages": pages,
+    "older": older,
+    "rings": rings,
+    "counts": counts,
+}
 
 
 def of_the_gate():
@@ -613,6 +795,8 @@ def of_the_gate():
     ring_lookups(desk)
     fixed_ring_damage(desk)
     rings(desk, random.Random(7), 600)
+    fixed_counts(desk)
+    counts(desk, random.Random(8), 200)
     stored_calls(desk)
     return desk
 

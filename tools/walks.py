@@ -14,10 +14,13 @@ import sys
 HERE = pathlib.Path(__file__).parent
 CRATES = HERE.parent / "crates"
 
-LENT = ["mut:i32", "mut:f64", "u32"]  # table, values, capacity
-READ = ["shr:i32", "shr:f64", "u32"]
-STRUCT = ["--struct-crate", "header", "--lent", "Rattle.header.specs.Headers.lentOf", "2"]
+LENT = ["mut:i32", "mut:f64", "mut:u32", "u32"]  # table, values, counts, capacity
+CHECKED = ["shr:i32", "shr:f64", "shr:u32", "u32"]
+READ = ["shr:i32", "shr:f64", "u32"]  # without the counts
+STRUCT = ["--struct-crate", "header", "--lent", "Rattle.header.specs.Headers.countedOf", "3"]
+UNCOUNTED = ["--struct-crate", "header", "--lent", "Rattle.header.specs.Headers.lentOf", "2"]
 FACE = [*STRUCT, "face"]
+FACE_READ = ["--shared", *UNCOUNTED, "face"]
 
 # crate, entry, and what genwalk.py takes: [options] crate entry core struct answer core's-answer specs-module relation -- parameters
 ENTRIES = [
@@ -25,12 +28,12 @@ ENTRIES = [
     ("grid", "tape", [*STRUCT, "grid", "tape", "tape_core", "Header", "Taped", "TapeOut", "Calls", "Tapes", "--", *LENT, "shr:u8"]),
     ("face", "grid_build", [*FACE, "grid_build", "build_core", "Header", "u32", "Left", "Outputs", "Builds", "--", *LENT, "u32", "u32", "u32", "ref:u32"]),
     ("face", "grid_tape", [*FACE, "grid_tape", "tape_core", "Header", "u32", "Left", "Outputs", "Tapes", "--", *LENT, "shr:u8", "ref:usize", "ref:usize"]),
-    ("face", "grid_check", ["--shared", *FACE, "grid_check", "check_core", "Header", "u32", "u32", "Outputs", "Checks", "--", *READ]),
-    ("face", "grid_scan", ["--shared", *FACE, "grid_scan", "scan_core", "Header", "u32", "u32", "Outputs", "Scans", "--", *READ,
+    ("face", "grid_check", ["--shared", *FACE, "grid_check", "check_core", "Header", "u32", "u32", "Outputs", "Checks", "--", *CHECKED]),
+    ("face", "grid_scan", [*FACE_READ, "grid_scan", "scan_core", "Header", "u32", "u32", "Outputs", "Scans", "--", *READ,
                            "u32", "shr:u8", "u32", "i32", "i32", "mut:u16", "ref:u32"]),
-    ("face", "grid_lookup", ["--shared", *FACE, "grid_lookup", "lookup_core", "Header", "u32", "u32", "Outputs", "Looks", "--", *READ,
+    ("face", "grid_lookup", [*FACE_READ, "grid_lookup", "lookup_core", "Header", "u32", "u32", "Outputs", "Looks", "--", *READ,
                              "u32", "u32", "ref:u32", "ref:u32", "ref:f64"]),
-    ("face", "grid_page", ["--shared", *FACE, "grid_page", "page_core", "Header", "u32", "u32", "Outputs", "Pages", "--", *READ, "mut:u8", "ref:usize"]),
+    ("face", "grid_page", [*FACE_READ, "grid_page", "page_core", "Header", "u32", "u32", "Outputs", "Pages", "--", *READ, "mut:u8", "ref:usize"]),
     ("trials", "lent/build", [*STRUCT, "--lends", "grid", "trials", "lent/build", "build", "Header", "Built", "BuildOut", "Calls", "Builds", "--", *LENT, "u32", "u32", "u32"]),
     ("trials", "lent/tape", [*STRUCT, "--lends", "grid", "trials", "lent/tape", "tape", "Header", "Taped", "TapeOut", "Calls", "Tapes", "--", *LENT, "shr:u8"]),
 ]

@@ -1,21 +1,24 @@
-/* The reference grids P1 to P11, the page of 07 01 01, a ring and some refusals, by the library. `examples/run` compiles, runs and compares it. */
+/* The reference grids P1 to P11, the page of 07 01 01, a ring, counts and some refusals, by the library. `examples/run` compiles, runs and compares it. */
 #include <inttypes.h>
 #include <stdio.h>
 #include <string.h>
 
 #include "grid.h"
 
-enum { WORDS = 14, NORTH = 5, LEVEL = 9, COLUMN = 10, ROW = 11, FLAGS = 12, MOST = 40 };
+enum { WORDS = 14, NORTH = 5, LEVEL = 9, COLUMN = 10, ROW = 11, FLAGS = 12, MOST = 40, COUNTS = 39 };
 
 typedef struct {
     grid_header header;
     uint32_t capacity;
     int32_t table[WORDS * (MOST + 1)];
     double values[MOST + 1];
+    uint32_t counts[COUNTS + 1], counts_len;
 } map;
 
-/* what every call is lent */
-#define LISTS(m) &(m)->header, (m)->table, WORDS * ((m)->capacity + 1), (m)->values, (m)->capacity + 1, (m)->capacity
+/* what the calls are lent, without the counts and with them */
+#define GRID(m) &(m)->header, (m)->table, WORDS * ((m)->capacity + 1), (m)->values, (m)->capacity + 1
+#define LISTS(m) GRID(m), (m)->capacity
+#define COUNTED(m) GRID(m), (m)->counts, (m)->counts_len, (m)->capacity
 #define TAPE(m, ...) run(m, (const uint8_t[]){__VA_ARGS__}, sizeof((const uint8_t[]){__VA_ARGS__}))
 
 static int32_t word(const map *m, uint32_t number, uint32_t w) { return m->table[WORDS * number + w]; }
@@ -24,13 +27,14 @@ static void build(map *m, uint32_t capacity, uint32_t columns, uint32_t rows, ui
     uint32_t in_use = 99;
     memset(m, 0x55, sizeof *m);
     m->capacity = capacity;
-    uint32_t refusal = grid_build(LISTS(m), columns, rows, mode, &in_use);
+    m->counts_len = COUNTS;
+    uint32_t refusal = grid_build(COUNTED(m), columns, rows, mode, &in_use);
     printf("build %" PRIu32 " in use %" PRIu32 "\n", refusal, in_use);
 }
 
 static void run(map *m, const uint8_t *tape, size_t length) {
     size_t done = 99, offset = 99;
-    uint32_t refusal = grid_tape(LISTS(m), tape, length, &done, &offset);
+    uint32_t refusal = grid_tape(COUNTED(m), tape, length, &done, &offset);
     printf("tape %" PRIu32 " done %zu at %zu mark %u\n", refusal, done, offset, m->header.mark);
 }
 
@@ -54,7 +58,7 @@ static void row(const map *m, uint32_t number, uint32_t first, uint32_t count) {
     printf("\n");
 }
 
-static void check(const map *m) { printf("check %" PRIu32 "\n", grid_check(LISTS(m))); }
+static void check(const map *m) { printf("check %" PRIu32 "\n", grid_check(COUNTED(m))); }
 
 static void scan(const map *m, const uint8_t *order, size_t length, uint32_t kind, size_t room) {
     uint16_t out[MOST + 1];
@@ -80,6 +84,21 @@ static void page(const map *m, size_t room) {
     uint32_t refusal = grid_page(LISTS(m), out, room, &count);
     printf("page %" PRIu32 " bytes %zu\n", refusal, count);
     fwrite(out, 1, count, stdout);
+}
+
+static void count(const map *m, uint32_t level, uint32_t status) {
+    uint32_t number = 99;
+    uint32_t refusal = grid_count(m->counts, m->counts_len, level, status, &number);
+    printf("count %" PRIu32 " is %" PRIu32 "\n", refusal, number);
+}
+
+/* of the levels 0 and 1, how many leaves are blank, measured and carried */
+static void lacking(const map *m) {
+    for (uint32_t level = 0; level < 2; level++) {
+        uint32_t number[3] = {99, 99, 99};
+        for (uint32_t status = 0; status < 3; status++) grid_count(m->counts, m->counts_len, level, status, &number[status]);
+        printf("level %" PRIu32 ": blank %" PRIu32 " measured %" PRIu32 " carried %" PRIu32 "\n", level, number[0], number[1], number[2]);
+    }
 }
 
 static const uint8_t order[] = {3, 4, 2, 1};
@@ -199,6 +218,42 @@ static void points(map *m) {
     page(m, 400);
 }
 
+static void counts(map *m) {
+    puts("how many cells lack a measurement");
+    build(m, 40, 2, 1, GRID_OPEN);
+    lacking(m);
+    TAPE(m, 1, 0, 4);
+    lacking(m);
+    TAPE(m, 5, 0, 10, 0x3f, 0xf8, 0, 0, 0, 0, 0, 0);
+    lacking(m);
+    TAPE(m, 5, 0, 6, 0x3f, 0xf8, 0, 0, 0, 0, 0, 0, 1, 0, 6);
+    lacking(m);
+    TAPE(m, 5, 0, 11, 0x3f, 0xf8, 0, 0, 0, 0, 0, 0, 1, 0, 4, 1, 0, 11);
+    lacking(m);
+    TAPE(m, 2, 0, 10, 2, 0, 11, 2, 0, 12, 2, 0, 13, 3, 0, 4);
+    lacking(m);
+    TAPE(m, 4, 0, 4);
+    lacking(m);
+    check(m);
+    count(m, 13, 0);
+    count(m, 0, 3);
+    count(m, UINT32_MAX, UINT32_MAX);
+    m->counts[4] += 1;
+    check(m);
+    TAPE(m, 1, 0, 16);
+    count(m, 1, 1);
+    scan(m, order, 4, 3, 40);
+    m->counts[4] -= 1;
+    check(m);
+    m->counts_len = 38;
+    check(m);
+    TAPE(m, 1, 0, 16);
+    count(m, 13, 0);
+    m->counts_len = 40;
+    check(m);
+    count(m, 1, 2);
+}
+
 static void refusals(map *m) {
     puts("refusals");
     scan(m, order, 4, 3, 3);
@@ -221,6 +276,7 @@ int main(void) {
     more_cells(&m);
     no_jump(&m);
     ring(&m);
+    counts(&m);
     points(&m);
     refusals(&m);
     return 0;

@@ -1,4 +1,4 @@
-//! The reference grids P1 to P11, the page of 07 01 01, a ring and some refusals, by the library. `examples/run` compiles, runs and compares it.
+//! The reference grids P1 to P11, the page of 07 01 01, a ring, counts and some refusals, by the library. `examples/run` compiles, runs and compares it.
 
 const WORDS: usize = 14;
 const NORTH: usize = 5;
@@ -6,6 +6,7 @@ const LEVEL: usize = 9;
 const COLUMN: usize = 10;
 const ROW: usize = 11;
 const FLAGS: usize = 12;
+const COUNTS: usize = 39;
 const OPEN: u32 = 0;
 const RING: u32 = 1;
 
@@ -19,11 +20,13 @@ struct Header {
 
 #[rustfmt::skip]
 extern "C" {
-    fn grid_build(header: *mut Header, table: *mut i32, table_len: usize, values: *mut f64, values_len: usize, capacity: u32,
-                  columns: u32, rows: u32, mode: u32, in_use: *mut u32) -> u32;
-    fn grid_tape(header: *mut Header, table: *mut i32, table_len: usize, values: *mut f64, values_len: usize, capacity: u32,
-                 tape: *const u8, tape_len: usize, done: *mut usize, offset: *mut usize) -> u32;
-    fn grid_check(header: *const Header, table: *const i32, table_len: usize, values: *const f64, values_len: usize, capacity: u32) -> u32;
+    fn grid_build(header: *mut Header, table: *mut i32, table_len: usize, values: *mut f64, values_len: usize, counts: *mut u32, counts_len: usize,
+                  capacity: u32, columns: u32, rows: u32, mode: u32, in_use: *mut u32) -> u32;
+    fn grid_tape(header: *mut Header, table: *mut i32, table_len: usize, values: *mut f64, values_len: usize, counts: *mut u32, counts_len: usize,
+                 capacity: u32, tape: *const u8, tape_len: usize, done: *mut usize, offset: *mut usize) -> u32;
+    fn grid_check(header: *const Header, table: *const i32, table_len: usize, values: *const f64, values_len: usize,
+                  counts: *const u32, counts_len: usize, capacity: u32) -> u32;
+    fn grid_count(counts: *const u32, counts_len: usize, level: u32, status: u32, count: *mut u32) -> u32;
     fn grid_scan(header: *const Header, table: *const i32, table_len: usize, values: *const f64, values_len: usize, capacity: u32,
                  start: u32, order: *const u8, order_len: usize, kind: u32, from_level: i32, to_level: i32,
                  out: *mut u16, out_len: usize, count: *mut u32) -> u32;
@@ -38,6 +41,7 @@ struct Map {
     header: Header,
     table: Vec<i32>,
     values: Vec<f64>,
+    counts: Vec<u32>,
     capacity: u32,
 }
 
@@ -48,13 +52,14 @@ impl Map {
             header: Header { columns: 7, rows: 7, mode: 7, mark: 7 },
             table: vec![-1; WORDS * places],
             values: vec![7.0; places],
+            counts: vec![7; COUNTS],
             capacity,
         };
         let mut in_use = 99;
         let refusal = unsafe {
             grid_build(
-                &mut m.header, m.table.as_mut_ptr(), m.table.len(), m.values.as_mut_ptr(), m.values.len(), capacity,
-                columns, rows, mode, &mut in_use,
+                &mut m.header, m.table.as_mut_ptr(), m.table.len(), m.values.as_mut_ptr(), m.values.len(), m.counts.as_mut_ptr(), m.counts.len(),
+                capacity, columns, rows, mode, &mut in_use,
             )
         };
         println!("build {} in use {}", refusal, in_use);
@@ -65,8 +70,8 @@ impl Map {
         let (mut done, mut offset) = (99, 99);
         let refusal = unsafe {
             grid_tape(
-                &mut self.header, self.table.as_mut_ptr(), self.table.len(), self.values.as_mut_ptr(), self.values.len(), self.capacity,
-                tape.as_ptr(), tape.len(), &mut done, &mut offset,
+                &mut self.header, self.table.as_mut_ptr(), self.table.len(), self.values.as_mut_ptr(), self.values.len(),
+                self.counts.as_mut_ptr(), self.counts.len(), self.capacity, tape.as_ptr(), tape.len(), &mut done, &mut offset,
             )
         };
         println!("tape {} done {} at {} mark {}", refusal, done, offset, self.header.mark);
@@ -74,9 +79,32 @@ impl Map {
 
     fn check(&self) {
         let refusal = unsafe {
-            grid_check(&self.header, self.table.as_ptr(), self.table.len(), self.values.as_ptr(), self.values.len(), self.capacity)
+            grid_check(
+                &self.header, self.table.as_ptr(), self.table.len(), self.values.as_ptr(), self.values.len(),
+                self.counts.as_ptr(), self.counts.len(), self.capacity,
+            )
         };
         println!("check {}", refusal);
+    }
+
+    /// The refusal, and how many leaves have the level and the status.
+    fn asked(&self, level: u32, status: u32) -> (u32, u32) {
+        let mut number = 99;
+        let refusal = unsafe { grid_count(self.counts.as_ptr(), self.counts.len(), level, status, &mut number) };
+        (refusal, number)
+    }
+
+    fn count(&self, level: u32, status: u32) {
+        let (refusal, number) = self.asked(level, status);
+        println!("count {} is {}", refusal, number);
+    }
+
+    /// Of the levels 0 and 1, how many leaves are blank, measured and carried.
+    fn lacking(&self) {
+        for level in [0, 1] {
+            let [blank, measured, carried] = [0, 1, 2].map(|status| self.asked(level, status).1);
+            println!("level {}: blank {} measured {} carried {}", level, blank, measured, carried);
+        }
     }
 
     fn scan(&self, order: &[u8], kind: u32, room: usize) {
@@ -231,6 +259,42 @@ fn ring(order: &[u8]) {
     Map::build(40, 1, 3, 2);
 }
 
+fn counts(order: &[u8]) {
+    println!("how many cells lack a measurement");
+    let mut m = Map::build(40, 2, 1, OPEN);
+    m.lacking();
+    m.tape(&[1, 0, 4]);
+    m.lacking();
+    m.tape(&[5, 0, 10, 0x3f, 0xf8, 0, 0, 0, 0, 0, 0]);
+    m.lacking();
+    m.tape(&[5, 0, 6, 0x3f, 0xf8, 0, 0, 0, 0, 0, 0, 1, 0, 6]);
+    m.lacking();
+    m.tape(&[5, 0, 11, 0x3f, 0xf8, 0, 0, 0, 0, 0, 0, 1, 0, 4, 1, 0, 11]);
+    m.lacking();
+    m.tape(&[2, 0, 10, 2, 0, 11, 2, 0, 12, 2, 0, 13, 3, 0, 4]);
+    m.lacking();
+    m.tape(&[4, 0, 4]);
+    m.lacking();
+    m.check();
+    m.count(13, 0);
+    m.count(0, 3);
+    m.count(u32::MAX, u32::MAX);
+    m.counts[4] += 1;
+    m.check();
+    m.tape(&[1, 0, 16]);
+    m.count(1, 1);
+    m.scan(order, 3, 40);
+    m.counts[4] -= 1;
+    m.check();
+    m.counts.truncate(38);
+    m.check();
+    m.tape(&[1, 0, 16]);
+    m.count(13, 0);
+    m.counts.resize(40, 0);
+    m.check();
+    m.count(1, 2);
+}
+
 fn points() -> Map {
     println!("P10 P11");
     let mut m = Map::build(40, 1, 1, OPEN);
@@ -286,5 +350,6 @@ fn main() {
     more_cells(&order);
     no_jump(&order);
     ring(&order);
+    counts(&order);
     refusals(points(), &order);
 }

@@ -10,7 +10,7 @@ use lib.ListN.{drop, getD}
 use lib.Ieee.{Float, ofBits, binary64}
 use borrow.Author.Tests.{not-false}
 use Rattle.mesh.specs.State.{State, Header}
-use Rattle.mesh.specs.Picture.{Lent}
+use Rattle.mesh.specs.LeafCounts.{Counted}
 use Rattle.mesh.specs.Valid.{Valid, finite}
 use Rattle.mesh.specs.Refusal.{refusal}
 use Rattle.mesh.specs.Request.{Request, setValue, checks}
@@ -36,7 +36,7 @@ same-checks : (s : State) (n : ℕ) (x y : Float) → finite x ≡ finite y → 
 unfolding checks
 same-checks s n x y e = rw e
 
-pub standing-applied : {cap d n w given : ℕ} {x : Float} {l l′ : Header → Lent} → StandsFor w x → Applied (setValue n x) cap d l l′ given → Applied (setValue n (ofBits binary64 w)) cap d l l′ given
+pub standing-applied : {cap d n w given : ℕ} {x : Float} {l l′ : Header → Counted} → StandsFor w x → Applied (setValue n x) cap d l l′ given → Applied (setValue n (ofBits binary64 w)) cap d l l′ given
 standing-applied {n = n} {w} {x = x} f a = record {
   decided = λ s p. a .decided s p ∙ ap refusal (same-checks s n x (ofBits binary64 w) (f .alike));
   done = λ s p h. rw (← f .is (finite-then s n x (p .valid) (sym (a .decided s p) ∙ h))) (a .done s p h);
@@ -45,7 +45,7 @@ standing-applied {n = n} {w} {x = x} f a = record {
 
 -- ---- by the kind byte
 
-module _ {bytes : List ℕ} {at cap d given : ℕ} {l l′ : Header → Lent} where
+module _ {bytes : List ℕ} {at cap d given : ℕ} {l l′ : Header → Counted} where
   -- by the row of the kind
   row-applied : {x : Kind} → kind (getD bytes at 0) ≡ some x → Applied (asks x (drop (at + 1) bytes)) cap d l l′ given → AppliedAt bytes at cap d l l′ given
   row-applied {x} e a = record {

@@ -8,7 +8,7 @@ use lib.ListN.{drop}
 use lib.IntN.{ℤ}
 use lib.Ieee.{Float}
 use Rattle.mesh.specs.State.{State, Header}
-use Rattle.mesh.specs.Picture.{Lent}
+use Rattle.mesh.specs.LeafCounts.{Counted}
 use Rattle.mesh.specs.Refusal.{refusal}
 use Rattle.mesh.specs.Request.{Request, refine, sentence, remove, kill, setValue, checks}
 use Rattle.refusals.specs.Decide.{refineRows, sentenceRows, removeRows, killRows, setRows, refineRefusal, sentenceRefusal, removeRefusal, killRefusal, setRefusal}
@@ -19,25 +19,25 @@ use Rattle.apply.specs.Applied.{Applied}
 use Rattle.apply.proofs.Drawing.{from-picture}
 
 -- on every picture the refusal is the rules'
-abbrev pub Decides : Request → ℕ → ℕ → (Header → Lent) → ℕ → Type 0
+abbrev pub Decides : Request → ℕ → ℕ → (Header → Counted) → ℕ → Type 0
 Decides q cap d l given = (s : State) → Drawn s cap d l → given ≡ refusal (checks s q)
 
 -- ---- the five kinds
 
-module _ (cap d n : ℕ) (t : List ℤ) (v : List Float) where
-  pub refine-decides : {given : ℕ} → given ≡ refineRefusal t cap n → Decides (refine n) cap d (lists t v) given
+module _ (cap d n : ℕ) (t : List ℤ) (v : List Float) (c : List ℕ) where
+  pub refine-decides : {given : ℕ} → given ≡ refineRefusal t cap n → Decides (refine n) cap d (lists t v c) given
   refine-decides x s p = x ∙ from-picture p (λ t cap d. refineRefusal t cap n ≡ refusal (checks s (refine n))) (refine-refusal s (p .valid) n)
 
-  pub sentence-decides : {given : ℕ} → given ≡ sentenceRefusal t cap n → Decides (sentence n) cap d (lists t v) given
+  pub sentence-decides : {given : ℕ} → given ≡ sentenceRefusal t cap n → Decides (sentence n) cap d (lists t v c) given
   sentence-decides x s p = x ∙ from-picture p (λ t cap d. sentenceRefusal t cap n ≡ refusal (checks s (sentence n))) (sentence-refusal s (p .valid) n)
 
-  pub remove-decides : {given : ℕ} → given ≡ removeRefusal t cap n → Decides (remove n) cap d (lists t v) given
+  pub remove-decides : {given : ℕ} → given ≡ removeRefusal t cap n → Decides (remove n) cap d (lists t v c) given
   remove-decides x s p = x ∙ from-picture p (λ t cap d. removeRefusal t cap n ≡ refusal (checks s (remove n))) (remove-refusal s (p .valid) n)
 
-  pub kill-decides : {given : ℕ} → given ≡ killRefusal t cap d n → Decides (kill n) cap d (lists t v) given
+  pub kill-decides : {given : ℕ} → given ≡ killRefusal t cap d n → Decides (kill n) cap d (lists t v c) given
   kill-decides x s p = x ∙ from-picture p (λ t cap d. killRefusal t cap d n ≡ refusal (checks s (kill n))) (kill-refusal s (p .valid) n)
 
-  pub set-decides : (x : Float) {given : ℕ} → given ≡ setRefusal t cap n x → Decides (setValue n x) cap d (lists t v) given
+  pub set-decides : (x : Float) {given : ℕ} → given ≡ setRefusal t cap n x → Decides (setValue n x) cap d (lists t v c) given
   set-decides x y s p = y ∙ from-picture p (λ t cap d. setRefusal t cap n x ≡ refusal (checks s (setValue n x))) (set-refusal s (p .valid) n x)
 
 module _ (t : List ℤ) (cap n : ℕ) where
@@ -64,5 +64,5 @@ module _ (t : List ℤ) (cap n : ℕ) where
 
 -- ---- a refused request
 
-pub refused-applied : (q : Request) (cap d : ℕ) (l : Header → Lent) (given : ℕ) → Decides q cap d l given → given ≢ 0 → Applied q cap d l l given
+pub refused-applied : (q : Request) (cap d : ℕ) (l : Header → Counted) (given : ℕ) → Decides q cap d l given → given ≢ 0 → Applied q cap d l l given
 refused-applied q cap d l given x z = record { decided = x; done = λ s p h. absurd (z h); refused = λ _. refl }

@@ -30,10 +30,10 @@ use Rattle.apply.proofs.Drawing.{drawn-words, from-picture}
 use Rattle.apply.proofs.Deciding.{Decides}
 
 -- the number 0 is not free
-pub nil-taken : {cap d : ℕ} {t : List ℤ} {v : List Float} → Pictured cap d (lists t v) → freeAt t 0 ≡ false
+pub nil-taken : {cap d : ℕ} {t : List ℤ} {v : List Float} {c : List ℕ} → Pictured cap d (lists t v c) → freeAt t 0 ≡ false
 nil-taken p = rw (drawn-words (p .drawn), free-numbers (p .state) (valid-numbered (p .drawn .valid))) (ap isFree (p .drawn .valid .zeroth))
 
-module _ {cap d : ℕ} {t : List ℤ} {v : List Float} (h : Standing cap d t v) where
+module _ {cap d : ℕ} {t : List ℤ} {v : List Float} {c : List ℕ} (h : Standing cap d t v c) where
   abbrev s : State
   s = h .pictured .state
 
@@ -43,41 +43,41 @@ module _ {cap d : ℕ} {t : List ℤ} {v : List Float} (h : Standing cap d t v) 
   on-picture : (P : List ℤ → ℕ → ℕ → Type 0) → P (table s) (capacity s) (base (gridOf s)) → P t cap d
   on-picture P = from-picture (h .pictured .drawn) P
 
-  passed : (q : Request) → Decides q cap d (lists t v) 0 → refusal (looseChecks s q) ≡ 0
+  passed : (q : Request) → Decides q cap d (lists t v c) 0 → refusal (looseChecks s q) ≡ 0
   passed q x = loosely s q (sym (x s (h .pictured .drawn)))
 
-  module _ {t′ : List ℤ} {v′ : List Float} where
-    after : (q : Request) → Applied q cap d (lists t v) (lists t′ v′) 0 → t′ ≡ table (effect s q)
+  module _ {t′ : List ℤ} {v′ : List Float} {c′ : List ℕ} where
+    after : (q : Request) → Applied q cap d (lists t v c) (lists t′ v′ c′) 0 → t′ ≡ table (effect s q)
     unfolding marked table
     after q a = drawn-words (a .done s (h .pictured .drawn) refl)
 
     module _ (n : ℕ) where
       -- ---- a cell that changes
 
-      pub sentence-free : Applied (sentence n) cap d (lists t v) (lists t′ v′) 0 → freeAt t′ ≡ freeAt t
+      pub sentence-free : Applied (sentence n) cap d (lists t v c) (lists t′ v′ c′) 0 → freeAt t′ ≡ freeAt t
       unfolding effect
       sentence-free a = ap freeAt (after (sentence n) a) ∙ free-kept s numbered (placeAt (s .entries) n ∷ []) (newCell s n sentencedCell) ∙ ap freeAt (sym (drawn-words (h .pictured .drawn)))
 
-      pub set-free : (x : Float) → Applied (setValue n x) cap d (lists t v) (lists t′ v′) 0 → freeAt t′ ≡ freeAt t
+      pub set-free : (x : Float) → Applied (setValue n x) cap d (lists t v c) (lists t′ v′ c′) 0 → freeAt t′ ≡ freeAt t
       unfolding effect
       set-free x a = ap freeAt (after (setValue n x) a) ∙ free-kept s numbered (placeAt (s .entries) n ∷ []) (newCell s n (measuredCell x)) ∙ ap freeAt (sym (drawn-words (h .pictured .drawn)))
 
       -- ---- patches that come and go
 
-      pub refine-left : Applied (refine n) cap d (lists t v) (lists t′ v′) 0 → freeAt t′ ≡ freeAt (suppliedNear t cap d n)
+      pub refine-left : Applied (refine n) cap d (lists t v c) (lists t′ v′ c′) 0 → freeAt t′ ≡ freeAt (suppliedNear t cap d n)
       refine-left a = ap freeAt (after (refine n) a) ∙ sym (on-picture (λ t cap d. freeAt (suppliedNear t cap d n) ≡ freeAt (table (effect s (refine n)))) (refine-free s (h .pictured .drawn .valid) n (passed (refine n) (a .decided))))
 
-      pub remove-left : Applied (remove n) cap d (lists t v) (lists t′ v′) 0 → freeAt t′ ≡ freeAt (droppedNear t cap n)
+      pub remove-left : Applied (remove n) cap d (lists t v c) (lists t′ v′ c′) 0 → freeAt t′ ≡ freeAt (droppedNear t cap n)
       remove-left a = ap freeAt (after (remove n) a) ∙ sym (on-picture (λ t cap d. freeAt (droppedNear t cap n) ≡ freeAt (table (effect s (remove n)))) (Removal.dropped-free s (h .pictured .drawn .valid) n (passed (remove n) (a .decided))))
 
-      pub kill-left : Applied (kill n) cap d (lists t v) (lists t′ v′) 0 → freeAt t′ ≡ freeAt (droppedCorners t cap d n)
+      pub kill-left : Applied (kill n) cap d (lists t v c) (lists t′ v′ c′) 0 → freeAt t′ ≡ freeAt (droppedCorners t cap d n)
       kill-left a = ap freeAt (after (kill n) a) ∙ sym (on-picture (λ t cap d. freeAt (droppedCorners t cap d n) ≡ freeAt (table (effect s (kill n)))) (Killing.dropped-free s (h .pictured .drawn .valid) n (passed (kill n) (a .decided))))
 
   module _ (n : ℕ) where
-    pub remove-first : Decides (remove n) cap d (lists t v) 0 → freeAt (emptied t cap n) ≡ freeAt t
+    pub remove-first : Decides (remove n) cap d (lists t v c) 0 → freeAt (emptied t cap n) ≡ freeAt t
     remove-first x = on-picture (λ t cap d. freeAt (emptied t cap n) ≡ freeAt t) (Removal.emptied-free s (h .pictured .drawn .valid) n (passed (remove n) x))
 
-    pub kill-first : Decides (kill n) cap d (lists t v) 0 → freeAt (cleared t n) ≡ freeAt t
+    pub kill-first : Decides (kill n) cap d (lists t v c) 0 → freeAt (cleared t n) ≡ freeAt t
     kill-first x = on-picture (λ t cap d. freeAt (cleared t n) ≡ freeAt t) (Killing.cleared-free s (h .pictured .drawn .valid) n (passed (kill n) x))
 
 -- ---- the map

@@ -2,6 +2,7 @@
 pub mod Drawing
 pub mod Tamed
 pub mod Deciding
+pub mod Tallying
 pub mod Applying
 pub mod Following
 pub mod Asking

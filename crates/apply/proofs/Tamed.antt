@@ -21,7 +21,7 @@ use Rattle.apply.proofs.Drawing.{drawn-words, drawn-values, from-pictur
 picture-tame : (s : State) → Valid s → Tame (table s) (capacity s) (base (gridOf s))
 picture-tame s v = record { indices = picture-small v; flags = flags-small s; plain = plain-picture s v }
 
-module _ {s : State} {cap d : ℕ} {t : List ℤ} {v : List Float} (p : Drawn s cap d (lists t v)) where
+module _ {s : State} {cap d : ℕ} {t : List ℤ} {v : List Float} {c : List ℕ} (p : Drawn s cap d (lists t v c)) where
   pub drawn-tame : Tame t cap d
   drawn-tame = from-picture p Tame (picture-tame s (p .valid))
 

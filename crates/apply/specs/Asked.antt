@@ -6,7 +6,7 @@ use mathlib.Core.Option.{some}
 use mathlib.Core.List.{List}
 use lib.ListN.{length, drop, getD}
 use Rattle.mesh.specs.State.{Header}
-use Rattle.mesh.specs.Picture.{Lent}
+use Rattle.mesh.specs.LeafCounts.{Counted}
 use Rattle.mesh.specs.Tape.{Kind, kind, asks}
 use Rattle.apply.specs.Applied.{Applied}
 
@@ -16,5 +16,5 @@ pub record Whole (bytes : List ℕ) (at : ℕ) : Type 0 where
   pub ends : (x : Kind) → kind (getD bytes at 0) ≡ some x → at + x .len < length bytes
 
 -- what its kind asks for is done
-pub record AppliedAt (bytes : List ℕ) (at cap d : ℕ) (l l′ : Header → Lent) (given : ℕ) : Type 0 where
+pub record AppliedAt (bytes : List ℕ) (at cap d : ℕ) (l l′ : Header → Counted) (given : ℕ) : Type 0 where
   pub by-kind : (x : Kind) → kind (getD bytes at 0) ≡ some x → Applied (asks x (drop (at + 1) bytes)) cap d l l′ given

@@ -9,21 +9,22 @@ use lib.ListN.{length}
 use Rattle.mesh.specs.Place.{base}
 use Rattle.mesh.specs.State.{State, Header, gridOf, capacity}
 use Rattle.mesh.specs.Valid.{Valid}
-use Rattle.mesh.specs.Picture.{rowWords, flagsWord, Lent, picture}
+use Rattle.mesh.specs.Picture.{rowWords, flagsWord}
+use Rattle.mesh.specs.LeafCounts.{Counted, counted}
 use Rattle.table.specs.Words.{wordOf}
 use Rattle.patch.specs.Small.{AllSmall}
 use Rattle.table.specs.Plain.{Plain}
 
 -- lists, whatever header they are lent with
-abbrev pub lists : List ℤ → List Float → Header → Lent
-lists t v h = record { header = h; words = t; values = v }
+abbrev pub lists : List ℤ → List Float → List ℕ → Header → Counted
+lists t v c h = record { lent = record { header = h; words = t; values = v }; counts = c }
 
--- with the header of the state they are its picture; its level 0 is at depth d
-pub record Drawn (s : State) (cap d : ℕ) (l : Header → Lent) : Type 0 where
+-- with the header of the state they are its picture and its counts; its level 0 is at depth d
+pub record Drawn (s : State) (cap d : ℕ) (l : Header → Counted) : Type 0 where
   pub valid : Valid s
   pub is-capacity : capacity s ≡ cap
   pub is-depth : base (gridOf s) ≡ d
-  pub is-picture : l (s .header) ≡ picture s
+  pub is-counted : l (s .header) ≡ counted s
 
 -- ---- what the code asks for
 
@@ -42,12 +43,12 @@ pub record Tame (t : List ℤ) (cap d : ℕ) : Type 0 where
   pub plain : Plain t cap
 
 -- some state is pictured
-pub record Pictured (cap d : ℕ) (l : Header → Lent) : Type 0 where
+pub record Pictured (cap d : ℕ) (l : Header → Counted) : Type 0 where
   pub state : State
   pub drawn : Drawn state cap d l
 
 -- and then the lists are such as the code asks for
-pub record Standing (cap d : ℕ) (t : List ℤ) (v : List Float) : Type 0 where
+pub record Standing (cap d : ℕ) (t : List ℤ) (v : List Float) (c : List ℕ) : Type 0 where
   pub ranged : Ranged t v cap d
   pub tame : Tame t cap d
-  pub pictured : Pictured cap d (lists t v)
+  pub pictured : Pictured cap d (lists t v c)

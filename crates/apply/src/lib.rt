@@ -1,4 +1,5 @@
-// One request on a table: it is decided first, and a refused one writes nothing. The map of free numbers goes along.
+// One request on a table: it is decided first, and a refused one writes nothing. The map of free numbers and the leaf counts go along: the counts
+// move by the rows as they are before the request writes.
 ghost use mathlib.Core.Path.{_≡_};
 ghost use Rattle.mesh.specs.Request.{refine, sentence, remove, kill, setValue};
 ghost use Rattle.table.specs.Words.{freeAt};
@@ -16,6 +17,10 @@ use refusals::requests::refine_refusal;
 use refusals::requests::remove_refusal;
 use refusals::requests::sentence_refusal;
 use refusals::requests::set_refusal;
+use tally::moves::killed;
+use tally::moves::refined;
+use tally::moves::removed;
+use tally::moves::valued;
 
 // The refusal, 0 for none, and what is kept beside the map.
 pub struct Decided {
@@ -26,26 +31,28 @@ pub struct Decided {
 pub fn refine(
     t: &mut [i32],
     v: &mut [f64],
+    c: &mut [u32],
     cap: usize,
     map: &mut [u64; 64],
     s: Spare,
     d: u32,
     n: usize,
 ) -> Decided
-    requires { ⌜ Standing cap d (now t) (now v) × Mapped (freeAt (now t)) (now map) (s .top) (s .count) ⌝ }
-    ensures { λ r. ⌜ Applied (refine n) cap d (lists (now (t .entry)) (now (v .entry))) (lists (now (t .exit)) (now (v .exit))) (r .refusal) × Mapped (freeAt (now (t .exit))) (now (map .exit)) (r .spare .top) (r .spare .count) ⌝ }
+    requires { ⌜ Standing cap d (now t) (now v) (now c) × Mapped (freeAt (now t)) (now map) (s .top) (s .count) ⌝ }
+    ensures { λ r. ⌜ Applied (refine n) cap d (lists (now (t .entry)) (now (v .entry)) (now (c .entry))) (lists (now (t .exit)) (now (v .exit)) (now (c .exit))) (r .refusal) × Mapped (freeAt (now (t .exit))) (now (map .exit)) (r .spare .top) (r .spare .count) ⌝ }
 {
     let refusal = refine_refusal(t, cap, n, s.count);
     if refusal != 0 {
         return Decided { refusal, spare: s };
     }
+    refined(t, v, c, cap, n);
     let spare = refine::refine(t, v, cap, map, s, d, n);
     Decided { refusal: 0, spare }
 }
 
-pub fn sentence(t: &mut [i32], v: &[f64], cap: usize, d: u32, n: usize) -> u32
-    requires { ⌜ Standing cap d (now t) (now v) ⌝ }
-    ensures { λ r. ⌜ Applied (sentence n) cap d (lists (now (t .entry)) (now (v .entry))) (lists (now (t .exit)) (now (v .entry))) r × (freeAt (now (t .exit)) ≡ freeAt (now (t .entry))) ⌝ }
+pub fn sentence(t: &mut [i32], v: &[f64], c: &[u32], cap: usize, d: u32, n: usize) -> u32
+    requires { ⌜ Standing cap d (now t) (now v) (now c) ⌝ }
+    ensures { λ r. ⌜ Applied (sentence n) cap d (lists (now (t .entry)) (now (v .entry)) (now (c .entry))) (lists (now (t .exit)) (now (v .entry)) (now (c .entry))) r × (freeAt (now (t .exit)) ≡ freeAt (now (t .entry))) ⌝ }
 {
     let refusal = sentence_refusal(t, cap, n);
     if refusal != 0 {
@@ -58,19 +65,21 @@ pub fn sentence(t: &mut [i32], v: &[f64], cap: usize, d: u32, n: usize) -> u32
 pub fn remove(
     t: &mut [i32],
     v: &mut [f64],
+    c: &mut [u32],
     cap: usize,
     map: &mut [u64; 64],
     s: Spare,
     d: u32,
     n: usize,
 ) -> Decided
-    requires { ⌜ Standing cap d (now t) (now v) × Mapped (freeAt (now t)) (now map) (s .top) (s .count) ⌝ }
-    ensures { λ r. ⌜ Applied (remove n) cap d (lists (now (t .entry)) (now (v .entry))) (lists (now (t .exit)) (now (v .exit))) (r .refusal) × Mapped (freeAt (now (t .exit))) (now (map .exit)) (r .spare .top) (r .spare .count) ⌝ }
+    requires { ⌜ Standing cap d (now t) (now v) (now c) × Mapped (freeAt (now t)) (now map) (s .top) (s .count) ⌝ }
+    ensures { λ r. ⌜ Applied (remove n) cap d (lists (now (t .entry)) (now (v .entry)) (now (c .entry))) (lists (now (t .exit)) (now (v .exit)) (now (c .exit))) (r .refusal) × Mapped (freeAt (now (t .exit))) (now (map .exit)) (r .spare .top) (r .spare .count) ⌝ }
 {
     let refusal = remove_refusal(t, cap, n);
     if refusal != 0 {
         return Decided { refusal, spare: s };
     }
+    removed(t, v, c, cap, n);
     let spare = remove::remove(t, v, cap, map, s, d, n);
     Decided { refusal: 0, spare }
 }
@@ -78,31 +87,42 @@ pub fn remove(
 pub fn kill(
     t: &mut [i32],
     v: &mut [f64],
+    c: &mut [u32],
     cap: usize,
     map: &mut [u64; 64],
     s: Spare,
     d: u32,
     n: usize,
 ) -> Decided
-    requires { ⌜ Standing cap d (now t) (now v) × Mapped (freeAt (now t)) (now map) (s .top) (s .count) ⌝ }
-    ensures { λ r. ⌜ Applied (kill n) cap d (lists (now (t .entry)) (now (v .entry))) (lists (now (t .exit)) (now (v .exit))) (r .refusal) × Mapped (freeAt (now (t .exit))) (now (map .exit)) (r .spare .top) (r .spare .count) ⌝ }
+    requires { ⌜ Standing cap d (now t) (now v) (now c) × Mapped (freeAt (now t)) (now map) (s .top) (s .count) ⌝ }
+    ensures { λ r. ⌜ Applied (kill n) cap d (lists (now (t .entry)) (now (v .entry)) (now (c .entry))) (lists (now (t .exit)) (now (v .exit)) (now (c .exit))) (r .refusal) × Mapped (freeAt (now (t .exit))) (now (map .exit)) (r .spare .top) (r .spare .count) ⌝ }
 {
     let refusal = kill_refusal(t, cap, d, n);
     if refusal != 0 {
         return Decided { refusal, spare: s };
     }
+    killed(t, v, c, cap, n);
     let spare = kill::kill(t, v, cap, map, s, d, n);
     Decided { refusal: 0, spare }
 }
 
-pub fn set_value(t: &mut [i32], v: &mut [f64], cap: usize, d: u32, n: usize, x: f64) -> u32
-    requires { ⌜ Standing cap d (now t) (now v) ⌝ }
-    ensures { λ r. ⌜ Applied (setValue n x) cap d (lists (now (t .entry)) (now (v .entry))) (lists (now (t .exit)) (now (v .exit))) r × (freeAt (now (t .exit)) ≡ freeAt (now (t .entry))) ⌝ }
+pub fn set_value(
+    t: &mut [i32],
+    v: &mut [f64],
+    c: &mut [u32],
+    cap: usize,
+    d: u32,
+    n: usize,
+    x: f64,
+) -> u32
+    requires { ⌜ Standing cap d (now t) (now v) (now c) ⌝ }
+    ensures { λ r. ⌜ Applied (setValue n x) cap d (lists (now (t .entry)) (now (v .entry)) (now (c .entry))) (lists (now (t .exit)) (now (v .exit)) (now (c .exit))) r × (freeAt (now (t .exit)) ≡ freeAt (now (t .entry))) ⌝ }
 {
     let refusal = set_refusal(t, cap, n, x);
     if refusal != 0 {
         return refusal;
     }
+    valued(t, v, c, cap, n, x);
     set_at(t, v, n, x);
     0
 }
@@ -111,6 +131,7 @@ pub fn set_value(t: &mut [i32], v: &mut [f64], cap: usize, d: u32, n: usize, x: 
 pub fn request(
     t: &mut [i32],
     v: &mut [f64],
+    c: &mut [u32],
     cap: usize,
     map: &mut [u64; 64],
     s: Spare,
@@ -118,20 +139,20 @@ pub fn request(
     tape: &[u8],
     at: usize,
 ) -> Decided
-    requires { ⌜ Standing cap d (now t) (now v) × Mapped (freeAt (now t)) (now map) (s .top) (s .count) × Whole (now tape) at ⌝ }
-    ensures { λ r. ⌜ AppliedAt (now (tape .entry)) at cap d (lists (now (t .entry)) (now (v .entry))) (lists (now (t .exit)) (now (v .exit))) (r .refusal) × Mapped (freeAt (now (t .exit))) (now (map .exit)) (r .spare .top) (r .spare .count) ⌝ }
+    requires { ⌜ Standing cap d (now t) (now v) (now c) × Mapped (freeAt (now t)) (now map) (s .top) (s .count) × Whole (now tape) at ⌝ }
+    ensures { λ r. ⌜ AppliedAt (now (tape .entry)) at cap d (lists (now (t .entry)) (now (v .entry)) (now (c .entry))) (lists (now (t .exit)) (now (v .exit)) (now (c .exit))) (r .refusal) × Mapped (freeAt (now (t .exit))) (now (map .exit)) (r .spare .top) (r .spare .count) ⌝ }
 {
     let k = tape[at];
     match k {
-        1 => refine(t, v, cap, map, s, d, number_at(tape, at)),
+        1 => refine(t, v, c, cap, map, s, d, number_at(tape, at)),
         2 => {
-            let refusal = sentence(t, v, cap, d, number_at(tape, at));
+            let refusal = sentence(t, v, c, cap, d, number_at(tape, at));
             Decided { refusal, spare: s }
         }
-        3 => remove(t, v, cap, map, s, d, number_at(tape, at)),
-        4 => kill(t, v, cap, map, s, d, number_at(tape, at)),
+        3 => remove(t, v, c, cap, map, s, d, number_at(tape, at)),
+        4 => kill(t, v, c, cap, map, s, d, number_at(tape, at)),
         5 => {
-            let refusal = set_value(t, v, cap, d, number_at(tape, at), value_at(tape, at));
+            let refusal = set_value(t, v, c, cap, d, number_at(tape, at), value_at(tape, at));
             Decided { refusal, spare: s }
         }
         _ => Decided {

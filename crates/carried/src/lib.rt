@@ -5,7 +5,7 @@ ghost use mathlib.Core.Path.{_≡_};
 ghost use Prim.Native.Nat.{_+_, _*_, _<_, _≤_};
 ghost use lib.ListN.{length};
 ghost use Rattle.mesh.specs.Picture.{rowWords};
-ghost use Rattle.carried.specs.Carried.{carriedOf, nothing, measuredAs, passedDown, putStatus, putAmount, isBlank, isMeasured, isCarriedDown, isZero, isNothing, sameValue};
+ghost use Rattle.carried.specs.Carried.{carriedOf, nothing, measuredAs, passedDown, putStatus, putAmount, statusOf, isBlank, isMeasured, isCarriedDown, isZero, isNothing, sameValue};
 use crate::values::is_plus_zero;
 use crate::values::put_value;
 use crate::values::same_bits;
@@ -57,6 +57,14 @@ pub fn measured(x: f64) -> Carried
         status: 1,
         value: x,
     }
+}
+
+// The status as a number, where it is one of the three.
+pub fn status(c: Carried) -> u32
+    requires { ⌜ statusOf c ≤ 2 ⌝ }
+    ensures { λ r. ⌜ r ≡ statusOf c ⌝ }
+{
+    c.status as u32
 }
 
 pub fn is_blank(c: Carried) -> bool

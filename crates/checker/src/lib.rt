@@ -3,17 +3,21 @@ pub mod checks;
 pub mod first_checks;
 
 ghost use mathlib.Core.Path.{_≡_};
+ghost use mathlib.Core.Bool.{true};
 ghost use Prim.Native.Nat.{_≤_, _<_};
-ghost use lib.ListN.{length};
+ghost use lib.ListN.{length, replicate};
+ghost use Rattle.mesh.specs.LeafCounts.{countPlaces};
 ghost use Rattle.header.specs.Headers.{headerOf};
 ghost use Rattle.checker_laws.specs.Rowwise.{usedOk, rowOk, rowwise};
 ghost use Rattle.readable.specs.Grounded.{Grounded};
+ghost use Rattle.tally.specs.TallyRows.{rowCounts};
 use cells::amounts::value_ok;
 use cells::empty::empty_ok;
 use cells::empty::zero_ok;
 use cells::kind_ok;
 use header::Header;
 use table::words::is_free;
+use tally::full::count_row;
 use tree::family::kids_ok;
 use tree::family::place_ok;
 use tree::sides::sides_ok;
@@ -49,10 +53,10 @@ fn row_ok(t: &[i32], v: &[f64], cap: usize, header: Header, d: u32, n: usize) ->
     }
 }
 
-// The nil patch, the root in use, and every row.
-pub fn rowwise(t: &[i32], v: &[f64], cap: usize, header: Header, d: u32) -> bool
-    requires { ⌜ Grounded (now t) cap (headerOf header .grid) d × (cap < length (now v)) ⌝ }
-    ensures { λ r. ⌜ r ≡ rowwise (headerOf header .grid) (now (t .entry)) cap (now (v .entry)) ⌝ }
+// The nil patch, the root in use, and every row. The leaves are counted on the way: each row is read once for both.
+pub fn rowwise(t: &[i32], v: &[f64], c: &mut [u32], cap: usize, header: Header, d: u32) -> bool
+    requires { ⌜ Grounded (now t) cap (headerOf header .grid) d × (cap < length (now v)) × (now c ≡ replicate countPlaces 0) ⌝ }
+    ensures { λ r. ⌜ (r ≡ rowwise (headerOf header .grid) (now (t .entry)) cap (now (v .entry))) × (r ≡ true → now (c .exit) ≡ rowCounts (now (t .entry)) (now (v .entry)) cap cap) ⌝ }
 {
     if !zero_ok(t, v) {
         return false;
@@ -65,6 +69,7 @@ pub fn rowwise(t: &[i32], v: &[f64], cap: usize, header: Header, d: u32) -> bool
         if !row_ok(t, v, cap, header, d, k + 1) {
             return false;
         }
+        count_row(t, v, c, cap, k + 1);
         k += 1;
     }
     true

@@ -20,9 +20,10 @@ use Rattle.mesh.specs.Tape.{Kind, kind, asks, Step, stop, next, answered, stepB
 use Rattle.mesh.specs.Scan.{scanChecks}
 use Rattle.mesh.specs.Lookup.{lookupChecks}
 use Rattle.mesh.specs.Page.{pageChecks}
-use Rattle.mesh.specs.Picture.{Lent, picture}
+use Rattle.mesh.specs.Picture.{Lent}
+use Rattle.mesh.specs.LeafCounts.{Counted, counted}
 use Rattle.mesh.specs.Decode.{decode}
-use Rattle.mesh.specs.Call.{lentChecks, lentRefusal, unless, checkCall, Built, buildChecks, buildCall, Taped, tapeCall, Wrote, scanCall, Found, lookupCall, pageCall}
+use Rattle.mesh.specs.Call.{lentChecks, unless, checkCall, Built, buildChecks, buildCall, Taped, tapeCall, Wrote, scanCall, Found, lookupCall, pageCall, countedChecks, Count, countChecks, countCall}
 use Rattle.mesh.proofs.Runs.{run-stop, run-next}
 use Rattle.demand_laws.proofs.Exactly.{refused-is}
 use Rattle.demand_laws.proofs.Refusals.{unless-names}
@@ -102,15 +103,30 @@ from-among (k ∷ bs) zero s n o = go (stepBy s (kind k) bs) refl (from-among bs
 
 -- ---- the calls
 
-module _ (cap : ℕ) (l : Lent) where
+module _ (cap : ℕ) (l : Counted) where
   pub check-answers : T (among (0 ∷ 1 ∷ 2 ∷ 3 ∷ []) (checkCall cap l))
-  unfolding checkCall lentRefusal lentChecks
-  check-answers = refusal-among (lentChecks cap l)
+  unfolding checkCall countedChecks
+  check-answers = among-more (0 ∷ 1 ∷ 1 ∷ 2 ∷ 3 ∷ 3 ∷ []) (0 ∷ 1 ∷ 2 ∷ 3 ∷ []) tt (refusal (countedChecks cap l)) (refusal-among (countedChecks cap l))
 
   pub build-answers : (g : Grid) → T (among (0 ∷ 1 ∷ 2 ∷ 11 ∷ []) (buildCall cap l g .refusal))
   unfolding buildCall buildChecks
-  build-answers g = subst (λ (n : ℕ). T (among (0 ∷ 1 ∷ 2 ∷ 11 ∷ []) n)) (sym (unless-names _ _ (λ (r : Built). r .refusal) (λ n. refl) refl (refusal (buildChecks cap l g)))) (refusal-among (buildChecks cap l g))
+  build-answers g = subst (λ (n : ℕ). T (among (0 ∷ 1 ∷ 2 ∷ 11 ∷ []) n)) (sym (unless-names _ _ (λ (r : Built). r .refusal) (λ n. refl) refl (refusal (buildChecks cap l g)))) (among-more (0 ∷ 1 ∷ 1 ∷ 2 ∷ 11 ∷ []) (0 ∷ 1 ∷ 2 ∷ 11 ∷ []) tt (refusal (buildChecks cap l g)) (refusal-among (buildChecks cap l g)))
 
+  pub tape-answers : (bytes : List ℕ) → T (among ofTapes (tapeCall cap l bytes .refusal))
+  unfolding tapeCall run unless
+  tape-answers bytes = go (checkCall cap l) (among-more (0 ∷ 1 ∷ 2 ∷ 3 ∷ []) ofTapes tt (checkCall cap l) check-answers)
+    where
+      ran : Taped
+      ran = let r = run (decode (l .lent)) bytes in record { done = r .done; refusal = r .refusal; offset = r .offset; lent = counted (r .state) }
+
+      refused-as : ℕ → Taped
+      refused-as n = record { done = 0; refusal = n; offset = 0; lent = l }
+
+      go : (n : ℕ) → T (among ofTapes n) → T (among ofTapes (unless n refused-as ran .refusal))
+      go zero t = from-among bytes 0 (decode (l .lent)) 0 0
+      go (suc n) t = t
+
+module _ (cap : ℕ) (l : Lent) where
   pub scan-answers : (n : ℕ) (o : List ℕ) (k : ℕ) (from to : ℤ) (out : List ℕ) → T (among (0 ∷ 1 ∷ 2 ∷ 3 ∷ 6 ∷ 17 ∷ 18 ∷ []) (scanCall cap l n o k from to out .refusal))
   unfolding scanCall lentChecks scanChecks
   scan-answers n o k from to out =
@@ -129,16 +145,8 @@ module _ (cap : ℕ) (l : Lent) where
       let cs = lentChecks cap l ++ pageChecks (decode l) (length out) in
       subst (λ (n : ℕ). T (among (0 ∷ 1 ∷ 2 ∷ 3 ∷ 18 ∷ []) n)) (sym (unless-names _ _ (λ (r : Wrote). r .refusal) (λ n. refl) refl (refusal cs))) (refusal-among cs)
 
-  pub tape-answers : (bytes : List ℕ) → T (among ofTapes (tapeCall cap l bytes .refusal))
-  unfolding tapeCall run unless
-  tape-answers bytes = go (checkCall cap l) (among-more (0 ∷ 1 ∷ 2 ∷ 3 ∷ []) ofTapes tt (checkCall cap l) check-answers)
-    where
-      ran : Taped
-      ran = let r = run (decode l) bytes in record { done = r .done; refusal = r .refusal; offset = r .offset; lent = picture (r .state) }
-
-      refused-as : ℕ → Taped
-      refused-as n = record { done = 0; refusal = n; offset = 0; lent = l }
-
-      go : (n : ℕ) → T (among ofTapes n) → T (among ofTapes (unless n refused-as ran .refusal))
-      go zero t = from-among bytes 0 (decode l) 0 0
-      go (suc n) t = t
+pub count-answers : (c : List ℕ) (l k : ℕ) → T (among (0 ∷ 1 ∷ 23 ∷ []) (countCall c l k .refusal))
+unfolding countCall countChecks
+count-answers c l k =
+    let cs = countChecks c l k in
+    subst (λ (n : ℕ). T (among (0 ∷ 1 ∷ 23 ∷ []) n)) (sym (unless-names _ _ (λ (r : Count). r .refusal) (λ n. refl) refl (refusal cs))) (refusal-among cs)

@@ -6,12 +6,12 @@ use mathlib.Core.Logic.{Iff·trans}
 use mathlib.Core.Option.{some}
 use mathlib.Core.List.{List}
 use Rattle.mesh.specs.Place.{Place, Grid}
-use Rattle.mesh.specs.State.{State, placeOf, entry, cells, inUse, gridOf, capacity}
+use Rattle.mesh.specs.State.{State, placeOf, entry, cells, inUse, gridOf, capacity, contents}
 use Rattle.mesh.specs.Valid.{Valid}
 use Rattle.mesh.specs.Refusal.{refusal}
 use Rattle.mesh.specs.Request.{Request, accepted, request}
 use Rattle.mesh.specs.Build.{full, built}
-use Rattle.mesh.specs.Picture.{Lent, picture}
+use Rattle.mesh.specs.LeafCounts.{leafCount, Counted, counted}
 use Rattle.mesh.specs.Call.{Built, buildChecks, buildCall}
 use Rattle.place_laws.proofs.Laps.{Below}
 use Rattle.place_laws.proofs.Base.{patch-below}
@@ -20,11 +20,14 @@ use Rattle.number_laws.proofs.Building.{built-contents, built-cells}
 use Rattle.picture_laws.proofs.Links.{link-place, links-return, parent-kid-return}
 use Rattle.level_laws.proofs.States.{Even, built-even, accepted-even, even-no-jump}
 use Rattle.walk_laws.specs.Points.{total}
+use Rattle.tally_laws.specs.LeavesOn.{leavesOn}
+use Rattle.tally_laws.proofs.FullCounts.{counts-full, none-else}
+use Rattle.tally_laws.proofs.Listed.{counts-at}
 use Rattle.walk_laws.proofs.Scans.{scan-all}
 use Rattle.walk_laws.proofs.Counts.{in-use-counts}
 use Rattle.mesh.specs.Deed.{Deed}
 use Rattle.demand_laws.specs.Deeds.{setRules, after, deeds}
-use Rattle.demand_laws.specs.Demand.{Demand3}
+use Rattle.demand_laws.specs.Demand.{Demand3, fullContents}
 use Rattle.demand_laws.specs.History.{History}
 use Rattle.demand_laws.proofs.Numbers.{built-numbers}
 use Rattle.demand_laws.proofs.Adjacent.{around-adjacent}
@@ -43,7 +46,7 @@ demanded g cap b ds s l even = record {
   same-grid = l .same-grid;
   mark = l .mark;
   valid = l .valid;
-  by-set-rules = l .by-rules ∙ ap (setRules ds) (fun-ext (built-contents g cap (b .rectangle)));
+  by-set-rules = by-rules;
   first-numbers = built-numbers g (capacity s);
   numbers = subst (λ (c : ℕ). History (built g c) ds s) (sym (build-valid cap g b .1) ∙ ap (λ (n : ℕ). n - 1) (sym (l .same-length))) (l .history);
   linked = λ n m w p q h a b. Iff·trans (link-place s (l .valid) n m w p q h a b) (around-adjacent (gridOf s) w p q (below n p a) (below m q b));
@@ -55,8 +58,16 @@ demanded g cap b ds s l even = record {
   walked = λ o t from to a h k. scan-all s (l .valid) o t from to a h k;
   counted = in-use-counts (l .valid);
   no-jump = even-no-jump s (l .valid) even;
+  leaf-counts = λ k st a b. counts-at s k st a b ∙ full k st;
+  no-other-leaf = λ k st h. sym (full k st) ∙ none-else s (l .valid) k st h;
 }
   where
+    by-rules : contents (s .entries) ≡ setRules ds (fullContents g)
+    by-rules = l .by-rules ∙ ap (setRules ds) (fun-ext (built-contents g cap (b .rectangle)))
+
+    full : (k st : ℕ) → leafCount s k st ≡ leavesOn g (setRules ds (fullContents g)) k st
+    full k st = counts-full s (l .valid) k st ∙ (λ i. leavesOn (l .same-grid i) (by-rules i) k st)
+
     below : (n : ℕ) (p : Place) → placeOf (entry (s .entries) n) ≡ some p → Below (gridOf s) p
     below n p h = patch-below (gridOf s) (cells (s .entries)) (l .valid .mesh) p (l .valid .each n p h)
 
@@ -73,24 +84,24 @@ stays-even s t r h (v, even) =
 
 -- ---- an accepted build
 
-build-accepted : (cap : ℕ) (l : Lent) (g : Grid) → buildCall cap l g .refusal ≡ 0
-    → Buildable cap g × (buildCall cap l g ≡ record { refusal = 0; in-use = inUse (built g cap .entries); lent = picture (built g cap) })
+build-accepted : (cap : ℕ) (l : Counted) (g : Grid) → buildCall cap l g .refusal ≡ 0
+    → Buildable cap g × (buildCall cap l g ≡ record { refusal = 0; in-use = inUse (built g cap .entries); lent = counted (built g cap) })
 unfolding buildCall
 build-accepted cap l g ok =
     let n : ℕ = refusal (buildChecks cap l g) in
-    let e : n ≡ 0 = unless-why (λ n. record { refusal = n; in-use = 0; lent = l }) (record { refusal = 0; in-use = inUse (built g cap .entries); lent = picture (built g cap) }) (λ (r : Built). r .refusal) (λ k. refl) n ok in
+    let e : n ≡ 0 = unless-why (λ n. record { refusal = n; in-use = 0; lent = l }) (record { refusal = 0; in-use = inUse (built g cap .entries); lent = counted (built g cap) }) (λ (r : Built). r .refusal) (λ k. refl) n ok in
     (build-checked cap l g e, unless-accepted _ _ n e)
 
 -- "accepted, a build returns the number in use": the ghosts and the distinct corner points of the full rectangle
-pub build-counts : (cap : ℕ) (l : Lent) (g : Grid) → buildCall cap l g .refusal ≡ 0 → buildCall cap l g .in-use ≡ total g (full g)
+pub build-counts : (cap : ℕ) (l : Counted) (g : Grid) → buildCall cap l g .refusal ≡ 0 → buildCall cap l g .in-use ≡ total g (full g)
 unfolding built
 build-counts cap l g ok =
     let (b, is) = build-accepted cap l g ok in
     ap (λ (r : Built). r .in-use) is ∙ in-use-counts (build-valid cap g b .0) ∙ ap (total g) (fun-ext (built-cells g cap (b .rectangle)))
 
--- for every accepted build and every list of tapes: what is lent is the picture of the state that the rules give, and demand 3 holds of it
-pub demand-3 : (cap : ℕ) (l : Lent) (g : Grid) → buildCall cap l g .refusal ≡ 0 → (ts : List (List ℕ))
-    → (afterCalls cap (buildCall cap l g .lent) ts ≡ picture (after (built g cap) ts)) × Demand3 g (deeds (built g cap) ts) (after (built g cap) ts)
+-- for every accepted build and every list of tapes: what is lent is the picture of the state that the rules give, with its counts, and demand 3 holds of it
+pub demand-3 : (cap : ℕ) (l : Counted) (g : Grid) → buildCall cap l g .refusal ≡ 0 → (ts : List (List ℕ))
+    → (afterCalls cap (buildCall cap l g .lent) ts ≡ counted (after (built g cap) ts)) × Demand3 g (deeds (built g cap) ts) (after (built g cap) ts)
 demand-3 cap l g ok ts =
     let (b, is) = build-accepted cap l g ok in
     let (v, c) = build-valid cap g b in (

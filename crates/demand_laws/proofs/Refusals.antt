@@ -10,9 +10,10 @@ use Rattle.mesh.specs.Place.{Grid}
 use Rattle.mesh.specs.State.{blank}
 use Rattle.mesh.specs.Refusal.{refusal}
 use Rattle.mesh.specs.Tape.{run}
-use Rattle.mesh.specs.Picture.{Lent, picture}
+use Rattle.mesh.specs.Picture.{Lent}
+use Rattle.mesh.specs.LeafCounts.{Counted, counted}
 use Rattle.mesh.specs.Decode.{decode}
-use Rattle.mesh.specs.Call.{checkCall, unless, Built, buildCall, Taped, tapeCall, Wrote, scanCall, pageCall, Found, lookupCall}
+use Rattle.mesh.specs.Call.{checkCall, unless, Built, buildCall, Taped, tapeCall, Wrote, scanCall, pageCall, Found, lookupCall, Count, countCall}
 use Rattle.demand_laws.proofs.Prefixes.{run-refused}
 
 -- ---- what a call answers
@@ -47,23 +48,23 @@ module _ {A : Type 0} (f : ℕ → A) (x : A) where
 
 -- ---- the calls, refused: nothing is written, and every number but the refusal's is 0
 
-pub build-refused : (cap : ℕ) (l : Lent) (g : Grid) → buildCall cap l g .refusal ≢ 0 → buildCall cap l g ≡ record { refusal = buildCall cap l g .refusal; in-use = 0; lent = l }
+pub build-refused : (cap : ℕ) (l : Counted) (g : Grid) → buildCall cap l g .refusal ≢ 0 → buildCall cap l g ≡ record { refusal = buildCall cap l g .refusal; in-use = 0; lent = l }
 unfolding buildCall
 build-refused cap l g = unless-named _ _ (λ (r : Built). r .refusal) (λ n. refl) refl _
 
 -- "for 1 to 3 count and offset 0": what refuses a request, 4 or above, is the tape's own
-pub tape-refused : (cap : ℕ) (l : Lent) (bytes : List ℕ) → tapeCall cap l bytes .refusal ≢ 0 → tapeCall cap l bytes .refusal ≤ 3 → tapeCall cap l bytes ≡ record { done = 0; refusal = tapeCall cap l bytes .refusal; offset = 0; lent = l }
+pub tape-refused : (cap : ℕ) (l : Counted) (bytes : List ℕ) → tapeCall cap l bytes .refusal ≢ 0 → tapeCall cap l bytes .refusal ≤ 3 → tapeCall cap l bytes ≡ record { done = 0; refusal = tapeCall cap l bytes .refusal; offset = 0; lent = l }
 unfolding tapeCall unless
 tape-refused cap l bytes = go (checkCall cap l)
   where
     ran : Taped
-    ran = let r = run (decode l) bytes in record { done = r .done; refusal = r .refusal; offset = r .offset; lent = picture (r .state) }
+    ran = let r = run (decode (l .lent)) bytes in record { done = r .done; refusal = r .refusal; offset = r .offset; lent = counted (r .state) }
 
     refused : ℕ → Taped
     refused n = record { done = 0; refusal = n; offset = 0; lent = l }
 
     go : (n : ℕ) → unless n refused ran .refusal ≢ 0 → unless n refused ran .refusal ≤ 3 → unless n refused ran ≡ refused (unless n refused ran .refusal)
-    go zero h a = absurd (omega (arith, run-refused (decode l) bytes h))
+    go zero h a = absurd (omega (arith, run-refused (decode (l .lent)) bytes h))
     go (suc n) h a = refl
 
 pub scan-refused : (cap : ℕ) (l : Lent) (n : ℕ) (o : List ℕ) (k : ℕ) (from to : ℤ) (out : List ℕ) → scanCall cap l n o k from to out .refusal ≢ 0
@@ -79,3 +80,7 @@ page-refused cap l out = unless-named _ _ (λ (r : Wrote). r .refusal) (λ n. re
 pub lookup-refused-call : (cap : ℕ) (l : Lent) (u v : ℕ) → lookupCall cap l u v .refusal ≢ 0 → lookupCall cap l u v ≡ record { refusal = lookupCall cap l u v .refusal; leaf = 0; value = blank }
 unfolding lookupCall
 lookup-refused-call cap l u v = unless-named _ _ (λ (r : Found). r .refusal) (λ n. refl) refl _
+
+pub count-refused : (c : List ℕ) (l k : ℕ) → countCall c l k .refusal ≢ 0 → countCall c l k ≡ record { refusal = countCall c l k .refusal; count = 0 }
+unfolding countCall
+count-refused c l k = unless-named _ _ (λ (r : Count). r .refusal) (λ n. refl) refl _

@@ -1,17 +1,18 @@
 -- Demand 3 as a statement about a state of a grid and the deeds that led to it: over the mesh rules, and of the table only its words.
 -- Assumes nothing.
-use Prim.Native.Nat.{ℕ, zero, suc, _+_, _%_, _<_}
+use Prim.Native.Nat.{ℕ, zero, suc, _+_, _%_, _≤_, _<_}
 use mathlib.Core.Path.{_≡_}
-use mathlib.Core.Logic.{_≢_, _↔_}
+use mathlib.Core.Logic.{_≢_, _↔_, _⊎_}
 use mathlib.Core.Bool.{cond}
 use mathlib.Core.Option.{none, some}
 use mathlib.Core.List.{List}
 use lib.Dec.{T, eqb}
-use lib.ListN.{length}
+use lib.ListN.{length, getD}
 use lib.IntN.{ℤ, pos}
 use lib.Signed.{leZ}
 use Rattle.mesh.specs.Picture.{parentWord, linkWord}
 use Rattle.mesh.specs.Tools.{count}
+use Rattle.mesh.specs.LeafCounts.{countPlace, leafCounts}
 use Rattle.mesh.specs.Place.{Place, Grid, Wind, compass, kidWinds, sideWinds, root, level}
 use Rattle.mesh.specs.Winds.{wordOfWind, _of_}
 use Rattle.mesh.specs.Mesh.{leaf}
@@ -22,6 +23,7 @@ use Rattle.mesh.specs.Scan.{permutation, scan}
 use Rattle.mesh.specs.Holding.{holds, leafAt, groundOf}
 use Rattle.level_laws.specs.Beside.{NoJump}
 use Rattle.walk_laws.specs.Points.{total}
+use Rattle.tally_laws.specs.LeavesOn.{leavesOn}
 use Rattle.demand_laws.specs.Adjacent.{Adjacent}
 use Rattle.mesh.specs.Deed.{Deed, Contents}
 use Rattle.demand_laws.specs.Deeds.{setRules}
@@ -68,3 +70,6 @@ pub record Demand3 (g : Grid) (ds : List Deed) (s : State) : Type 0 where
   pub counted : inUse (s .entries) ≡ total (gridOf s) (cells (s .entries))
   -- 02, No. 1: "From a fresh build, leaves that share part of an edge then differ by one level at most"
   pub no-jump : NoJump (gridOf s) (cells (s .entries))
+  -- 02, No. 5: the list beside the table "equals a full count", of the cells that the set rules give; and no leaf is of another level or status
+  pub leaf-counts : (l k : ℕ) → l ≤ 12 → k ≤ 2 → getD (leafCounts s) (countPlace l k) 0 ≡ leavesOn g (setRules ds (fullContents g)) l k
+  pub no-other-leaf : (l k : ℕ) → (12 < l) ⊎ (2 < k) → leavesOn g (setRules ds (fullContents g)) l k ≡ 0

@@ -16,6 +16,7 @@ use Rattle.mesh.specs.Valid.{Valid}
 use Rattle.mesh.specs.Refusal.{Check, refusal}
 use Rattle.mesh.specs.Scan.{permutation, scan, scanChecks}
 use Rattle.mesh.specs.Picture.{Lent}
+use Rattle.mesh.specs.LeafCounts.{Counted}
 use Rattle.mesh.specs.Decode.{decode}
 use Rattle.mesh.specs.Call.{lentChecks, lentRefusal, unless, Built, buildCall, Wrote, scanCall}
 use Rattle.place_laws.proofs.Bools.{is-yes, neither}
@@ -41,7 +42,7 @@ firsts cs ds ok = go (refusal cs) refl
     go zero e = e
     go (suc n) e = let h : refusal cs ≢ 0 = λ z. omega (arith, e, z) in sym (kept cs ds h) ∙ ok
 
-module _ (cap : ℕ) (l : Lent) where
+module _ (cap : ℕ) (l : Counted) where
   build-count : (g : Grid) → buildCall cap l g .in-use ≤ 4095
   unfolding buildCall
   build-count g = bounded (λ (b : Built). b .in-use) 4095 _ _ _ (λ n. omega arith) (λ ok. let b = build-checked cap l g ok in omega (arith, b .room, b .sizes .1, built-in-use g cap))
@@ -49,6 +50,7 @@ module _ (cap : ℕ) (l : Lent) where
   pub build-fits : (g : Grid) (b : Built) → b ≡ buildCall cap l g → b .in-use < 2 ^ 32
   build-fits g b e = omega (arith, build-count g, ap (λ (x : Built). x .in-use) e)
 
+module _ (cap : ℕ) (l : Lent) where
   -- the state that is lent, where the first checks pass
   module _ (ok : lentRefusal cap l ≡ 0) where
     lent-valid : Valid (decode l)

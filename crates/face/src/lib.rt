@@ -1,7 +1,7 @@
 // The calls of `grid` for C and Rust: the header by pointer, a list as a pointer and a length, every answer but the refusal through a pointer. Each
 // exported entry is thin: it copies the header out and calls the core above it, and a build or a tape puts back the header that the core leaves.
-ghost use Rattle.header.specs.Headers.{lentOf};
-ghost use Rattle.face.specs.Outputs.{Builds, Tapes, Checks, Scans, Looks, Pages};
+ghost use Rattle.header.specs.Headers.{lentOf, countedOf};
+ghost use Rattle.face.specs.Outputs.{Builds, Tapes, Checks, Counts, Scans, Looks, Pages};
 use header::Header;
 use lookup::amount_of;
 use lookup::status_of;
@@ -17,15 +17,16 @@ fn build_core(
     header: Header,
     table: &mut [i32],
     values: &mut [f64],
+    counts: &mut [u32],
     capacity: u32,
     columns: u32,
     rows: u32,
     mode: u32,
     in_use: &mut u32,
 ) -> Left
-    ensures { λ r. ⌜ Builds (lentOf header (now (table .entry)) (now (values .entry))) capacity columns rows mode (lentOf (r .header) (now (table .exit)) (now (values .exit))) (now (in_use .exit)) (r .answer) ⌝ }
+    ensures { λ r. ⌜ Builds (countedOf header (now (table .entry)) (now (values .entry)) (now (counts .entry))) capacity columns rows mode (countedOf (r .header) (now (table .exit)) (now (values .exit)) (now (counts .exit))) (now (in_use .exit)) (r .answer) ⌝ }
 {
-    let out = grid::build_core(header, table, values, capacity, columns, rows, mode);
+    let out = grid::build_core(header, table, values, counts, capacity, columns, rows, mode);
     let left = out.header;
     let built = out.answer;
     *in_use = built.used as u32;
@@ -41,18 +42,20 @@ pub extern "C" fn grid_build(
     header: &mut Header,
     table: &mut [i32],
     values: &mut [f64],
+    counts: &mut [u32],
     capacity: u32,
     columns: u32,
     rows: u32,
     mode: u32,
     in_use: &mut u32,
 ) -> u32
-    ensures { λ r. ⌜ Builds (lentOf (now (header .entry)) (now (table .entry)) (now (values .entry))) capacity columns rows mode (lentOf (now (header .exit)) (now (table .exit)) (now (values .exit))) (now (in_use .exit)) r ⌝ }
+    ensures { λ r. ⌜ Builds (countedOf (now (header .entry)) (now (table .entry)) (now (values .entry)) (now (counts .entry))) capacity columns rows mode (countedOf (now (header .exit)) (now (table .exit)) (now (values .exit)) (now (counts .exit))) (now (in_use .exit)) r ⌝ }
 {
     let out = build_core(
         *header,
         table,
         values,
+        counts,
         capacity,
         columns,
         rows,
@@ -67,14 +70,15 @@ fn tape_core(
     header: Header,
     table: &mut [i32],
     values: &mut [f64],
+    counts: &mut [u32],
     capacity: u32,
     tape: &[u8],
     done: &mut usize,
     offset: &mut usize,
 ) -> Left
-    ensures { λ r. ⌜ Tapes (lentOf header (now (table .entry)) (now (values .entry))) capacity (now (tape .entry)) (lentOf (r .header) (now (table .exit)) (now (values .exit))) (now (done .exit)) (now (offset .exit)) (r .answer) ⌝ }
+    ensures { λ r. ⌜ Tapes (countedOf header (now (table .entry)) (now (values .entry)) (now (counts .entry))) capacity (now (tape .entry)) (countedOf (r .header) (now (table .exit)) (now (values .exit)) (now (counts .exit))) (now (done .exit)) (now (offset .exit)) (r .answer) ⌝ }
 {
-    let out = grid::tape_core(header, table, values, capacity, tape);
+    let out = grid::tape_core(header, table, values, counts, capacity, tape);
     let left = out.header;
     let taped = out.answer;
     *done = taped.done;
@@ -91,30 +95,47 @@ pub extern "C" fn grid_tape(
     header: &mut Header,
     table: &mut [i32],
     values: &mut [f64],
+    counts: &mut [u32],
     capacity: u32,
     tape: &[u8],
     done: &mut usize,
     offset: &mut usize,
 ) -> u32
-    ensures { λ r. ⌜ Tapes (lentOf (now (header .entry)) (now (table .entry)) (now (values .entry))) capacity (now (tape .entry)) (lentOf (now (header .exit)) (now (table .exit)) (now (values .exit))) (now (done .exit)) (now (offset .exit)) r ⌝ }
+    ensures { λ r. ⌜ Tapes (countedOf (now (header .entry)) (now (table .entry)) (now (values .entry)) (now (counts .entry))) capacity (now (tape .entry)) (countedOf (now (header .exit)) (now (table .exit)) (now (values .exit)) (now (counts .exit))) (now (done .exit)) (now (offset .exit)) r ⌝ }
 {
-    let out = tape_core(*header, table, values, capacity, tape, done, offset);
+    let out = tape_core(*header, table, values, counts, capacity, tape, done, offset);
     *header = out.header;
     out.answer
 }
 
-fn check_core(header: Header, table: &[i32], values: &[f64], capacity: u32) -> u32
-    ensures { λ r. ⌜ Checks (lentOf header (now (table .entry)) (now (values .entry))) capacity r ⌝ }
+fn check_core(header: Header, table: &[i32], values: &[f64], counts: &[u32], capacity: u32) -> u32
+    ensures { λ r. ⌜ Checks (countedOf header (now (table .entry)) (now (values .entry)) (now (counts .entry))) capacity r ⌝ }
 {
-    grid::check(header, table, values, capacity)
+    grid::check(header, table, values, counts, capacity)
 }
 
-// Whether the table, the values and the header are sound: 0 for yes.
+// Whether the table, the values and the header are sound, and the counts are theirs: 0 for yes.
 #[no_mangle]
-pub extern "C" fn grid_check(header: &Header, table: &[i32], values: &[f64], capacity: u32) -> u32
-    ensures { λ r. ⌜ Checks (lentOf (now (header .entry)) (now (table .entry)) (now (values .entry))) capacity r ⌝ }
+pub extern "C" fn grid_check(
+    header: &Header,
+    table: &[i32],
+    values: &[f64],
+    counts: &[u32],
+    capacity: u32,
+) -> u32
+    ensures { λ r. ⌜ Checks (countedOf (now (header .entry)) (now (table .entry)) (now (values .entry)) (now (counts .entry))) capacity r ⌝ }
 {
-    check_core(*header, table, values, capacity)
+    check_core(*header, table, values, counts, capacity)
+}
+
+// How many leaves of a level have a status, by the counts alone.
+#[no_mangle]
+pub extern "C" fn grid_count(counts: &[u32], level: u32, status: u32, count: &mut u32) -> u32
+    ensures { λ r. ⌜ Counts (now (counts .entry)) level status (now (count .exit)) r ⌝ }
+{
+    let many = grid::count(counts, level, status);
+    *count = many.count;
+    many.refusal
 }
 
 fn scan_core(

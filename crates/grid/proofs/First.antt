@@ -6,7 +6,8 @@ use mathlib.Core.Path.{_≡_, sym, ap, _∙_}
 use mathlib.Core.Logic.{_≢_}
 use mathlib.Core.List.{List, _++_}
 use lib.ListN.{length}
-use Rattle.mesh.specs.Picture.{Lent, picture}
+use Rattle.mesh.specs.Picture.{Lent}
+use Rattle.mesh.specs.LeafCounts.{Counted, counted}
 use Rattle.mesh.specs.Tape.{Run, run}
 use Rattle.mesh.specs.Refusal.{Check, refusal}
 use Rattle.mesh.specs.State.{blank}
@@ -32,9 +33,9 @@ use Rattle.picture_laws.proofs.Accepted.{lent-rectangle}
 
 -- a tape that they let through runs on the state that is pictured
 abbrev pub ranOf : Run → Taped
-ranOf r = record { done = r .done; refusal = r .refusal; offset = r .offset; lent = picture (r .state) }
+ranOf r = record { done = r .done; refusal = r .refusal; offset = r .offset; lent = counted (r .state) }
 
-pub tape-ran : (cap : ℕ) (l : Lent) → checkCall cap l ≡ 0 → (bytes : List ℕ) → tapeCall cap l bytes ≡ ranOf (run (decode l) bytes)
+pub tape-ran : (cap : ℕ) (l : Counted) → checkCall cap l ≡ 0 → (bytes : List ℕ) → tapeCall cap l bytes ≡ ranOf (run (decode (l .lent)) bytes)
 unfolding tapeCall
 tape-ran cap l h bytes = unless-accepted _ _ (checkCall cap l) h
 

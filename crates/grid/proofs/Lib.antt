@@ -2,5 +2,6 @@
 pub mod First
 pub mod BuildCalls
 pub mod TapeCalls
+pub mod CountCalls
 pub mod Unique
 pub mod Demands

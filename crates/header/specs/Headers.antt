@@ -6,6 +6,7 @@ use lib.IntN.{ℤ}
 use lib.Ieee.{Float}
 use Rattle.mesh.specs.State as State
 use Rattle.mesh.specs.Picture.{Lent}
+use Rattle.mesh.specs.LeafCounts.{Counted}
 use Rattle.header.specs.declared.Header.{Header}
 
 -- "columns, rows, and a 16-bit edit mark"; "the header gains the mode" (02, No. 4)
@@ -14,6 +15,10 @@ headerOf h = record { grid = record { columns = h .columns; rows = h .rows; mode
 
 abbrev pub lentOf : Header → List ℤ → List Float → Lent
 lentOf h t v = record { header = headerOf h; words = t; values = v }
+
+-- what build, tape and checker are lent (02, No. 5)
+abbrev pub countedOf : Header → List ℤ → List Float → List ℕ → Counted
+countedOf h t v c = record { lent = lentOf h t v; counts = c }
 
 -- what a build puts there
 abbrev pub freshHeader : ℕ → ℕ → ℕ → Header

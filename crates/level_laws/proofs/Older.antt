@@ -10,7 +10,7 @@ use Rattle.mesh.specs.Place.{rectangle, at}
 use Rattle.mesh.specs.State.{State, cells, gridOf}
 use Rattle.mesh.specs.Build.{built}
 use Rattle.mesh.specs.Request.{refine, effect}
-use Rattle.mesh.specs.Picture.{picture}
+use Rattle.mesh.specs.LeafCounts.{counted}
 use Rattle.mesh.specs.Call.{checkCall, tapeCall}
 use Rattle.mesh.specs.Grids.{outcome}
 use Rattle.mesh.proofs.References.{rules}
@@ -20,7 +20,7 @@ use Rattle.level_laws.specs.Beside.{NoJump}
 unfoldable pub older : State
 older = effect (effect (built (rectangle 2 1) 33) (refine 4)) (refine 11)
 
-pub older-sound : checkCall 33 (picture older) ≡ 0
+pub older-sound : checkCall 33 (counted older) ≡ 0
 unfolding older rules
 older-sound = refl
 
@@ -30,6 +30,6 @@ unfolding older rules
 older-jumps h = let (a, _) = h (at 4 3 0) (at 2 1 0) tt tt (inl (inl refl, (lit< tt, lit< tt))) in omega arith
 
 -- the next request refines 6
-pub older-runs : outcome (tapeCall 33 (picture older) (1 ∷ 0 ∷ 6 ∷ [])) ≡ (1, 0, 3)
+pub older-runs : outcome (tapeCall 33 (counted older) (1 ∷ 0 ∷ 6 ∷ [])) ≡ (1, 0, 3)
 unfolding older rules
 older-runs = refl

@@ -6,12 +6,13 @@ use mathlib.Core.Bool.{Bool, not, _&&_, _||_}
 use mathlib.Core.Path.{_≡_}
 use mathlib.Core.List.{List, [], _∷_, _++_}
 use lib.Dec.{leb, ltb, eqb, T}
-use lib.ListN.{length, drop}
+use lib.ListN.{length, getD, drop}
 use lib.IntN.{ℤ}
-use Rattle.mesh.specs.Tools.{every}
+use Rattle.mesh.specs.Tools.{every, sameList}
 use Rattle.mesh.specs.Place.{Grid, isRing}
 use Rattle.mesh.specs.State.{Value, blank, valueOf, entry, inUse}
-use Rattle.mesh.specs.Picture.{rowWords, Lent, picture}
+use Rattle.mesh.specs.Picture.{rowWords, Lent}
+use Rattle.mesh.specs.LeafCounts.{countPlaces, countPlace, leafCounts, Counted, counted}
 use Rattle.mesh.specs.Decode.{decode}
 use Rattle.mesh.specs.Test.{sound}
 use Rattle.mesh.specs.Refusal.{Check, _if_, refusal}
@@ -48,6 +49,10 @@ pub record Sizes (cap : ℕ) (l : Lent) : Type 0 where
 abbrev pub no1 : ℕ → Lent → Check
 no1 cap l = 1 if missized cap l
 
+-- "1 also if the list has not 39 places" (02, No. 5)
+abbrev pub no1-counts : List ℕ → Check
+no1-counts c = 1 if not (eqb (length c) countPlaces)
+
 -- 2: "columns or rows outside 1 to 32"; "2 also for a mode that is neither, or a ring with fewer than 3 rows"
 abbrev pub misfit : Grid → Bool
 misfit g = outside 1 32 (g .columns) || (outside 1 32 (g .rows) || (ltb 1 (g .mode) || (isRing g && ltb (g .rows) 3)))
@@ -63,12 +68,20 @@ no2 g = 2 if misfit g
 abbrev pub no3 : Lent → Check
 no3 l = 3 if not (sound l)
 
+-- "3 also if the list disagrees with the table"
+abbrev pub no3-counts : Counted → Check
+no3-counts l = 3 if not (sameList eqb (l .counts) (leafCounts (decode (l .lent))))
+
+-- what scan, lookup and page begin with
 unfoldable pub lentChecks : ℕ → Lent → List Check
 lentChecks cap l = no1 cap l ∷ no2 (l .header .grid) ∷ no3 l ∷ []
 
--- what they answer, where a call begins with them; 0 for nothing
 unfoldable pub lentRefusal : ℕ → Lent → ℕ
 lentRefusal cap l = refusal (lentChecks cap l)
+
+-- what the checker asks, and a tape begins with
+unfoldable pub countedChecks : ℕ → Counted → List Check
+countedChecks cap l = no1 cap (l .lent) ∷ no1-counts (l .counts) ∷ no2 (l .lent .header .grid) ∷ no3 (l .lent) ∷ no3-counts l ∷ []
 
 -- what a call answers if it is refused with a number above 0, and if it is not
 unfoldable pub unless : {A : Type 0} → ℕ → (ℕ → A) → A → A
@@ -77,24 +90,24 @@ unless (suc n) refused done = refused (suc n)
 
 -- ---- check: 0 for yes
 
-unfoldable pub checkCall : ℕ → Lent → ℕ
-checkCall cap l = lentRefusal cap l
+unfoldable pub checkCall : ℕ → Counted → ℕ
+checkCall cap l = refusal (countedChecks cap l)
 
 -- ---- build: "build checks 1, 2, 11"
 
 pub record Built : Type 0 where
   pub refusal : ℕ
   pub in-use : ℕ
-  pub lent : Lent
+  pub lent : Counted
 
-unfoldable pub buildChecks : ℕ → Lent → Grid → List Check
-buildChecks cap l g = no1 cap l ∷ no2 g ∷ (11 if ltb cap (length (numbered g))) ∷ []
+unfoldable pub buildChecks : ℕ → Counted → Grid → List Check
+buildChecks cap l g = no1 cap (l .lent) ∷ no1-counts (l .counts) ∷ no2 g ∷ (11 if ltb cap (length (numbered g))) ∷ []
 
-unfoldable pub buildCall : ℕ → Lent → Grid → Built
+unfoldable pub buildCall : ℕ → Counted → Grid → Built
 buildCall cap l g =
     unless (refusal (buildChecks cap l g))
     (λ n. record { refusal = n; in-use = 0; lent = l })
-    (record { refusal = 0; in-use = inUse (built g cap .entries); lent = picture (built g cap) })
+    (record { refusal = 0; in-use = inUse (built g cap .entries); lent = counted (built g cap) })
 
 -- ---- tape: "a tape: those done; for 1 to 3 count and offset 0"; it begins with the checks of the checker
 
@@ -102,14 +115,14 @@ pub record Taped : Type 0 where
   pub done : ℕ
   pub refusal : ℕ
   pub offset : ℕ
-  pub lent : Lent
+  pub lent : Counted
 
-unfoldable pub tapeCall : ℕ → Lent → List ℕ → Taped
+unfoldable pub tapeCall : ℕ → Counted → List ℕ → Taped
 tapeCall cap l bytes =
-    let r = run (decode l) bytes in
+    let r = run (decode (l .lent)) bytes in
     unless (checkCall cap l)
     (λ n. record { done = 0; refusal = n; offset = 0; lent = l })
-    (record { done = r .done; refusal = r .refusal; offset = r .offset; lent = picture (r .state) })
+    (record { done = r .done; refusal = r .refusal; offset = r .offset; lent = counted (r .state) })
 
 -- ---- scan and page: "places past the count stay"
 
@@ -152,3 +165,16 @@ lookupCall cap l u v =
     unless (refusal (lentChecks cap l ++ lookupChecks s u v))
     (λ n. record { refusal = n; leaf = 0; value = blank })
     (record { refusal = 0; leaf = lookup s u v; value = valueOf (entry (s .entries) (lookup s u v)) })
+
+-- ---- count: "how many cells still lack a measurement?" (02, No. 5): "the question is lent the list alone"
+
+pub record Count : Type 0 where
+  pub refusal : ℕ
+  pub count : ℕ
+
+-- "23 for a level or status out of range, after 1 in the question"
+unfoldable pub countChecks : List ℕ → ℕ → ℕ → List Check
+countChecks c l k = no1-counts c ∷ (23 if (ltb 12 l || ltb 2 k)) ∷ []
+
+unfoldable pub countCall : List ℕ → ℕ → ℕ → Count
+countCall c l k = unless (refusal (countChecks c l k)) (λ n. record { refusal = n; count = 0 }) (record { refusal = 0; count = getD c (countPlace l k) 0 })

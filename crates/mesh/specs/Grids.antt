@@ -9,20 +9,25 @@ use lib.ListN.{getD, replicate}
 use lib.IntN.{ℤ, pos, negsuc, natAbs}
 use Rattle.mesh.specs.Tools.{keep}
 use Rattle.mesh.specs.Place.{Grid, rectangle}
-use Rattle.mesh.specs.State.{inUse, plusZero}
-use Rattle.mesh.specs.Picture.{rowWords, levelWord, iWord, jWord, flagsWord, freeFlags, Lent, picture}
+use Rattle.mesh.specs.State.{State, inUse, plusZero}
+use Rattle.mesh.specs.Picture.{rowWords, levelWord, iWord, jWord, flagsWord, freeFlags}
+use Rattle.mesh.specs.LeafCounts.{countPlaces, leafCounts, Counted, counted}
 use Rattle.mesh.specs.Decode.{decode}
 use Rattle.mesh.specs.Build.{built}
+use Rattle.mesh.specs.Request.{refine, setValue, effect}
 use Rattle.mesh.specs.Tape.{run}
 use Rattle.mesh.specs.Page.{headLine}
-use Rattle.mesh.specs.Call.{checkCall, Built, buildCall, Taped, tapeCall, scanCall, lookupCall}
+use Rattle.mesh.specs.Call.{checkCall, Built, buildCall, Taped, tapeCall, scanCall, lookupCall, countCall}
 use Rattle.mesh.specs.Program.{program}
 
 -- ---- how 01's words read what a call leaves
 
 -- lists of the right length that hold nothing of use
-abbrev pub empty : ℕ → Lent
-empty cap = record { header = record { grid = rectangle 0 0; mark = 7 }; words = replicate (rowWords * (cap + 1)) (negsuc 0); values = replicate (cap + 1) plusZero }
+abbrev pub empty : ℕ → Counted
+empty cap = record {
+  lent = record { header = record { grid = rectangle 0 0; mark = 7 }; words = replicate (rowWords * (cap + 1)) (negsuc 0); values = replicate (cap + 1) plusZero };
+  counts = replicate countPlaces 7;
+}
 
 -- a build with so many columns, rows and numbers, and then a tape
 abbrev pub build : ℕ → ℕ → ℕ → Built
@@ -40,7 +45,7 @@ ring c r cap = inMode 1 c r cap
 
 -- a tape on what a build leaves, where the first checks have no part in what is claimed: the run alone
 abbrev ranOn : Grid → ℕ → List ℕ → Taped
-ranOn g cap bytes = let r = run (built g cap) bytes in record { done = r .done; refusal = r .refusal; offset = r .offset; lent = picture (r .state) }
+ranOn g cap bytes = let r = run (built g cap) bytes in record { done = r .done; refusal = r .refusal; offset = r .offset; lent = counted (r .state) }
 
 abbrev ran : ℕ → ℕ → ℕ → List ℕ → Taped
 ran c r cap bytes = ranOn (rectangle c r) cap bytes
@@ -49,34 +54,42 @@ abbrev ringRan : ℕ → ℕ → ℕ → List ℕ → Taped
 ringRan c r cap bytes = ranOn (record { columns = c; rows = r; mode = 1 }) cap bytes
 
 -- what is lent, with the header of another mode
-abbrev withMode : ℕ → Lent → Lent
+abbrev withMode : ℕ → Counted → Counted
 withMode m l =
-    let g = l .header .grid in
-    record { header = record { grid = record { columns = g .columns; rows = g .rows; mode = m }; mark = l .header .mark }; words = l .words; values = l .values }
+    let h = l .lent .header in
+    let g = h .grid in
+    record {
+      lent = record { header = record { grid = record { columns = g .columns; rows = g .rows; mode = m }; mark = h .mark }; words = l .lent .words; values = l .lent .values };
+      counts = l .counts;
+    }
+
+-- what is lent, with another list of counts
+abbrev withCounts : List ℕ → Counted → Counted
+withCounts c l = record { lent = l .lent; counts = c }
 
 -- the word w of the row n, where no sign is to be seen
-abbrev wordAt : Lent → ℕ → ℕ → ℕ
-wordAt l w n = natAbs (getD (l .words) (n * rowWords + w) (pos 0))
+abbrev wordAt : Counted → ℕ → ℕ → ℕ
+wordAt l w n = natAbs (getD (l .lent .words) (n * rowWords + w) (pos 0))
 
-abbrev pub flagsAt : Lent → List ℕ → List ℕ
+abbrev pub flagsAt : Counted → List ℕ → List ℕ
 flagsAt l ns = map (wordAt l flagsWord) ns
 
 -- level, i and j of the rows with these numbers
-abbrev spotsAt : Lent → List ℕ → List (ℤ × ℕ × ℕ)
-spotsAt l ns = map (λ n. (getD (l .words) (n * rowWords + levelWord) (pos 0), wordAt l iWord n, wordAt l jWord n)) ns
+abbrev spotsAt : Counted → List ℕ → List (ℤ × ℕ × ℕ)
+spotsAt l ns = map (λ n. (getD (l .lent .words) (n * rowWords + levelWord) (pos 0), wordAt l iWord n, wordAt l jWord n)) ns
 
 -- places of one level
 abbrev on : ℤ → List (ℕ × ℕ) → List (ℤ × ℕ × ℕ)
 on k ps = map (λ p. (k, p .0, p .1)) ps
 
-abbrev usedIn : Lent → ℕ
-usedIn l = inUse (decode l .entries)
+abbrev usedIn : Counted → ℕ
+usedIn l = inUse (decode (l .lent) .entries)
 
 -- the numbers, among these, whose rows are free; that are cells
-abbrev freeAmong : Lent → List ℕ → List ℕ
+abbrev freeAmong : Counted → List ℕ → List ℕ
 freeAmong l ns = keep (λ n. eqb (wordAt l flagsWord n) freeFlags) ns
 
-abbrev cellsAmong : Lent → List ℕ → List ℕ
+abbrev cellsAmong : Counted → List ℕ → List ℕ
 cellsAmong l ns = keep (λ n. eqb (wordAt l flagsWord n % 2) 1) ns
 
 -- requests done, refusal, offset
@@ -84,8 +97,12 @@ abbrev pub outcome : Taped → ℕ × ℕ × ℕ
 outcome r = (r .done, r .refusal, r .offset)
 
 -- the leaf's number, refusal
-abbrev lookup : ℕ → Lent → ℕ → ℕ → ℕ × ℕ
-lookup cap l u v = let f = lookupCall cap l u v in (f .leaf, f .refusal)
+abbrev lookup : ℕ → Counted → ℕ → ℕ → ℕ × ℕ
+lookup cap l u v = let f = lookupCall cap (l .lent) u v in (f .leaf, f .refusal)
+
+-- the number, refusal
+abbrev asked : List ℕ → ℕ → ℕ → ℕ × ℕ
+asked c l k = let a = countCall c l k in (a .count, a .refusal)
 
 -- one claim: what the rules give, and what 01 says that it is
 pub record Claim : Type 1 where
@@ -138,6 +155,10 @@ refine12 = 1 ∷ 0 ∷ 12 ∷ []
 abbrev doom6 : List ℕ
 doom6 = refine4 ++ (1 ∷ 0 ∷ 6 ∷ []) ++ refine11 ++ (2 ∷ 0 ∷ 17 ∷ 2 ∷ 0 ∷ 19 ∷ 2 ∷ 0 ∷ 16 ∷ 2 ∷ 0 ∷ 20 ∷ 3 ∷ 0 ∷ 6 ∷ [])
 
+-- of two cells, 4 and 6, the one measured
+abbrev measured4 : ℕ → State
+measured4 cap = effect (built (rectangle 2 1) cap) (setValue 4 plusZero)
+
 unfoldable pub grids : List Claim
 grids =
     -- P1
@@ -154,8 +175,8 @@ grids =
     (flagsAt (build 1 1 14 .lent) (6 ∷ 7 ∷ 8 ∷ 9 ∷ []) is (8192 ∷ 8192 ∷ 8192 ∷ 8192 ∷ [])) ∷
     (flagsAt (tape 1 1 14 refine2 .lent) (6 ∷ 7 ∷ 8 ∷ 9 ∷ []) is (127 ∷ 95 ∷ 111 ∷ 71 ∷ [])) ∷
     -- P5
-    (tape 1 1 14 away .lent .words is build 1 1 14 .lent .words) ∷
-    (tape 1 1 14 away .lent .header .mark is 6) ∷
+    (tape 1 1 14 away .lent .lent .words is build 1 1 14 .lent .lent .words) ∷
+    (tape 1 1 14 away .lent .lent .header .mark is 6) ∷
     -- P6
     (build 2 1 20 .in-use is 9) ∷
     (cellsAmong (build 2 1 20 .lent) numbers is (4 ∷ 6 ∷ [])) ∷
@@ -183,7 +204,7 @@ grids =
     48 ∷ 48 ∷ 48 ∷ 48 ∷ 48 ∷ 48 ∷ 48 ∷ 48 ∷ 48 ∷ 48 ∷ 48 ∷ 48 ∷ 48 ∷ 48 ∷ 48 ∷ 48 ∷ 10 ∷
     99 ∷ 101 ∷ 108 ∷ 108 ∷ 115 ∷ 32 ∷ 49 ∷ 32 ∷ 115 ∷ 117 ∷ 109 ∷ 32 ∷ 50 ∷ 50 ∷ 55 ∷ 56 ∷ 10 ∷ [])) ∷
     -- 'Slips that look right': a scan from level 0 to 0 lists the inner patch at from-level; columns come before rows
-    (scanCall 14 (tape 1 1 14 refine2 .lent) 1 (3 ∷ 4 ∷ 2 ∷ 1 ∷ []) 2 (pos 0) (pos 0) (7 ∷ 7 ∷ []) is record { refusal = 0; count = 1; out = 2 ∷ 7 ∷ [] }) ∷
+    (scanCall 14 (tape 1 1 14 refine2 .lent .lent) 1 (3 ∷ 4 ∷ 2 ∷ 1 ∷ []) 2 (pos 0) (pos 0) (7 ∷ 7 ∷ []) is record { refusal = 0; count = 1; out = 2 ∷ 7 ∷ [] }) ∷
     (map (λ n. wordAt (build 2 1 20 .lent) 10 n) (4 ∷ 6 ∷ []) is (0 ∷ 1 ∷ [])) ∷
     -- "touching at a corner only does not count": the middle of 3×3 once the cell at (2,2) is killed
     (flagsAt (ran 3 3 21 (kill 18) .lent) (9 ∷ []) is (7 ∷ [])) ∷
@@ -229,10 +250,23 @@ grids =
     (ring 1 2 12 .refusal is 2) ∷
     (inMode 2 1 3 12 .refusal is 2) ∷
     -- the page's first line: map 1 3 0 ring
-    (headLine (ring 1 3 12 .lent .header) is (109 ∷ 97 ∷ 112 ∷ 32 ∷ 49 ∷ 32 ∷ 51 ∷ 32 ∷ 48 ∷ 32 ∷ 114 ∷ 105 ∷ 110 ∷ 103 ∷ 10 ∷ [])) ∷
+    (headLine (ring 1 3 12 .lent .lent .header) is (109 ∷ 97 ∷ 112 ∷ 32 ∷ 49 ∷ 32 ∷ 51 ∷ 32 ∷ 48 ∷ 32 ∷ 114 ∷ 105 ∷ 110 ∷ 103 ∷ 10 ∷ [])) ∷
     -- a table that is sound as a ring and not open, and the other way round
     (map (checkCall 12) (ring 1 3 12 .lent ∷ withMode 0 (ring 1 3 12 .lent) ∷ build 1 3 12 .lent ∷ withMode 1 (build 1 3 12 .lent) ∷ []) is (0 ∷ 3 ∷ 0 ∷ 3 ∷ [])) ∷
     -- what these tapes leave is sound
     (map (checkCall 20) (ran 2 1 20 refine4 .lent ∷ ran 2 1 20 killed .lent ∷ []) is (0 ∷ 0 ∷ [])) ∷
     (map (checkCall 18) (ringRan 1 3 18 refine8 .lent ∷ ringRan 1 3 18 (kill 8) .lent ∷ []) is (0 ∷ 0 ∷ [])) ∷
+    -- No. 5: a build has blank leaves on level 0 alone; a blank cell refined has four blank kids, and a measured one four that are carried
+    (build 2 1 20 .lent .counts is (2 ∷ replicate 38 0)) ∷
+    (ran 2 1 20 refine4 .lent .counts is (1 ∷ 0 ∷ 0 ∷ 4 ∷ replicate 35 0)) ∷
+    (leafCounts (measured4 20) is (1 ∷ 1 ∷ replicate 37 0)) ∷
+    (leafCounts (effect (measured4 20) (refine 4)) is (1 ∷ 0 ∷ 0 ∷ 0 ∷ 0 ∷ 4 ∷ replicate 33 0)) ∷
+    -- the cell that lost its kids is a leaf again
+    (tape 1 1 14 away .lent .counts is build 1 1 14 .lent .counts) ∷
+    -- 1 for 38 and 40 places; 3 for a number too many, and for the right sum in a wrong place
+    (map (λ c. checkCall 20 (withCounts c (build 2 1 20 .lent))) (replicate 38 0 ∷ replicate 40 0 ∷ (3 ∷ replicate 38 0) ∷ (1 ∷ 1 ∷ replicate 37 0) ∷ []) is (1 ∷ 1 ∷ 3 ∷ 3 ∷ [])) ∷
+    (buildCall 20 (withCounts [] (empty 20)) (rectangle 0 0) .refusal is 1) ∷
+    -- the question, of a list that need not be anything's counts: 1, then 23
+    (map (λ (q : ℕ × ℕ). asked (replicate 38 0 ++ (9 ∷ [])) (q .0) (q .1)) ((12, 2) ∷ (12, 1) ∷ (13, 0) ∷ (0, 3) ∷ []) is ((9, 0) ∷ (0, 0) ∷ (0, 23) ∷ (0, 23) ∷ [])) ∷
+    (asked (replicate 38 9) 13 3 is (0, 1)) ∷
     []

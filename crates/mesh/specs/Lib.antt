@@ -8,6 +8,7 @@ pub mod Jump
 pub mod State
 pub mod Valid
 pub mod Picture
+pub mod LeafCounts
 pub mod Decode
 pub mod Test
 pub mod Refusal

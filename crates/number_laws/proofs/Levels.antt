@@ -47,7 +47,7 @@ born-kid p q e =
 same-turn : (p : Place) (w v : Wind) → kid w p ≡ kid v p → turn w ≡ turn v
 same-turn p w v e = sym (turn-kid w p) ∙ ap turnOf e ∙ turn-kid v p
 
-other-kids : (p : Place) (w : Wind) (ws : List Wind) → T (all (λ v. not (eqb (turn w) (turn v))) ws) → In (kid w p) (map (λ v. kid v p) ws) → ⊥
+pub other-kids : (p : Place) (w : Wind) (ws : List Wind) → T (all (λ v. not (eqb (turn w) (turn v))) ws) → In (kid w p) (map (λ v. kid v p) ws) → ⊥
 other-kids p w [] h t = t
 other-kids p w (v ∷ ws) h t =
     let a = not (eqb (turn w) (turn v)) in

@@ -8,9 +8,11 @@ use mathlib.Core.Logic.{_≢_}
 use mathlib.Core.List.{List, [], _∷_}
 use lib.ListN.{length, take, drop, length-drop}
 use lib.Seq.{take-all}
+use borrow.Author.Tests.{eq-eqb}
 use Rattle.mesh.specs.State.{State, capacity}
 use Rattle.mesh.specs.Valid.{Valid}
-use Rattle.mesh.specs.Picture.{rowWords, Lent, picture}
+use Rattle.mesh.specs.Picture.{rowWords, picture}
+use Rattle.mesh.specs.LeafCounts.{countPlaces, Counted, counted}
 use Rattle.mesh.specs.Refusal.{refusal}
 use Rattle.mesh.specs.Scan.{no18}
 use Rattle.mesh.specs.Page.{page, pageChecks}
@@ -61,10 +63,10 @@ module _ (input : List ℕ) where
 
     -- ---- the build
 
-    module _ {l l₁ : Lent} {b : Built} (built-as : Builds l 1000 (gridIn input .columns) (gridIn input .rows) 0 l₁ b) (size : length (l .words) ≡ rowWords * 1001) (places : length (l .values) ≡ 1001) where
+    module _ {l l₁ : Counted} {b : Built} (built-as : Builds l 1000 (gridIn input .columns) (gridIn input .rows) 0 l₁ b) (size : length (l .lent .words) ≡ rowWords * 1001) (places : length (l .lent .values) ≡ 1001) (long : length (l .counts) ≡ countPlaces) where
       checks-same : refusal (buildChecks 1000 l (gridIn input)) ≡ refusal (headChecks input)
-      unfolding buildChecks gridChecks
-      checks-same = sized 1000 l (gridChecks input) (record { words = size; values = places; low = omega arith; high = omega arith }) ∙ sym after-head
+      unfolding buildChecks gridChecks refusal
+      checks-same = rw (eq-eqb (length (l .counts)) countPlaces long) (sized 1000 (l .lent) (gridChecks input) (record { words = size; values = places; low = omega arith; high = omega arith }) ∙ sym after-head)
 
       build-why : b .refusal ≡ refusal (headChecks input)
       unfolding buildCall
@@ -77,7 +79,7 @@ module _ (input : List ℕ) where
         passed : refusal (headChecks input) ≡ 0
         passed = sym build-why ∙ none
 
-        started-lent : l₁ ≡ picture (started input)
+        started-lent : l₁ ≡ counted (started input)
         unfolding buildCall
         started-lent = ap (λ (r : Call.Built). r .lent) (built-as .is ∙ unless-accepted _ _ _ (checks-same ∙ passed))
 
@@ -87,14 +89,14 @@ module _ (input : List ℕ) where
 
         -- ---- the tape
 
-        module _ {l₂ : Lent} {r : Taped} (taped-as : Tapes l₁ 1000 (take (length input - 3) (drop 3 input)) l₂ r) where
-          taped : tapedOf r l₂ ≡ record { done = ran input .done; refusal = ran input .refusal; offset = ran input .offset; lent = picture (ran input .state) }
+        module _ {l₂ : Counted} {r : Taped} (taped-as : Tapes l₁ 1000 (take (length input - 3) (drop 3 input)) l₂ r) where
+          taped : tapedOf r l₂ ≡ record { done = ran input .done; refusal = ran input .refusal; offset = ran input .offset; lent = counted (ran input .state) }
           taped =
               let (v, c) = started-valid input passed in
               let rest : take (length input - 3) (drop 3 input) ≡ drop 3 input = take-all (length input - 3) (drop 3 input) (omega (arith, length-drop 3 input)) in
               taped-as .is
               ∙ ap (λ (bytes : List ℕ). tapeCall 1000 l₁ bytes) rest
-              ∙ ap (λ (l : Lent). tapeCall 1000 l (drop 3 input)) started-lent
+              ∙ ap (λ (l : Counted). tapeCall 1000 l (drop 3 input)) started-lent
               ∙ tape-runs (started input) v 1000 c (drop 3 input)
 
           same-why : r .refusal ≡ ran input .refusal
@@ -110,9 +112,9 @@ module _ (input : List ℕ) where
           unfolding tapePage
           tape-refused some = rw (same-why, same-offset) (sym (program-ran ∙ unless-refused _ _ (ran input .refusal) (λ z. some (same-why ∙ z))))
 
-          pub tape-printed : r .refusal ≡ 0 → (out : List ℕ) {w : Call.Wrote} → w ≡ pageCall 1000 l₂ out → w ≡ programCall input out
+          pub tape-printed : r .refusal ≡ 0 → (out : List ℕ) {w : Call.Wrote} → w ≡ pageCall 1000 (l₂ .lent) out → w ≡ programCall input out
           unfolding tapePage
           tape-printed calm out e =
               let (v, c) = ran-valid input passed in
               let p : page (ran input .state) ≡ program input = sym (program-ran ∙ unless-accepted _ _ (ran input .refusal) (sym same-why ∙ calm)) in
-              prints out p (e ∙ ap (λ (x : Call.Taped). pageCall 1000 (x .lent) out) taped ∙ page-prints (ran input .state) v 1000 c out)
+              prints out p (e ∙ ap (λ (x : Call.Taped). pageCall 1000 (x .lent .lent) out) taped ∙ page-prints (ran input .state) v 1000 c out)

@@ -3,6 +3,7 @@ ghost use mathlib.Core.Path.{_≡_};
 ghost use Prim.Native.Nat.{_*_, _≤_};
 ghost use lib.ListN.{length};
 ghost use Rattle.mesh.specs.Picture.{rowWords};
+ghost use Rattle.mesh.specs.LeafCounts.{countPlaces};
 ghost use Rattle.mesh.specs.Refusal.{refusal};
 ghost use Rattle.mesh.specs.Program.{refusedLine, programCall, inputChecks};
 ghost use Rattle.mesh.specs.Call.{writing};
@@ -18,6 +19,7 @@ use lines::numerals::put_number;
 use lines::numerals::put_text;
 use output::Wrote;
 use table::words::ROW_WORDS;
+use tally::COUNT_PLACES;
 
 const CAPACITY: u32 = 1000;
 
@@ -54,20 +56,26 @@ fn write_refused(out: &mut [u8], n: u32, o: usize) -> Wrote
     Wrote { refusal: 0, count }
 }
 
-// Prints on a table and values of the capacity, whose old contents do not matter.
-fn print_on(input: &[u8], table: &mut [i32], values: &mut [f64], out: &mut [u8]) -> Wrote
-    requires { ⌜ (refusal (inputChecks (now input)) ≡ 0) × (length (now table) ≡ rowWords * 1001) × (length (now values) ≡ 1001) ⌝ }
+// Prints on a table, values and counts of their lengths, whose old contents do not matter.
+fn print_on(
+    input: &[u8],
+    table: &mut [i32],
+    values: &mut [f64],
+    counts: &mut [u32],
+    out: &mut [u8],
+) -> Wrote
+    requires { ⌜ (refusal (inputChecks (now input)) ≡ 0) × (length (now table) ≡ rowWords * 1001) × (length (now values) ≡ 1001) × (length (now counts) ≡ countPlaces) ⌝ }
     ensures { λ r. ⌜ wroteOf r (now (out .exit)) ≡ programCall (now (input .entry)) (now (out .entry)) ⌝ }
 {
     let header = fresh(0, 0, OPEN);
     let columns = input[1] as u32;
     let rows = input[2] as u32;
-    let b = grid::build_core(header, table, values, CAPACITY, columns, rows, OPEN);
+    let b = grid::build_core(header, table, values, counts, CAPACITY, columns, rows, OPEN);
     let built = b.answer;
     if built.refusal != 0 {
         return write_refused(out, built.refusal, 0);
     }
-    let t = grid::tape_core(b.header, table, values, CAPACITY, &input[3..]);
+    let t = grid::tape_core(b.header, table, values, counts, CAPACITY, &input[3..]);
     let taped = t.answer;
     if taped.refusal != 0 {
         return write_refused(out, taped.refusal, 3 + taped.offset);
@@ -85,5 +93,6 @@ pub fn print(input: &[u8], out: &mut [u8]) -> Wrote
     }
     let mut table = [0i32; WORDS];
     let mut values = [0.0f64; VALUES];
-    print_on(input, &mut table, &mut values, out)
+    let mut counts = [0u32; COUNT_PLACES];
+    print_on(input, &mut table, &mut values, &mut counts, out)
 }

@@ -31,14 +31,28 @@ fn put_value(v: &mut [f64; 231], k: usize, x: f64) {
     }
 }
 
-fn put_number(h: &mut [u32; 13], k: usize, x: u32) {
-    if k < 13 {
+fn put_number(h: &mut [u32; 14], k: usize, x: u32) {
+    if k < 14 {
         h[k] = x;
     }
 }
 
+fn put_count(c: &mut [u32; 69], k: usize, x: u32) {
+    if k < 69 {
+        c[k] = x;
+    }
+}
+
 // Changes the item at k to the number x.
-fn put(t: &mut [i32; 2844], v: &mut [f64; 231], h: &mut [u32; 13], kind: usize, k: usize, x: u64) {
+fn put(
+    t: &mut [i32; 2844],
+    v: &mut [f64; 231],
+    c: &mut [u32; 69],
+    h: &mut [u32; 14],
+    kind: usize,
+    k: usize,
+    x: u64,
+) {
     if kind == 1 {
         put_word(t, k, word(x));
         return;
@@ -47,14 +61,20 @@ fn put(t: &mut [i32; 2844], v: &mut [f64; 231], h: &mut [u32; 13], kind: usize, 
         put_value(v, k, value(x));
         return;
     }
-    put_number(h, k, (x % 0x1_0000_0000) as u32);
+    let n = (x % 0x1_0000_0000) as u32;
+    if kind == 3 {
+        put_number(h, k, n);
+        return;
+    }
+    put_count(c, k, n);
 }
 
 // Carries a run out that changes what is lent, its items being in b.
 pub fn run(
     t: &mut [i32; 2844],
     v: &mut [f64; 231],
-    h: &mut [u32; 13],
+    c: &mut [u32; 69],
+    h: &mut [u32; 14],
     b: &[u8],
     kind: usize,
     start: usize,
@@ -70,7 +90,7 @@ pub fn run(
             return;
         }
         let x = number(b, at, size);
-        put(t, v, h, kind, start + i, x);
+        put(t, v, c, h, kind, start + i, x);
         at += size;
         i += 1;
     }

@@ -54,6 +54,16 @@ fn sum_values(v: &[f64]) -> u64 {
     s
 }
 
+fn sum_counts(c: &[u32]) -> u64 {
+    let mut s: u64 = 1;
+    let mut i = 0;
+    while i < c.len() {
+        s = mix(s, c[i]);
+        i += 1;
+    }
+    s
+}
+
 fn sum_shorts(out: &[u16]) -> u64 {
     let mut s: u64 = 1;
     let mut i = 0;
@@ -92,9 +102,10 @@ pub fn tell_bytes(out: &[u8]) {
     tell(sum_bytes(out));
 }
 
-pub fn tell_lists(t: &[i32], v: &[f64]) {
+pub fn tell_lists(t: &[i32], v: &[f64], c: &[u32]) {
     tell(sum_words(t));
     tell(sum_values(v));
+    tell(sum_counts(c));
 }
 
 pub fn end_line() {

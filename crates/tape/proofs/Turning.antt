@@ -11,7 +11,7 @@ use lib.ListN.{length, drop, getD, length-drop}
 use lib.Seq.{drop-cons, drop-drop}
 use borrow.Author.Tests.{lt-ltb, le-ltb, ne-eqb}
 use Rattle.mesh.specs.State.{State, Header}
-use Rattle.mesh.specs.Picture.{Lent}
+use Rattle.mesh.specs.LeafCounts.{Counted}
 use Rattle.mesh.specs.Refusal.{refusal}
 use Rattle.mesh.specs.Request.{Request, checks, effect, marked, refused, accepted, request}
 use Rattle.mesh.specs.Tape.{Kind, kind, asks, stop, next, stepBy, runFrom}
@@ -64,7 +64,7 @@ module _ (bytes : List ℕ) (at k : ℕ) (inside : at < length bytes) (is : k �
   stopped : (s : State) (r : ℕ) → stepBy s (kind k) rest ≡ stop r → (n : ℕ) → runFrom 0 s n at (drop at bytes) ≡ record { state = s; done = n; refusal = r; offset = at }
   stopped s r e n = rw split (run-stop s n at k r rest e)
 
-  module _ (cap d : ℕ) (l : Header → Lent) where
+  module _ (cap d : ℕ) (l : Header → Counted) where
     -- what stops before a request is decided
     turned-stop : (r : ℕ) → r ≢ 0 → ((s : State) → stepBy s (kind k) rest ≡ stop r) → Turned bytes at cap d l l r at
     turned-stop r z h = record {
@@ -92,7 +92,7 @@ module _ (bytes : List ℕ) (at k : ℕ) (inside : at < length bytes) (is : k �
     pub whole-body : Whole bytes at
     whole-body = record { inside = inside; ends = λ x e. let i : row .its ≡ x = cc (row .is-kind) in omega (arith, ap (λ (y : Kind). y .len) i, row .is-length) }
 
-    module _ {cap d given : ℕ} {l l′ : Header → Lent} (by-kind : AppliedAt bytes at cap d l l′ given) where
+    module _ {cap d given : ℕ} {l l′ : Header → Counted} (by-kind : AppliedAt bytes at cap d l l′ given) where
       abbrev q : Request
       q = asks (row .its) rest
 

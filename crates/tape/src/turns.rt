@@ -23,6 +23,7 @@ pub struct Turn {
 fn turn_at(
     t: &mut [i32],
     v: &mut [f64],
+    c: &mut [u32],
     cap: usize,
     map: &mut [u64; 64],
     s: Spare,
@@ -30,8 +31,8 @@ fn turn_at(
     tape: &[u8],
     at: usize,
 ) -> Turn
-    requires { ⌜ Standing cap d (now t) (now v) × Mapped (freeAt (now t)) (now map) (s .top) (s .count) × (at < length (now tape)) ⌝ }
-    ensures { λ r. ⌜ Turned (now (tape .entry)) at cap d (lists (now (t .entry)) (now (v .entry))) (lists (now (t .exit)) (now (v .exit))) (r .refusal) (r .next) × Mapped (freeAt (now (t .exit))) (now (map .exit)) (r .spare .top) (r .spare .count) ⌝ }
+    requires { ⌜ Standing cap d (now t) (now v) (now c) × Mapped (freeAt (now t)) (now map) (s .top) (s .count) × (at < length (now tape)) ⌝ }
+    ensures { λ r. ⌜ Turned (now (tape .entry)) at cap d (lists (now (t .entry)) (now (v .entry)) (now (c .entry))) (lists (now (t .exit)) (now (v .exit)) (now (c .exit))) (r .refusal) (r .next) × Mapped (freeAt (now (t .exit))) (now (map .exit)) (r .spare .top) (r .spare .count) ⌝ }
 {
     let k = tape[at];
     let Body::Bytes(len) = body_of(k) else {
@@ -49,7 +50,7 @@ fn turn_at(
         };
     }
     let next = at + 1 + len;
-    let done = request(t, v, cap, map, s, d, tape, at);
+    let done = request(t, v, c, cap, map, s, d, tape, at);
     let spare = done.spare;
     Turn {
         refusal: done.refusal,
@@ -67,9 +68,17 @@ pub struct Run {
 }
 
 // The map of free numbers is filled once, and then kept along the tape.
-pub fn run_tape(t: &mut [i32], v: &mut [f64], cap: usize, d: u32, mark: u16, tape: &[u8]) -> Run
-    requires { ⌜ Pictured cap d (lists (now t) (now v)) ⌝ }
-    ensures { λ r. ⌜ Ran (now (tape .entry)) cap d mark (lists (now (t .entry)) (now (v .entry))) (lists (now (t .exit)) (now (v .exit))) (r .done) (r .refusal) (r .offset) (r .mark) ⌝ }
+pub fn run_tape(
+    t: &mut [i32],
+    v: &mut [f64],
+    c: &mut [u32],
+    cap: usize,
+    d: u32,
+    mark: u16,
+    tape: &[u8],
+) -> Run
+    requires { ⌜ Pictured cap d (lists (now t) (now v) (now c)) ⌝ }
+    ensures { λ r. ⌜ Ran (now (tape .entry)) cap d mark (lists (now (t .entry)) (now (v .entry)) (now (c .entry))) (lists (now (t .exit)) (now (v .exit)) (now (c .exit))) (r .done) (r .refusal) (r .offset) (r .mark) ⌝ }
 {
     let mut at = 0;
     let mut done = 0;
@@ -77,7 +86,7 @@ pub fn run_tape(t: &mut [i32], v: &mut [f64], cap: usize, d: u32, mark: u16, tap
     let mut map = [0u64; 64];
     let mut s = load(t, cap, &mut map);
     while at < tape.len() {
-        let turn = turn_at(t, v, cap, &mut map, s, d, tape, at);
+        let turn = turn_at(t, v, c, cap, &mut map, s, d, tape, at);
         if turn.refusal != 0 {
             return Run {
                 done,

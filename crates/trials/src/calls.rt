@@ -21,7 +21,7 @@ fn long(x: u32) -> usize {
     x as usize
 }
 
-fn header(h: &[u32; 13]) -> Header {
+fn header(h: &[u32; 14]) -> Header {
     let mark = (h[3] % 65536) as u16;
     with_mark(fresh(h[0], h[1], h[2]), mark)
 }
@@ -31,12 +31,12 @@ fn level(x: u32) -> i32 {
 }
 
 // Writes the rest of a line, what the call left, and keeps the header.
-fn finish(t: &[i32], v: &[f64], h: &mut [u32; 13], header: Header) {
+fn finish(t: &[i32], v: &[f64], c: &[u32], h: &mut [u32; 14], header: Header) {
     tell(header.columns as u64);
     tell(header.rows as u64);
     tell(header.mode as u64);
     tell(header.mark as u64);
-    tell_lists(t, v);
+    tell_lists(t, v, c);
     end_line();
     h[0] = header.columns;
     h[1] = header.rows;
@@ -44,36 +44,70 @@ fn finish(t: &[i32], v: &[f64], h: &mut [u32; 13], header: Header) {
     h[3] = header.mark as u32;
 }
 
-fn check(t: &[i32], v: &[f64], h: &[u32; 13], n: usize, m: usize)
-    requires { ⌜ (n ≤ length (now t)) × (m ≤ length (now v)) ⌝ }
+fn check(t: &[i32], v: &[f64], c: &[u32], h: &[u32; 14], n: usize, m: usize, p: usize)
+    requires { ⌜ (n ≤ length (now t)) × (m ≤ length (now v)) × (p ≤ length (now c)) ⌝ }
 {
-    let r = grid::check(header(h), &t[..n], &v[..m], h[4]);
+    let r = grid::check(header(h), &t[..n], &v[..m], &c[..p], h[4]);
     tell(r as u64);
 }
 
-fn build(t: &mut [i32], v: &mut [f64], h: &mut [u32; 13], n: usize, m: usize)
-    requires { ⌜ (n ≤ length (now t)) × (m ≤ length (now v)) ⌝ }
+fn build(
+    t: &mut [i32],
+    v: &mut [f64],
+    c: &mut [u32],
+    h: &mut [u32; 14],
+    n: usize,
+    m: usize,
+    p: usize,
+)
+    requires { ⌜ (n ≤ length (now t)) × (m ≤ length (now v)) × (p ≤ length (now c)) ⌝ }
 {
-    let r = lent::build(header(h), &mut t[..n], &mut v[..m], h[4], h[7], h[8], h[9]);
+    let r = lent::build(
+        header(h),
+        &mut t[..n],
+        &mut v[..m],
+        &mut c[..p],
+        h[4],
+        h[8],
+        h[9],
+        h[10],
+    );
     tell(r.answer.refusal as u64);
     tell(r.answer.used as u64);
-    finish(t, v, h, r.header);
+    finish(t, v, c, h, r.header);
 }
 
-fn tape(t: &mut [i32], v: &mut [f64], h: &mut [u32; 13], n: usize, m: usize, b: &[u8], k: usize)
-    requires { ⌜ (n ≤ length (now t)) × (m ≤ length (now v)) × (k ≤ length (now b)) ⌝ }
+fn tape(
+    t: &mut [i32],
+    v: &mut [f64],
+    c: &mut [u32],
+    h: &mut [u32; 14],
+    n: usize,
+    m: usize,
+    p: usize,
+    b: &[u8],
+    k: usize,
+)
+    requires { ⌜ (n ≤ length (now t)) × (m ≤ length (now v)) × (p ≤ length (now c)) × (k ≤ length (now b)) ⌝ }
 {
-    let r = lent::tape(header(h), &mut t[..n], &mut v[..m], h[4], &b[..k]);
+    let r = lent::tape(
+        header(h),
+        &mut t[..n],
+        &mut v[..m],
+        &mut c[..p],
+        h[4],
+        &b[..k],
+    );
     tell(r.answer.done as u64);
     tell(r.answer.refusal as u64);
     tell(r.answer.offset as u64);
-    finish(t, v, h, r.header);
+    finish(t, v, c, h, r.header);
 }
 
 fn scan_on(
     t: &[i32],
     v: &[f64],
-    h: &[u32; 13],
+    h: &[u32; 14],
     n: usize,
     m: usize,
     order: [u8; 4],
@@ -82,16 +116,16 @@ fn scan_on(
 )
     requires { ⌜ (n ≤ length (now t)) × (m ≤ length (now v)) × (k ≤ length (now out)) ⌝ }
 {
-    let from = level(h[9]);
-    let to = level(h[10]);
+    let from = level(h[10]);
+    let to = level(h[11]);
     let r = grid::scan(
         header(h),
         &t[..n],
         &v[..m],
         h[4],
-        h[7],
-        order,
         h[8],
+        order,
+        h[9],
         from,
         to,
         &mut out[..k],
@@ -101,22 +135,22 @@ fn scan_on(
     tell_shorts(out);
 }
 
-fn scan(t: &[i32], v: &[f64], h: &[u32; 13], n: usize, m: usize, b: &[u8; 4096])
+fn scan(t: &[i32], v: &[f64], h: &[u32; 14], n: usize, m: usize, b: &[u8; 4096])
     requires { ⌜ (n ≤ length (now t)) × (m ≤ length (now v)) ⌝ }
 {
-    let filler = (h[12] % 65536) as u16;
+    let filler = (h[13] % 65536) as u16;
     let mut out = [filler; 256];
-    let k = long(h[11]);
+    let k = long(h[12]);
     if k > 256 {
         return;
     }
     scan_on(t, v, h, n, m, [b[0], b[1], b[2], b[3]], &mut out, k);
 }
 
-fn lookup(t: &[i32], v: &[f64], h: &[u32; 13], n: usize, m: usize)
+fn lookup(t: &[i32], v: &[f64], h: &[u32; 14], n: usize, m: usize)
     requires { ⌜ (n ≤ length (now t)) × (m ≤ length (now v)) ⌝ }
 {
-    let r = grid::lookup(header(h), &t[..n], &v[..m], h[4], h[7], h[8]);
+    let r = grid::lookup(header(h), &t[..n], &v[..m], h[4], h[8], h[9]);
     tell(r.refusal as u64);
     tell(r.leaf as u64);
     let reading = r.reading;
@@ -136,7 +170,7 @@ fn lookup(t: &[i32], v: &[f64], h: &[u32; 13], n: usize, m: usize)
 }
 
 // A lookup mixed into a sum.
-fn look(t: &[i32], v: &[f64], h: &[u32; 13], n: usize, m: usize, x: u32, y: u32, s: u64) -> u64
+fn look(t: &[i32], v: &[f64], h: &[u32; 14], n: usize, m: usize, x: u32, y: u32, s: u64) -> u64
     requires { ⌜ (n ≤ length (now t)) × (m ≤ length (now v)) ⌝ }
     ensures { λ r. ⌜ r < 4294967291 ⌝ }
 {
@@ -152,36 +186,36 @@ fn look(t: &[i32], v: &[f64], h: &[u32; 13], n: usize, m: usize, x: u32, y: u32,
 }
 
 // Lookups of 64 points of a load, by a step.
-fn sweep_row(t: &[i32], v: &[f64], h: &[u32; 13], n: usize, m: usize, y: u32, sum: u64) -> u64
+fn sweep_row(t: &[i32], v: &[f64], h: &[u32; 14], n: usize, m: usize, y: u32, sum: u64) -> u64
     requires { ⌜ (n ≤ length (now t)) × (m ≤ length (now v)) ⌝ }
 {
     let mut s = sum;
-    let mut x = h[7];
+    let mut x = h[8];
     let mut left: u32 = 64;
     while left > 0 {
         s = look(t, v, h, n, m, x, y, s);
-        x = std::num::wrapping_add_u32(x, h[9]);
+        x = std::num::wrapping_add_u32(x, h[10]);
         left -= 1;
     }
     s
 }
 
 // Lookups of 64 times 64 points, by a step.
-fn sweep(t: &[i32], v: &[f64], h: &[u32; 13], n: usize, m: usize)
+fn sweep(t: &[i32], v: &[f64], h: &[u32; 14], n: usize, m: usize)
     requires { ⌜ (n ≤ length (now t)) × (m ≤ length (now v)) ⌝ }
 {
     let mut s: u64 = 1;
-    let mut y = h[8];
+    let mut y = h[9];
     let mut left: u32 = 64;
     while left > 0 {
         s = sweep_row(t, v, h, n, m, y, s);
-        y = std::num::wrapping_add_u32(y, h[9]);
+        y = std::num::wrapping_add_u32(y, h[10]);
         left -= 1;
     }
     tell(s);
 }
 
-fn page_on(t: &[i32], v: &[f64], h: &[u32; 13], n: usize, m: usize, out: &mut [u8], k: usize)
+fn page_on(t: &[i32], v: &[f64], h: &[u32; 14], n: usize, m: usize, out: &mut [u8], k: usize)
     requires { ⌜ (n ≤ length (now t)) × (m ≤ length (now v)) × (k ≤ length (now out)) ⌝ }
 {
     let r = grid::page(header(h), &t[..n], &v[..m], h[4], &mut out[..k]);
@@ -190,26 +224,31 @@ fn page_on(t: &[i32], v: &[f64], h: &[u32; 13], n: usize, m: usize, out: &mut [u
     tell_bytes(out);
 }
 
-fn page(t: &[i32], v: &[f64], h: &[u32; 13], n: usize, m: usize)
+fn page(t: &[i32], v: &[f64], h: &[u32; 14], n: usize, m: usize)
     requires { ⌜ (n ≤ length (now t)) × (m ≤ length (now v)) ⌝ }
 {
-    let filler = (h[12] % 256) as u8;
+    let filler = (h[13] % 256) as u8;
     let mut out = [filler; 16384];
-    let k = long(h[11]);
+    let k = long(h[12]);
     if k > 16384 {
         return;
     }
     page_on(t, v, h, n, m, &mut out, k);
 }
 
-// The calls that only read.
-fn read(t: &[i32], v: &[f64], h: &[u32; 13], n: usize, m: usize, b: &[u8; 4096], kind: usize)
+// The question, which is lent the counts alone.
+fn count(c: &[u32], h: &[u32; 14], p: usize)
+    requires { ⌜ p ≤ length (now c) ⌝ }
+{
+    let r = grid::count(&c[..p], h[8], h[9]);
+    tell(r.refusal as u64);
+    tell(r.count as u64);
+}
+
+// The calls that only read and are lent no counts.
+fn read(t: &[i32], v: &[f64], h: &[u32; 14], n: usize, m: usize, b: &[u8; 4096], kind: usize)
     requires { ⌜ (n ≤ length (now t)) × (m ≤ length (now v)) ⌝ }
 {
-    if kind == 4 {
-        check(t, v, h, n, m);
-        return;
-    }
     if kind == 7 {
         scan(t, v, h, n, m, b);
         return;
@@ -225,27 +264,64 @@ fn read(t: &[i32], v: &[f64], h: &[u32; 13], n: usize, m: usize, b: &[u8; 4096],
     page(t, v, h, n, m);
 }
 
+// The calls that only read.
+fn ask(
+    t: &[i32],
+    v: &[f64],
+    c: &[u32],
+    h: &[u32; 14],
+    n: usize,
+    m: usize,
+    p: usize,
+    b: &[u8; 4096],
+    kind: usize,
+)
+    requires { ⌜ (n ≤ length (now t)) × (m ≤ length (now v)) × (p ≤ length (now c)) ⌝ }
+{
+    if kind == 4 {
+        check(t, v, c, h, n, m, p);
+        return;
+    }
+    if kind == 12 {
+        count(c, h, p);
+        return;
+    }
+    read(t, v, h, n, m, b, kind);
+}
+
 // Makes the call of a kind, whose items are the first k bytes of b, and writes its line.
-pub fn call(t: &mut [i32], v: &mut [f64], h: &mut [u32; 13], b: &[u8; 4096], k: usize, kind: usize)
+pub fn call(
+    t: &mut [i32],
+    v: &mut [f64],
+    c: &mut [u32],
+    h: &mut [u32; 14],
+    b: &[u8; 4096],
+    k: usize,
+    kind: usize,
+)
     requires { ⌜ k ≤ 4096 ⌝ }
 {
     let n = long(h[5]);
     let m = long(h[6]);
+    let p = long(h[7]);
     if n > t.len() {
         return;
     }
     if m > v.len() {
         return;
     }
+    if p > c.len() {
+        return;
+    }
     if kind == 5 {
-        build(t, v, h, n, m);
+        build(t, v, c, h, n, m, p);
         return;
     }
     if kind == 6 {
-        tape(t, v, h, n, m, b, k);
+        tape(t, v, c, h, n, m, p, b, k);
         return;
     }
-    read(t, v, h, n, m, b, kind);
+    ask(t, v, c, h, n, m, p, b, kind);
     let left = header(h);
-    finish(t, v, h, left);
+    finish(t, v, c, h, left);
 }

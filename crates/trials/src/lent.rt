@@ -1,5 +1,5 @@
 // The entries that are lent the header, each on a header that stands here: what it leaves is handed back.
-ghost use Rattle.header.specs.Headers.{lentOf};
+ghost use Rattle.header.specs.Headers.{countedOf};
 ghost use Rattle.grid.specs.Calls.{Builds, Tapes};
 use grid::BuildOut;
 use grid::TapeOut;
@@ -9,14 +9,24 @@ pub fn build(
     mut header: Header,
     table: &mut [i32],
     values: &mut [f64],
+    counts: &mut [u32],
     capacity: u32,
     columns: u32,
     rows: u32,
     mode: u32,
 ) -> BuildOut
-    ensures { λ r. ⌜ Builds (lentOf header (now (table .entry)) (now (values .entry))) capacity columns rows mode (lentOf (r .header) (now (table .exit)) (now (values .exit))) (r .answer) ⌝ }
+    ensures { λ r. ⌜ Builds (countedOf header (now (table .entry)) (now (values .entry)) (now (counts .entry))) capacity columns rows mode (countedOf (r .header) (now (table .exit)) (now (values .exit)) (now (counts .exit))) (r .answer) ⌝ }
 {
-    let answer = grid::build(&mut header, table, values, capacity, columns, rows, mode);
+    let answer = grid::build(
+        &mut header,
+        table,
+        values,
+        counts,
+        capacity,
+        columns,
+        rows,
+        mode,
+    );
     BuildOut { header, answer }
 }
 
@@ -24,11 +34,12 @@ pub fn tape(
     mut header: Header,
     table: &mut [i32],
     values: &mut [f64],
+    counts: &mut [u32],
     capacity: u32,
     bytes: &[u8],
 ) -> TapeOut
-    ensures { λ r. ⌜ Tapes (lentOf header (now (table .entry)) (now (values .entry))) capacity (now (bytes .entry)) (lentOf (r .header) (now (table .exit)) (now (values .exit))) (r .answer) ⌝ }
+    ensures { λ r. ⌜ Tapes (countedOf header (now (table .entry)) (now (values .entry)) (now (counts .entry))) capacity (now (bytes .entry)) (countedOf (r .header) (now (table .exit)) (now (values .exit)) (now (counts .exit))) (r .answer) ⌝ }
 {
-    let answer = grid::tape(&mut header, table, values, capacity, bytes);
+    let answer = grid::tape(&mut header, table, values, counts, capacity, bytes);
     TapeOut { header, answer }
 }

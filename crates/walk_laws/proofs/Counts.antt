@@ -10,7 +10,7 @@ use mathlib.Core.List.{List, _++_, map}
 use lib.Dec.{T}
 use lib.ListN.{length, length-append}
 use Rattle.number_laws.specs.Numbered.{Numbered}
-use Rattle.mesh.specs.Tools.{any, isSome, orElse}
+use Rattle.mesh.specs.Tools.{any, count, isSome, orElse}
 use Rattle.mesh.specs.Place.{Place, Grid, same, base, In, Distinct}
 use Rattle.mesh.specs.Mesh.{Mesh, patch}
 use Rattle.mesh.specs.State.{State, Entry, nil, placeOf, stands, entry, cells, inUse, gridOf}
@@ -27,7 +27,7 @@ use Rattle.walk_laws.proofs.Points.{corners-distinct, ghosts-distinct, 
 
 -- ---- the places of the entries
 
-placed : List Entry → List Place
+pub placed : List Entry → List Place
 placed es = somes (map placeOf es)
 
 module _ (es : List Entry) where
@@ -35,14 +35,18 @@ module _ (es : List Entry) where
   unfolding placed inUse
   placed-length = somes-length (map placeOf es) ∙ count-map isSome placeOf es
 
-  placed-stands : (q : Place) → any (same q) (placed es) ≡ any (stands q) es
+  pub placed-stands : (q : Place) → any (same q) (placed es) ≡ any (stands q) es
   unfolding placed
   placed-stands q = somes-any q (map placeOf es) ∙ any-map (λ o. orElse false (same q) o) placeOf es
 
-  placed-distinct : Numbered es → Distinct (placed es)
+  -- how many of the places pass is how many entries have such a place
+  pub placed-count : (f : Place → Bool) → count f (placed es) ≡ count (λ e. orElse false f (placeOf e)) es
   unfolding placed
-  placed-distinct u = once-distinct (somes (map placeOf es)) (λ q.
-      rw (somes-count q (map placeOf es), count-map (λ o. orElse false (same q) o) placeOf es)
+  placed-count f = somes-count f (map placeOf es) ∙ count-map (λ o. orElse false f o) placeOf es
+
+  pub placed-distinct : Numbered es → Distinct (placed es)
+  placed-distinct u = once-distinct (placed es) (λ q.
+      rw (placed-count (same q))
       (count-one (stands q) nil es (λ i j l m a b. u .once i j q (stands-place q (entry es i) a) (stands-place q (entry es j) b))))
 
 -- ---- the places counted

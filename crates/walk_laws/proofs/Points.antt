@@ -17,7 +17,7 @@ use Rattle.mesh.specs.Mesh.{Mesh, touched, patch}
 use Rattle.place_laws.proofs.Lists.{any-at, any-hit, any-map}
 use Rattle.place_laws.proofs.Places.{place-path, in-cases, in-here, in-there, any-in, in-any, same-is, same-refl}
 use Rattle.place_laws.proofs.Counting.{any-parts, parts-any}
-use Rattle.place_laws.proofs.Distinct.{in-append, append-left, append-right, keep-in, in-keep}
+use Rattle.place_laws.proofs.Distinct.{in-append, append-left, append-right, distinct-append, keep-in, in-keep}
 use Rattle.place_laws.proofs.Kids.{parent-depth}
 use Rattle.place_laws.proofs.Near.{Corner, c-here, c-east, c-north, c-both, corner-cast, corner-depth, touched-corner, corner-touched}
 use Rattle.place_laws.proofs.Tree.{patch-touched, touched-patch, ghost-kid, kid-ghost}
@@ -43,21 +43,30 @@ box-in e w (suc h) q a l m = go (ℕ-discrete (q .j) h) (box-in e w h q a l)
     go (yes b) ih = append-left q (line e w h) (box e w h) (line-in e w h q a b l)
     go (no b) ih = append-right q (line e w h) (box e w h) (ih (omega arith))
 
-line-depth : (e w j : ℕ) (q : Place) → In q (line e w j) → q .depth ≡ e
-line-depth e zero j q i = absurd i
-line-depth e (suc w) j q i = go (in-cases q (at e w j) (line e w j) i) (line-depth e w j q)
+line-at : (e w j : ℕ) (q : Place) → In q (line e w j) → (q .depth ≡ e) × (q .i < w) × (q .j ≡ j)
+line-at e zero j q i = absurd i
+line-at e (suc w) j q i = go (in-cases q (at e w j) (line e w j) i) (line-at e w j q)
   where
-    go : (q ≡ at e w j) ⊎ In q (line e w j) → (In q (line e w j) → q .depth ≡ e) → q .depth ≡ e
-    go (inl c) ih = ap (λ (x : Place). x .depth) c
-    go (inr a) ih = ih a
+    go : (q ≡ at e w j) ⊎ In q (line e w j) → (In q (line e w j) → (q .depth ≡ e) × (q .i < w) × (q .j ≡ j)) → (q .depth ≡ e) × (q .i < suc w) × (q .j ≡ j)
+    go (inl c) ih = (ap (λ (x : Place). x .depth) c, omega (arith, ap (λ (x : Place). x .i) c), ap (λ (x : Place). x .j) c)
+    go (inr a) ih = let (x, y, z) = ih a in (x, omega arith, z)
 
-pub box-depth : (e w h : ℕ) (q : Place) → In q (box e w h) → q .depth ≡ e
-box-depth e w zero q i = absurd i
-box-depth e w (suc h) q i = go (in-append q (line e w h) (box e w h) i) (box-depth e w h q)
+pub box-at : (e w h : ℕ) (q : Place) → In q (box e w h) → (q .depth ≡ e) × (q .j < h)
+box-at e w zero q i = absurd i
+box-at e w (suc h) q i = go (in-append q (line e w h) (box e w h) i) (box-at e w h q)
   where
-    go : In q (line e w h) ⊎ In q (box e w h) → (In q (box e w h) → q .depth ≡ e) → q .depth ≡ e
-    go (inl a) ih = line-depth e w h q a
-    go (inr a) ih = ih a
+    go : In q (line e w h) ⊎ In q (box e w h) → (In q (box e w h) → (q .depth ≡ e) × (q .j < h)) → (q .depth ≡ e) × (q .j < suc h)
+    go (inl a) ih = let (x, y, z) = line-at e w h q a in (x, omega arith)
+    go (inr a) ih = let (x, z) = ih a in (x, omega arith)
+
+line-distinct : (e w j : ℕ) → Distinct (line e w j)
+line-distinct e zero j = tt
+line-distinct e (suc w) j = (λ t. omega (arith, line-at e w j (at e w j) t .1), line-distinct e w j)
+
+pub box-distinct : (e w h : ℕ) → Distinct (box e w h)
+box-distinct e w zero = tt
+box-distinct e w (suc h) =
+    distinct-append (line e w h) (box e w h) (line-distinct e w h) (box-distinct e w h) (λ q a b. omega (arith, line-at e w h q a .2, box-at e w h q b .1))
 
 -- ---- the corners of a cell
 
@@ -100,7 +109,7 @@ module _ (g : Grid) (c : Place → Bool) (m : Mesh g c) where
       let (r, j, h) = any-parts (same q) (corners g) (cellsOn g c k) (in-distinct q (flat (map (corners g) (cellsOn g c k))) i) in
       let (l, t) = keep-in c (box (base g + k) (g .columns * 2 ^ k) (g .rows * 2 ^ k)) r j in
       let n = in-corner g r q h in
-      (corner-depth n ∙ box-depth (base g + k) (g .columns * 2 ^ k) (g .rows * 2 ^ k) r l, corner-touched g c n t)
+      (corner-depth n ∙ box-at (base g + k) (g .columns * 2 ^ k) (g .rows * 2 ^ k) r l .0, corner-touched g c n t)
 
   pub touched-corners : (k : ℕ) (q : Place) → q .depth ≡ base g + k → T (touched g c q) → In q (cornersOn g c k)
   unfolding cornersOn cellsOn

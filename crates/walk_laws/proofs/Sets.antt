@@ -84,10 +84,10 @@ somes-any q [] = refl
 somes-any q (none ∷ os) = somes-any q os
 somes-any q (some p ∷ os) = rw (somes-any q os)
 
-pub somes-count : (q : Place) (os : List (Option Place)) → count (same q) (somes os) ≡ count (λ o. orElse false (same q) o) os
-somes-count q [] = refl
-somes-count q (none ∷ os) = somes-count q os ∙ omega arith
-somes-count q (some p ∷ os) = rw (somes-count q os)
+pub somes-count : (f : Place → Bool) (os : List (Option Place)) → count f (somes os) ≡ count (λ o. orElse false f o) os
+somes-count f [] = refl
+somes-count f (none ∷ os) = somes-count f os ∙ omega arith
+somes-count f (some p ∷ os) = rw (somes-count f os)
 
 pub somes-length : (os : List (Option Place)) → length (somes os) ≡ count isSome os
 somes-length [] = refl

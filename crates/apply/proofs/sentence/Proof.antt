@@ -16,10 +16,10 @@ same-length : tie.Need-same-length
 same-length c = search needs
 
 returns : tie.Need-returns
-returns c = (refused-applied _ _ _ _ _ (sentence-decides _ _ _ _ _ (c .before .sentence-refusal .ensures)) (c .if1 .taken), refl)
+returns c = (refused-applied _ _ _ _ _ (sentence-decides _ _ _ _ _ _ (c .before .sentence-refusal .ensures)) (c .if1 .taken), refl)
 
 sentence-at-requires : tie.Need-sentence-at-requires
-sentence-at-requires c κs = (omega (arith, sentence-within _ _ _ (c .before .before .sentence-refusal .ensures) (c .before .if1 .left)), c .before .before .before .before .before .pre .tame .flags _)
+sentence-at-requires c κs = (omega (arith, sentence-within _ _ _ (c .before .before .sentence-refusal .ensures) (c .before .if1 .left)), c .before .before .before .before .before .before .pre .tame .flags _)
 
 same-length-2 : tie.Need-same-length-2
 same-length-2 c = search needs
@@ -27,8 +27,8 @@ same-length-2 c = search needs
 returns-2 : tie.Need-returns-2
 returns-2 c =
     let b = c .before .before .before in
-    let a = sentence-applied _ _ _ _ _ _ (b .before .sentence-refusal .ensures) (b .if1 .left) (c .before .sentence-at .ensures) in
-    (a, sentence-free (b .before .before .before .before .pre) _ a)
+    let a = sentence-applied _ _ _ _ _ _ _ (b .before .sentence-refusal .ensures) (b .if1 .left) (c .before .sentence-at .ensures) in
+    (a, sentence-free (b .before .before .before .before .before .pre) _ a)
 
 pub sentence-spec : {M : Type 1} → statement M
 sentence-spec =

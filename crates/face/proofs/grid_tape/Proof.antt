@@ -43,7 +43,7 @@ use denote.Triple.Walked.{says, Stays, stay-ref, gave-slice, gave-ref, stay-none
 use denote.Exit.{yes}
 use denote.Signature.{plain}
 use Rattle.face.specs.Outputs.{Tapes}
-use Rattle.header.specs.Headers.{lentOf}
+use Rattle.header.specs.Headers.{countedOf}
 use Rattle.header.specs.declared.Header.{Header}
 use Rattle.header.proofs.Header as T
 use Rattle.header.proofs.Header.Laws as T′
@@ -60,13 +60,13 @@ use Rattle.face.proofs.grid_tape.Statement as stated
 use Rattle.face.proofs.grid_tape.Code as code
 
 abbrev stayed : Stays (entry.ended .signature .params) (entry.ended .kept)
-stayed = (stay-ref (0 ∷ []) tt (plain (λ _. T.the-row)), (gave-slice (1 ∷ []) tt (plain (λ _. i32)), (gave-slice (2 ∷ []) tt (plain (λ _. f64)), (stay-none (λ _. u32) yes, (stay-none-slice (3 ∷ []) tt (plain (λ _. u8)) yes, (gave-ref (4 ∷ []) tt (plain (λ _. usize)), (gave-ref (5 ∷ []) tt (plain (λ _. usize)), tt)))))))
+stayed = (stay-ref (0 ∷ []) tt (plain (λ _. T.the-row)), (gave-slice (1 ∷ []) tt (plain (λ _. i32)), (gave-slice (2 ∷ []) tt (plain (λ _. f64)), (gave-slice (3 ∷ []) tt (plain (λ _. u32)), (stay-none (λ _. u32) yes, (stay-none-slice (4 ∷ []) tt (plain (λ _. u8)) yes, (gave-ref (5 ∷ []) tt (plain (λ _. usize)), (gave-ref (6 ∷ []) tt (plain (λ _. usize)), tt))))))))
 
 -- the contract that the proof cites
 abbrev Core : {M : Type 1} (𝓤 : URA M) (H : Heap 𝓤) (A : Atoms 𝓤) (mem : Memory → SProp 𝓤) (run : Routine → Fun 𝓤) → Contract 𝓤
 Core 𝓤 H A mem run = tripleOf 𝓤 H A core.signature (core.spec 𝓤 H A mem run)
 
-module _ {M : Type 1} (𝓤 : URA M) (H : Heap 𝓤) (A : Atoms 𝓤) (W : Given 𝓤 H A) (at-mem : Memory → SProp 𝓤) (run : Routine → Fun 𝓤) (κ0 κ1 κ2 κ3 κ4 κ5 : Lft) (q0 q1 q2 q3 q4 q5 : Share) (b o : ℕ) (γ : GName) (h : Header) (x1 : RefT (List ℤ)) (x2 : RefT (List Float)) (x3 : ℕ) (x4 : RefT (List ℕ)) (x5 : RefT ℕ) (x6 : RefT ℕ) (fit3 : x3 < 2 ^ 32) where
+module _ {M : Type 1} (𝓤 : URA M) (H : Heap 𝓤) (A : Atoms 𝓤) (W : Given 𝓤 H A) (at-mem : Memory → SProp 𝓤) (run : Routine → Fun 𝓤) (κ0 κ1 κ2 κ3 κ4 κ5 κ6 : Lft) (q0 q1 q2 q3 q4 q5 q6 : Share) (b o : ℕ) (γ : GName) (h : Header) (x1 : RefT (List ℤ)) (x2 : RefT (List Float)) (x3 : RefT (List ℕ)) (x4 : ℕ) (x5 : RefT (List ℕ)) (x6 : RefT ℕ) (x7 : RefT ℕ) (fit4 : x4 < 2 ^ 32) where
   abbrev R : RattleType
   R = T.the-row
 
@@ -82,26 +82,29 @@ module _ {M : Type 1} (𝓤 : URA M) (H : Heap 𝓤) (A : Atoms 𝓤) (W : Given
   abbrev v2 : Val
   v2 = sliceVal (x2 .ptr) (length (x2 .now))
 
-  abbrev v4 : Val
-  v4 = sliceVal (x4 .ptr) (length (x4 .now))
+  abbrev v3 : Val
+  v3 = sliceVal (x3 .ptr) (length (x3 .now))
 
   abbrev v5 : Val
-  v5 = vptr (x5 .ptr .0) (x5 .ptr .1)
+  v5 = sliceVal (x5 .ptr) (length (x5 .now))
 
   abbrev v6 : Val
   v6 = vptr (x6 .ptr .0) (x6 .ptr .1)
 
+  abbrev v7 : Val
+  v7 = vptr (x7 .ptr .0) (x7 .ptr .1)
+
   abbrev Arg : Type 0
-  Arg = (RefT Header × (RefT (List ℤ) × (RefT (List Float) × (ℕ × (RefT (List ℕ) × (RefT ℕ × (RefT ℕ × Unit {0})))))))
+  Arg = (RefT Header × (RefT (List ℤ) × (RefT (List Float) × (RefT (List ℕ) × (ℕ × (RefT (List ℕ) × (RefT ℕ × (RefT ℕ × Unit {0}))))))))
 
   abbrev a : Arg
-  a = (record { ptr = (b, o); name = γ; now = h }, (x1, (x2, (x3, (x4, (x5, (x6, tt)))))))
+  a = (record { ptr = (b, o); name = γ; now = h }, (x1, (x2, (x3, (x4, (x5, (x6, (x7, tt))))))))
 
-  abbrev vals : (List Val × (List Val × (List Val × (List Val × (List Val × (List Val × (List Val × Unit {0})))))))
-  vals = (vptr b o ∷ [], (v1 ∷ [], (v2 ∷ [], (vint w32 x3 ∷ [], (v4 ∷ [], (v5 ∷ [], (v6 ∷ [], tt)))))))
+  abbrev vals : (List Val × (List Val × (List Val × (List Val × (List Val × (List Val × (List Val × (List Val × Unit {0}))))))))
+  vals = (vptr b o ∷ [], (v1 ∷ [], (v2 ∷ [], (v3 ∷ [], (vint w32 x4 ∷ [], (v5 ∷ [], (v6 ∷ [], (v7 ∷ [], tt))))))))
 
   abbrev Post : Val → SProp 𝓤
-  Post = walkOf 𝓤 H A entry.ended stayed (entry.clauses 𝓤 H A at-mem run) .post (((κ0, (κ1, (κ2, (κ3, (κ4, (κ5, tt)))))), (q0, (q1, (q2, (q3, (q4, (q5, tt)))))), tt, a, vals), tt)
+  Post = walkOf 𝓤 H A entry.ended stayed (entry.clauses 𝓤 H A at-mem run) .post (((κ0, (κ1, (κ2, (κ3, (κ4, (κ5, (κ6, tt))))))), (q0, (q1, (q2, (q3, (q4, (q5, (q6, tt))))))), tt, a, vals), tt)
 
   abbrev Own1 : Fml
   Own1 = MutSlice (named 0) κ1 i32 .own x1 (v1 ∷ [])
@@ -109,27 +112,30 @@ module _ {M : Type 1} (𝓤 : URA M) (H : Heap 𝓤) (A : Atoms 𝓤) (W : Given
   abbrev Own2 : Fml
   Own2 = MutSlice (named 1) κ2 f64 .own x2 (v2 ∷ [])
 
-  abbrev Own4 : Fml
-  Own4 = ShrSlice (named 2) κ3 u8 .own x4 (v4 ∷ [])
+  abbrev Own3 : Fml
+  Own3 = MutSlice (named 2) κ3 u32 .own x3 (v3 ∷ [])
 
   abbrev Own5 : Fml
-  Own5 = MutRef (named 3) κ4 usize .own x5 (v5 ∷ [])
+  Own5 = ShrSlice (named 3) κ4 u8 .own x5 (v5 ∷ [])
 
   abbrev Own6 : Fml
   Own6 = MutRef (named 4) κ5 usize .own x6 (v6 ∷ [])
 
+  abbrev Own7 : Fml
+  Own7 = MutRef (named 5) κ6 usize .own x7 (v7 ∷ [])
+
   abbrev Passed : Type 0
-  Passed = (Header × (RefT (List ℤ) × (RefT (List Float) × (ℕ × (RefT (List ℕ) × (RefT ℕ × (RefT ℕ × Unit {0})))))))
+  Passed = (Header × (RefT (List ℤ) × (RefT (List Float) × (RefT (List ℕ) × (ℕ × (RefT (List ℕ) × (RefT ℕ × (RefT ℕ × Unit {0}))))))))
 
   abbrev passed : Passed
-  passed = (h, (x1, (x2, (x3, (x4, (x5, (x6, tt)))))))
+  passed = (h, (x1, (x2, (x3, (x4, (x5, (x6, (x7, tt))))))))
 
   abbrev to-core : Core 𝓤 H A at-mem run .Ghost
-  to-core = (((κ1, (κ2, (κ3, (κ4, (κ5, tt))))), (q1, (q2, (q3, (q4, (q5, tt))))), tt, passed, (mach h ∷ [], (v1 ∷ [], (v2 ∷ [], (vint w32 x3 ∷ [], (v4 ∷ [], (v5 ∷ [], (v6 ∷ [], tt)))))))), tt)
+  to-core = (((κ1, (κ2, (κ3, (κ4, (κ5, (κ6, tt)))))), (q1, (q2, (q3, (q4, (q5, (q6, tt)))))), tt, passed, (mach h ∷ [], (v1 ∷ [], (v2 ∷ [], (v3 ∷ [], (vint w32 x4 ∷ [], (v5 ∷ [], (v6 ∷ [], (v7 ∷ [], tt))))))))), tt)
 
-  goes : Is R h (mach h ∷ []) → ent 𝓤 (⋆ 𝓤 H A ((‵ (flft κ1 q1) ⊛ ‵ (flft κ2 q2) ⊛ ‵ (flft κ3 q3) ⊛ ‵ (flft κ4 q4) ⊛ ‵ (flft κ5 q5) ⊛ ‵ ftrue) ∷ ‵ Own1 ∷ ‵ Own2 ∷ ‵ Own4 ∷ ‵ Own5 ∷ ‵ Own6 ∷ [])) (Core 𝓤 H A at-mem run .pre to-core)
+  goes : Is R h (mach h ∷ []) → ent 𝓤 (⋆ 𝓤 H A ((‵ (flft κ1 q1) ⊛ ‵ (flft κ2 q2) ⊛ ‵ (flft κ3 q3) ⊛ ‵ (flft κ4 q4) ⊛ ‵ (flft κ5 q5) ⊛ ‵ (flft κ6 q6) ⊛ ‵ ftrue) ∷ ‵ Own1 ∷ ‵ Own2 ∷ ‵ Own3 ∷ ‵ Own5 ∷ ‵ Own6 ∷ ‵ Own7 ∷ [])) (Core 𝓤 H A at-mem run .pre to-core)
   goes was =
-      qed W ((‵ (flft κ1 q1) ⊛ ‵ (flft κ2 q2) ⊛ ‵ (flft κ3 q3) ⊛ ‵ (flft κ4 q4) ⊛ ‵ (flft κ5 q5) ⊛ ‵ ftrue) ∷ ‵ Own1 ∷ ‵ Own2 ∷ ‵ Own4 ∷ ‵ Own5 ∷ ‵ Own6 ∷ []) ∵ nothing ! $ move ! (6 ∷ 0 ∷ []) $ fjoin ! $ move ! (5 ∷ 0 ∷ []) $ fjoin ! $ move ! (4 ∷ 0 ∷ []) $ fjoin ! $ owned ! u32 (Is u32) (uint-makes 𝓤 H A W w32) x3 _ (refl, fit3) $ fjoin ! $ move ! (3 ∷ 0 ∷ []) $ fjoin ! $ move ! (2 ∷ 0 ∷ []) $ fjoin ! $ owned ! R (Is R) (LL.makes T.the-type T′.the-plain 𝓤 H A) h _ was $ fjoin ! $ move ! (1 ∷ 0 ∷ []) $ join ! $ frame ! $ done !
+      qed W ((‵ (flft κ1 q1) ⊛ ‵ (flft κ2 q2) ⊛ ‵ (flft κ3 q3) ⊛ ‵ (flft κ4 q4) ⊛ ‵ (flft κ5 q5) ⊛ ‵ (flft κ6 q6) ⊛ ‵ ftrue) ∷ ‵ Own1 ∷ ‵ Own2 ∷ ‵ Own3 ∷ ‵ Own5 ∷ ‵ Own6 ∷ ‵ Own7 ∷ []) ∵ nothing ! $ move ! (7 ∷ 0 ∷ []) $ fjoin ! $ move ! (6 ∷ 0 ∷ []) $ fjoin ! $ move ! (5 ∷ 0 ∷ []) $ fjoin ! $ owned ! u32 (Is u32) (uint-makes 𝓤 H A W w32) x4 _ (refl, fit4) $ fjoin ! $ move ! (4 ∷ 0 ∷ []) $ fjoin ! $ move ! (3 ∷ 0 ∷ []) $ fjoin ! $ move ! (2 ∷ 0 ∷ []) $ fjoin ! $ owned ! R (Is R) (LL.makes T.the-type T′.the-plain 𝓤 H A) h _ was $ fjoin ! $ move ! (1 ∷ 0 ∷ []) $ join ! $ frame ! $ done !
 
   of-header : (r : Left) (u : Val) → Is Co.the-row r (u ∷ []) → Is R (r .header) (mach (r .header) ∷ [])
   of-header r u is = LL.owed Co.the-type Co′.the-laws r _ is .0
@@ -137,52 +143,54 @@ module _ {M : Type 1} (𝓤 : URA M) (H : Heap 𝓤) (A : Atoms 𝓤) (W : Given
   of-answer : (r : Left) (u : Val) → Is Co.the-row r (u ∷ []) → Is u32 (r .answer) (answered r ∷ [])
   of-answer r u is = LL.owed Co.the-type Co′.the-laws r _ is .1 .0
 
-  exits : (r : Left) (u : Val) (z1 : List ℤ) (z2 : List Float) (z5 : ℕ) (z6 : ℕ) → Is Co.the-row r (u ∷ []) → Tapes (lentOf h (x1 .now) (x2 .now)) x3 (x4 .now) (lentOf (r .header) z1 z2) z5 z6 (r .answer) → length z1 ≡ length (x1 .now) → length z2 ≡ length (x2 .now)
-      → ent 𝓤 (⋆ 𝓤 H A (‵ (fobs γ (R .coded .code (r .header))) ∷ ‵ (fbor κ0 (Body (mem R) b o γ)) ∷ ‵ (flft κ0 q0) ∷ (‵ (flft κ1 q1) ⊛ ‵ (flft κ2 q2) ⊛ ‵ (flft κ3 q3) ⊛ ‵ (flft κ4 q4) ⊛ ‵ (flft κ5 q5) ⊛ ‵ ftrue) ∷ ‵ (finally i32 (x1 .name) z1) ∷ ‵ (finally f64 (x2 .name) z2) ∷ ‵ Own4 ∷ ‵ (fres (x5 .name) (usize .coded .code z5)) ∷ ‵ (fres (x6 .name) (usize .coded .code z6)) ∷ [])) (Post (answered r))
-  exits r u z1 z2 z5 z6 is e l1 l2 =
-      qed W (‵ (fobs γ (R .coded .code (r .header))) ∷ ‵ (fbor κ0 (Body (mem R) b o γ)) ∷ ‵ (flft κ0 q0) ∷ (‵ (flft κ1 q1) ⊛ ‵ (flft κ2 q2) ⊛ ‵ (flft κ3 q3) ⊛ ‵ (flft κ4 q4) ⊛ ‵ (flft κ5 q5) ⊛ ‵ ftrue) ∷ ‵ (finally i32 (x1 .name) z1) ∷ ‵ (finally f64 (x2 .name) z2) ∷ ‵ Own4 ∷ ‵ (fres (x5 .name) (usize .coded .code z5)) ∷ ‵ (fres (x6 .name) (usize .coded .code z6)) ∷ []) ∵
-      suffices ! _ (ends-at 𝓤 H A entry.ended stayed (entry.clauses 𝓤 H A at-mem run) W (((κ0, (κ1, (κ2, (κ3, (κ4, (κ5, tt)))))), (q0, (q1, (q2, (q3, (q4, (q5, tt)))))), tt, a, vals), tt) (answered r) (r .answer) (r .header, (z1, (z2, (tt, (tt, (z5, (z6, tt))))))) (tt, (l1, (l2, (tt, (tt, (tt, (tt, tt)))))))) $ says ! e $
-      move ! (2 ∷ 3 ∷ []) $ join ! $ frame ! $ feqI ! (List Val) (vptr b o ∷ []) (vptr b o ∷ []) refl $ fjoin3 ! $ nothing ! $ move ! (6 ∷ 0 ∷ []) $ fjoin ! $ move ! (5 ∷ 0 ∷ []) $ fjoin ! $ move ! (4 ∷ 0 ∷ []) $ fjoin ! $ owned ! u32 (Is u32) (uint-makes 𝓤 H A W w32) x3 _ (refl, fit3) $ fjoin ! $ move ! (3 ∷ 0 ∷ []) $ fjoin ! $ move ! (2 ∷ 0 ∷ []) $ fjoin ! $ move ! (1 ∷ 0 ∷ []) $ fjoin ! $ owned ! u32 (Is u32) (uint-makes 𝓤 H A W w32) (r .answer) _ (of-answer r u is) $ move ! (1 ∷ 0 ∷ []) $ done !
+  exits : (r : Left) (u : Val) (z1 : List ℤ) (z2 : List Float) (z3 : List ℕ) (z6 : ℕ) (z7 : ℕ) → Is Co.the-row r (u ∷ []) → Tapes (countedOf h (x1 .now) (x2 .now) (x3 .now)) x4 (x5 .now) (countedOf (r .header) z1 z2 z3) z6 z7 (r .answer) → length z1 ≡ length (x1 .now) → length z2 ≡ length (x2 .now) → length z3 ≡ length (x3 .now)
+      → ent 𝓤 (⋆ 𝓤 H A (‵ (fobs γ (R .coded .code (r .header))) ∷ ‵ (fbor κ0 (Body (mem R) b o γ)) ∷ ‵ (flft κ0 q0) ∷ (‵ (flft κ1 q1) ⊛ ‵ (flft κ2 q2) ⊛ ‵ (flft κ3 q3) ⊛ ‵ (flft κ4 q4) ⊛ ‵ (flft κ5 q5) ⊛ ‵ (flft κ6 q6) ⊛ ‵ ftrue) ∷ ‵ (finally i32 (x1 .name) z1) ∷ ‵ (finally f64 (x2 .name) z2) ∷ ‵ (finally u32 (x3 .name) z3) ∷ ‵ Own5 ∷ ‵ (fres (x6 .name) (usize .coded .code z6)) ∷ ‵ (fres (x7 .name) (usize .coded .code z7)) ∷ [])) (Post (answered r))
+  exits r u z1 z2 z3 z6 z7 is e l1 l2 l3 =
+      qed W (‵ (fobs γ (R .coded .code (r .header))) ∷ ‵ (fbor κ0 (Body (mem R) b o γ)) ∷ ‵ (flft κ0 q0) ∷ (‵ (flft κ1 q1) ⊛ ‵ (flft κ2 q2) ⊛ ‵ (flft κ3 q3) ⊛ ‵ (flft κ4 q4) ⊛ ‵ (flft κ5 q5) ⊛ ‵ (flft κ6 q6) ⊛ ‵ ftrue) ∷ ‵ (finally i32 (x1 .name) z1) ∷ ‵ (finally f64 (x2 .name) z2) ∷ ‵ (finally u32 (x3 .name) z3) ∷ ‵ Own5 ∷ ‵ (fres (x6 .name) (usize .coded .code z6)) ∷ ‵ (fres (x7 .name) (usize .coded .code z7)) ∷ []) ∵
+      suffices ! _ (ends-at 𝓤 H A entry.ended stayed (entry.clauses 𝓤 H A at-mem run) W (((κ0, (κ1, (κ2, (κ3, (κ4, (κ5, (κ6, tt))))))), (q0, (q1, (q2, (q3, (q4, (q5, (q6, tt))))))), tt, a, vals), tt) (answered r) (r .answer) (r .header, (z1, (z2, (z3, (tt, (tt, (z6, (z7, tt)))))))) (tt, (l1, (l2, (l3, (tt, (tt, (tt, (tt, tt))))))))) $ says ! e $
+      move ! (2 ∷ 3 ∷ []) $ join ! $ frame ! $ feqI ! (List Val) (vptr b o ∷ []) (vptr b o ∷ []) refl $ fjoin3 ! $ nothing ! $ move ! (7 ∷ 0 ∷ []) $ fjoin ! $ move ! (6 ∷ 0 ∷ []) $ fjoin ! $ move ! (5 ∷ 0 ∷ []) $ fjoin ! $ owned ! u32 (Is u32) (uint-makes 𝓤 H A W w32) x4 _ (refl, fit4) $ fjoin ! $ move ! (4 ∷ 0 ∷ []) $ fjoin ! $ move ! (3 ∷ 0 ∷ []) $ fjoin ! $ move ! (2 ∷ 0 ∷ []) $ fjoin ! $ move ! (1 ∷ 0 ∷ []) $ fjoin ! $ owned ! u32 (Is u32) (uint-makes 𝓤 H A W w32) (r .answer) _ (of-answer r u is) $ move ! (1 ∷ 0 ∷ []) $ done !
 
   module _ (C : Calls 𝓤 H) (Λ : Loops 𝓤 H) (fm : FmC 𝓤 H (W .laws) C) (known : Triple 𝓤 (C #core) (Core 𝓤 H A at-mem run)) where
-    walk : Room i32 (length (x1 .now)) → Room f64 (length (x2 .now)) → Room u8 (length (x4 .now)) → ent 𝓤 (onEntry 𝓤 H A entry.signature (κ0, (κ1, (κ2, (κ3, (κ4, (κ5, tt)))))) (q0, (q1, (q2, (q3, (q4, (q5, tt)))))) a vals) (WpFn 𝓤 H C Λ code.function (vptr b o ∷ v1 ∷ v2 ∷ vint w32 x3 ∷ v4 ∷ v5 ∷ v6 ∷ []) Post)
-    walk room1 room2 room4 =
-        qed W ((‵ (flft κ0 q0) ⊛ ‵ (flft κ1 q1) ⊛ ‵ (flft κ2 q2) ⊛ ‵ (flft κ3 q3) ⊛ ‵ (flft κ4 q4) ⊛ ‵ (flft κ5 q5) ⊛ ‵ ftrue) ∷ ‵ (owns (MutRef (named 0) κ0 R ∷ MutSlice (named 1) κ1 i32 ∷ MutSlice (named 2) κ2 f64 ∷ u32 ∷ ShrSlice (named 3) κ3 u8 ∷ MutRef (named 4) κ4 usize ∷ MutRef (named 5) κ5 usize ∷ []) a vals) ∷ []) ∵
-        move ! (1 ∷ []) $ fsplit ! $ fsplit3 ! $ drop ! $ move ! (2 ∷ []) $ fsplit ! $ move ! (1 ∷ []) $ fsplit ! $ move ! (1 ∷ []) $ fsplit ! $ move ! (1 ∷ []) $ fsplit ! $ use1 W (‵ Own4 ⊛ ‵ Own4) (shr-slice-copy 𝓤 H A W (named 2) κ3 u8 .twice x4 (v4 ∷ [])) $ split ! $ move ! (2 ∷ []) $ fsplit ! $ move ! (1 ∷ []) $ fsplit ! $ move ! (10 ∷ []) $ split ! $ move ! (10 ∷ 11 ∷ 0 ∷ []) $
-        enter ! C Λ code.function (vptr b o ∷ v1 ∷ v2 ∷ vint w32 x3 ∷ v4 ∷ v5 ∷ v6 ∷ []) _ $
-        alloc1 ! (λ m0. alloc1 ! (λ m1. alloc1 ! (λ m2. alloc1 ! (λ m3. alloc1 ! (λ m4. alloc1 ! (λ m5. alloc1 ! (λ m6. alloc1 ! (λ m7. alloc1 ! (λ m8. alloc1 ! (λ m9. alloc1 ! (λ m10. alloc1 ! (λ m11. alloc1 ! (λ m12. alloc1 ! (λ m13. alloc1 ! (λ m14. alloc1 ! (λ m15. alloc0 ! $ params1 ! $
-        pass1 ! (init ! 28 refl (tt, tt)) $ pass1 ! (init ! 26 refl (tt, (tt, (record { fits = room1 .0 }, tt)))) $ pass1 ! (init ! 24 refl (tt, (tt, (record { fits = room2 .0 }, tt)))) $ pass1 ! (init ! 22 refl (tt, record { fits = fit3 })) $ pass1 ! (init ! 20 refl (tt, (tt, (record { fits = room4 .0 }, tt)))) $ pass1 ! (init ! 18 refl (tt, tt)) $ pass1 ! (init ! 16 refl (tt, tt)) $ pass0 ! $
-        move ! (32 ∷ 33 ∷ 34 ∷ []) $ opens ! tt R {h = h} b o (λ vs. spelt ! R (Is R) (shows 𝓤 H A R) (LL.vals T.the-type T′.the-laws) (LL.tells T.the-type T′.the-laws) fullShare h vs b o $
+    walk : Room i32 (length (x1 .now)) → Room f64 (length (x2 .now)) → Room u32 (length (x3 .now)) → Room u8 (length (x5 .now)) → ent 𝓤 (onEntry 𝓤 H A entry.signature (κ0, (κ1, (κ2, (κ3, (κ4, (κ5, (κ6, tt))))))) (q0, (q1, (q2, (q3, (q4, (q5, (q6, tt))))))) a vals) (WpFn 𝓤 H C Λ code.function (vptr b o ∷ v1 ∷ v2 ∷ v3 ∷ vint w32 x4 ∷ v5 ∷ v6 ∷ v7 ∷ []) Post)
+    walk room1 room2 room3 room5 =
+        qed W ((‵ (flft κ0 q0) ⊛ ‵ (flft κ1 q1) ⊛ ‵ (flft κ2 q2) ⊛ ‵ (flft κ3 q3) ⊛ ‵ (flft κ4 q4) ⊛ ‵ (flft κ5 q5) ⊛ ‵ (flft κ6 q6) ⊛ ‵ ftrue) ∷ ‵ (owns (MutRef (named 0) κ0 R ∷ MutSlice (named 1) κ1 i32 ∷ MutSlice (named 2) κ2 f64 ∷ MutSlice (named 3) κ3 u32 ∷ u32 ∷ ShrSlice (named 4) κ4 u8 ∷ MutRef (named 5) κ5 usize ∷ MutRef (named 6) κ6 usize ∷ []) a vals) ∷ []) ∵
+        move ! (1 ∷ []) $ fsplit ! $ fsplit3 ! $ drop ! $ move ! (2 ∷ []) $ fsplit ! $ move ! (1 ∷ []) $ fsplit ! $ move ! (1 ∷ []) $ fsplit ! $ move ! (1 ∷ []) $ fsplit ! $ move ! (1 ∷ []) $ fsplit ! $ use1 W (‵ Own5 ⊛ ‵ Own5) (shr-slice-copy 𝓤 H A W (named 3) κ4 u8 .twice x5 (v5 ∷ [])) $ split ! $ move ! (2 ∷ []) $ fsplit ! $ move ! (1 ∷ []) $ fsplit ! $ move ! (11 ∷ []) $ split ! $ move ! (11 ∷ 12 ∷ 0 ∷ []) $
+        enter ! C Λ code.function (vptr b o ∷ v1 ∷ v2 ∷ v3 ∷ vint w32 x4 ∷ v5 ∷ v6 ∷ v7 ∷ []) _ $
+        alloc1 ! (λ m0. alloc1 ! (λ m1. alloc1 ! (λ m2. alloc1 ! (λ m3. alloc1 ! (λ m4. alloc1 ! (λ m5. alloc1 ! (λ m6. alloc1 ! (λ m7. alloc1 ! (λ m8. alloc1 ! (λ m9. alloc1 ! (λ m10. alloc1 ! (λ m11. alloc1 ! (λ m12. alloc1 ! (λ m13. alloc1 ! (λ m14. alloc1 ! (λ m15. alloc1 ! (λ m16. alloc1 ! (λ m17. alloc1 ! (λ m18. alloc0 ! $ params1 ! $
+        pass1 ! (init ! 34 refl (tt, tt)) $ pass1 ! (init ! 32 refl (tt, (tt, (record { fits = room1 .0 }, tt)))) $ pass1 ! (init ! 30 refl (tt, (tt, (record { fits = room2 .0 }, tt)))) $ pass1 ! (init ! 28 refl (tt, (tt, (record { fits = room3 .0 }, tt)))) $ pass1 ! (init ! 26 refl (tt, record { fits = fit4 })) $ pass1 ! (init ! 24 refl (tt, (tt, (record { fits = room5 .0 }, tt)))) $ pass1 ! (init ! 22 refl (tt, tt)) $ pass1 ! (init ! 20 refl (tt, tt)) $ pass0 ! $
+        move ! (38 ∷ 39 ∷ 40 ∷ []) $ opens ! tt R {h = h} b o (λ vs. spelt ! R (Is R) (shows 𝓤 H A R) (LL.vals T.the-type T′.the-laws) (LL.tells T.the-type T′.the-laws) fullShare h vs b o $
         move ! (1 ∷ []) $ peeks ! R (Is R) (shows 𝓤 H A R) h (mach h ∷ []) (λ was. move ! (1 ∷ 0 ∷ []) $
-        assigns ! (of-opd ! (load ! (from ! (hop ! (look ! 33 refl) (stop !))) (look-raw ! 0 refl))) (from ! (stop !)) (init ! 17 refl (LL.lawful T.the-type T′.the-laws 𝓤 H A W .typed h _ was .0)) $
-        assigns ! (addr ! (from ! (fld ! refl (hop ! (look-in ! 31 (sub ! 0 refl (whole !))) (stop !))))) (from ! (stop !)) (init ! 15 refl (tt, tt)) $
-        assigns ! (agg ! (and-then ! (load ! (from ! (stop !)) (look ! 15 refl)) (and-then ! (load ! (from ! (fld ! refl (stop !))) (look-in ! 31 (sub ! 1 refl (whole !)))) (no-more !)))) (from ! (stop !)) (init ! 13 refl (tt, (tt, (record { fits = room1 .0 }, tt)))) $
-        assigns ! (addr ! (from ! (fld ! refl (hop ! (look-in ! 29 (sub ! 0 refl (whole !))) (stop !))))) (from ! (stop !)) (init ! 11 refl (tt, tt)) $
-        assigns ! (agg ! (and-then ! (load ! (from ! (stop !)) (look ! 11 refl)) (and-then ! (load ! (from ! (fld ! refl (stop !))) (look-in ! 29 (sub ! 1 refl (whole !)))) (no-more !)))) (from ! (stop !)) (init ! 9 refl (tt, (tt, (record { fits = room2 .0 }, tt)))) $
-        assigns ! (addr ! (from ! (hop ! (look ! 23 refl) (stop !)))) (from ! (stop !)) (init ! 7 refl (tt, tt)) $
-        assigns ! (addr ! (from ! (hop ! (look ! 21 refl) (stop !)))) (from ! (stop !)) (init ! 5 refl (tt, tt)) $
-        move ! (40 ∷ 38 ∷ []) $ join ! $ move ! (41 ∷ 0 ∷ []) $ join ! $ move ! (42 ∷ 0 ∷ []) $ join ! $ move ! (42 ∷ 0 ∷ []) $ join ! $ move ! (38 ∷ 0 ∷ []) $ join ! $ move ! (0 ∷ []) $ use1 W (raw (Core 𝓤 H A at-mem run .pre to-core)) (goes was) $
-        calls-at ! fm (Core 𝓤 H A at-mem run) known to-core (and-then ! (load ! (from ! (stop !)) (look ! 18 refl)) (and-then ! (load ! (from ! (stop !)) (look ! 14 refl)) (and-then ! (load ! (from ! (stop !)) (look ! 10 refl)) (and-then ! (load ! (from ! (stop !)) (look ! 28 refl)) (and-then ! (load ! (from ! (stop !)) (look ! 26 refl)) (and-then ! (load ! (from ! (stop !)) (look ! 8 refl)) (and-then ! (load ! (from ! (stop !)) (look ! 6 refl)) (no-more !)))))))) (λ u.
-        use1 W (later (some (λ (r : Left). ((‵ (flft κ1 q1) ⊛ ‵ (flft κ2 q2) ⊛ ‵ (flft κ3 q3) ⊛ ‵ (flft κ4 q4) ⊛ ‵ (flft κ5 q5) ⊛ ‵ ftrue) ⊛ ‵ (Co.the-row .own r (u ∷ []))) ⊛ raw (ensured 𝓤 H A core.ended (core.clauses 𝓤 H A at-mem run) (κ1, (κ2, (κ3, (κ4, (κ5, tt))))) passed tt r)))) (id⊢ 𝓤 _) $ await ! tt $ pick ! (λ r.
-        split ! $ move ! (1 ∷ []) $ use1 W (some (λ (zs : (Unit {0} × (List ℤ × (List Float × (Unit {0} × (Unit {0} × (ℕ × (ℕ × Unit {0})))))))). ‵ (lasts core.ended (κ1, (κ2, (κ3, (κ4, (κ5, tt))))) passed zs) ⊛ raw (fact 𝓤 (Tapes (lentOf h (x1 .now) (x2 .now)) x3 (x4 .now) (lentOf (r .header) (zs .1 .0) (zs .1 .1 .0)) (zs .1 .1 .1 .1 .1 .0) (zs .1 .1 .1 .1 .1 .1 .0) (r .answer))))) (id⊢ 𝓤 _) $ pick ! (λ zs.
-        split ! $ move ! (1 ∷ []) $ heard ! (Tapes (lentOf h (x1 .now) (x2 .now)) x3 (x4 .now) (lentOf (r .header) (zs .1 .0) (zs .1 .1 .0)) (zs .1 .1 .1 .1 .1 .0) (zs .1 .1 .1 .1 .1 .1 .0) (r .answer)) (λ e. fsplit ! $ drop ! $ move ! (0 ∷ []) $ fsplit ! $ fsplit ! $ move ! (1 ∷ []) $ feqL ! (λ l1. move ! (1 ∷ []) $ fsplit ! $ fsplit ! $ move ! (1 ∷ []) $ feqL ! (λ l2. move ! (1 ∷ []) $ fsplit ! $ move ! (1 ∷ []) $ fsplit ! $ move ! (1 ∷ []) $ fsplit ! $ move ! (1 ∷ []) $ fsplit ! $
-        move ! (7 ∷ []) $ split ! $ move ! (1 ∷ []) $ peeks ! Co.the-row (Is Co.the-row) (shows 𝓤 H A Co.the-row) r (u ∷ []) (λ is.
-        land ! (from ! (stop !)) (init ! 28 refl (LL.lawful Co.the-type Co′.the-laws 𝓤 H A W .typed r _ is .0)) $ rewrite ! 28 (λ (v : Val). ‵ (fat fullShare Co′.mir m8 0 v)) (ap only (LL.tells Co.the-type Co′.the-laws r _ is)) refl $
-        assigns ! (of-opd ! (load ! (from ! (fld ! refl (stop !))) (look-in ! 28 (sub ! 0 refl (whole !))))) (from ! (hop ! (look ! 42 refl) (stop !))) (store-raw ! 9 refl (LL.lawful T.the-type T′.the-laws 𝓤 H A W .typed (r .header) _ (of-header r u is) .0)) $
-        assigns ! (of-opd ! (load ! (from ! (fld ! refl (stop !))) (look-in ! 28 (sub ! 1 refl (whole !))))) (from ! (stop !)) (init ! 44 refl (uint-lawful 𝓤 H A W w32 .typed (r .answer) _ (of-answer r u is) .0)) $
-        owned ! R (Is R) (LL.makes T.the-type T′.the-plain 𝓤 H A) (r .header) _ (of-header r u is) $ move ! (10 ∷ 0 ∷ 12 ∷ 13 ∷ 14 ∷ []) $ closes ! tt R (r .header) (mach (r .header) ∷ []) b o $
-        returns ! (look ! 43 refl) $ forget ! 13 refl $ forget ! 15 refl $ forget ! 17 refl $ forget ! 19 refl $ forget ! 21 refl $ forget ! 23 refl $ forget ! 25 refl $ forget ! 27 refl $ forget ! 29 refl $ forget ! 31 refl $ forget ! 33 refl $ forget ! 35 refl $ forget ! 37 refl $ forget ! 39 refl $ forget ! 41 refl $ forget ! 43 refl $
-        move ! (43 ∷ 44 ∷ []) $ free1 ! $ move ! (41 ∷ 42 ∷ []) $ free1 ! $ move ! (39 ∷ 40 ∷ []) $ free1 ! $ move ! (37 ∷ 38 ∷ []) $ free1 ! $ move ! (35 ∷ 36 ∷ []) $ free1 ! $ move ! (33 ∷ 34 ∷ []) $ free1 ! $ move ! (31 ∷ 32 ∷ []) $ free1 ! $ move ! (29 ∷ 30 ∷ []) $ free1 ! $ move ! (27 ∷ 28 ∷ []) $ free1 ! $ move ! (25 ∷ 26 ∷ []) $ free1 ! $ move ! (23 ∷ 24 ∷ []) $ free1 ! $ move ! (21 ∷ 22 ∷ []) $ free1 ! $ move ! (19 ∷ 20 ∷ []) $ free1 ! $ move ! (17 ∷ 18 ∷ []) $ free1 ! $ move ! (15 ∷ 16 ∷ []) $ free1 ! $ move ! (13 ∷ 14 ∷ []) $ free1 ! $ free0 ! $
-        keep ! (0 ∷ 1 ∷ 2 ∷ 4 ∷ 11 ∷ 10 ∷ 14 ∷ 7 ∷ 5 ∷ []) $ by ! (exits r u (zs .1 .0) (zs .1 .1 .0) (zs .1 .1 .1 .1 .1 .0) (zs .1 .1 .1 .1 .1 .1 .0) is e l1 l2))))))))))))))))))))))))))
+        assigns ! (of-opd ! (load ! (from ! (hop ! (look ! 39 refl) (stop !))) (look-raw ! 0 refl))) (from ! (stop !)) (init ! 21 refl (LL.lawful T.the-type T′.the-laws 𝓤 H A W .typed h _ was .0)) $
+        assigns ! (addr ! (from ! (fld ! refl (hop ! (look-in ! 37 (sub ! 0 refl (whole !))) (stop !))))) (from ! (stop !)) (init ! 19 refl (tt, tt)) $
+        assigns ! (agg ! (and-then ! (load ! (from ! (stop !)) (look ! 19 refl)) (and-then ! (load ! (from ! (fld ! refl (stop !))) (look-in ! 37 (sub ! 1 refl (whole !)))) (no-more !)))) (from ! (stop !)) (init ! 17 refl (tt, (tt, (record { fits = room1 .0 }, tt)))) $
+        assigns ! (addr ! (from ! (fld ! refl (hop ! (look-in ! 35 (sub ! 0 refl (whole !))) (stop !))))) (from ! (stop !)) (init ! 15 refl (tt, tt)) $
+        assigns ! (agg ! (and-then ! (load ! (from ! (stop !)) (look ! 15 refl)) (and-then ! (load ! (from ! (fld ! refl (stop !))) (look-in ! 35 (sub ! 1 refl (whole !)))) (no-more !)))) (from ! (stop !)) (init ! 13 refl (tt, (tt, (record { fits = room2 .0 }, tt)))) $
+        assigns ! (addr ! (from ! (fld ! refl (hop ! (look-in ! 33 (sub ! 0 refl (whole !))) (stop !))))) (from ! (stop !)) (init ! 11 refl (tt, tt)) $
+        assigns ! (agg ! (and-then ! (load ! (from ! (stop !)) (look ! 11 refl)) (and-then ! (load ! (from ! (fld ! refl (stop !))) (look-in ! 33 (sub ! 1 refl (whole !)))) (no-more !)))) (from ! (stop !)) (init ! 9 refl (tt, (tt, (record { fits = room3 .0 }, tt)))) $
+        assigns ! (addr ! (from ! (hop ! (look ! 27 refl) (stop !)))) (from ! (stop !)) (init ! 7 refl (tt, tt)) $
+        assigns ! (addr ! (from ! (hop ! (look ! 25 refl) (stop !)))) (from ! (stop !)) (init ! 5 refl (tt, tt)) $
+        move ! (46 ∷ 44 ∷ []) $ join ! $ move ! (47 ∷ 0 ∷ []) $ join ! $ move ! (48 ∷ 0 ∷ []) $ join ! $ move ! (48 ∷ 0 ∷ []) $ join ! $ move ! (48 ∷ 0 ∷ []) $ join ! $ move ! (44 ∷ 0 ∷ []) $ join ! $ move ! (0 ∷ []) $ use1 W (raw (Core 𝓤 H A at-mem run .pre to-core)) (goes was) $
+        calls-at ! fm (Core 𝓤 H A at-mem run) known to-core (and-then ! (load ! (from ! (stop !)) (look ! 22 refl)) (and-then ! (load ! (from ! (stop !)) (look ! 18 refl)) (and-then ! (load ! (from ! (stop !)) (look ! 14 refl)) (and-then ! (load ! (from ! (stop !)) (look ! 10 refl)) (and-then ! (load ! (from ! (stop !)) (look ! 32 refl)) (and-then ! (load ! (from ! (stop !)) (look ! 30 refl)) (and-then ! (load ! (from ! (stop !)) (look ! 8 refl)) (and-then ! (load ! (from ! (stop !)) (look ! 6 refl)) (no-more !))))))))) (λ u.
+        use1 W (later (some (λ (r : Left). ((‵ (flft κ1 q1) ⊛ ‵ (flft κ2 q2) ⊛ ‵ (flft κ3 q3) ⊛ ‵ (flft κ4 q4) ⊛ ‵ (flft κ5 q5) ⊛ ‵ (flft κ6 q6) ⊛ ‵ ftrue) ⊛ ‵ (Co.the-row .own r (u ∷ []))) ⊛ raw (ensured 𝓤 H A core.ended (core.clauses 𝓤 H A at-mem run) (κ1, (κ2, (κ3, (κ4, (κ5, (κ6, tt)))))) passed tt r)))) (id⊢ 𝓤 _) $ await ! tt $ pick ! (λ r.
+        split ! $ move ! (1 ∷ []) $ use1 W (some (λ (zs : (Unit {0} × (List ℤ × (List Float × (List ℕ × (Unit {0} × (Unit {0} × (ℕ × (ℕ × Unit {0}))))))))). ‵ (lasts core.ended (κ1, (κ2, (κ3, (κ4, (κ5, (κ6, tt)))))) passed zs) ⊛ raw (fact 𝓤 (Tapes (countedOf h (x1 .now) (x2 .now) (x3 .now)) x4 (x5 .now) (countedOf (r .header) (zs .1 .0) (zs .1 .1 .0) (zs .1 .1 .1 .0)) (zs .1 .1 .1 .1 .1 .1 .0) (zs .1 .1 .1 .1 .1 .1 .1 .0) (r .answer))))) (id⊢ 𝓤 _) $ pick ! (λ zs.
+        split ! $ move ! (1 ∷ []) $ heard ! (Tapes (countedOf h (x1 .now) (x2 .now) (x3 .now)) x4 (x5 .now) (countedOf (r .header) (zs .1 .0) (zs .1 .1 .0) (zs .1 .1 .1 .0)) (zs .1 .1 .1 .1 .1 .1 .0) (zs .1 .1 .1 .1 .1 .1 .1 .0) (r .answer)) (λ e. fsplit ! $ drop ! $ move ! (0 ∷ []) $ fsplit ! $ fsplit ! $ move ! (1 ∷ []) $ feqL ! (λ l1. move ! (1 ∷ []) $ fsplit ! $ fsplit ! $ move ! (1 ∷ []) $ feqL ! (λ l2. move ! (1 ∷ []) $ fsplit ! $ fsplit ! $ move ! (1 ∷ []) $ feqL ! (λ l3. move ! (1 ∷ []) $ fsplit ! $ move ! (1 ∷ []) $ fsplit ! $ move ! (1 ∷ []) $ fsplit ! $ move ! (1 ∷ []) $ fsplit ! $
+        move ! (8 ∷ []) $ split ! $ move ! (1 ∷ []) $ peeks ! Co.the-row (Is Co.the-row) (shows 𝓤 H A Co.the-row) r (u ∷ []) (λ is.
+        land ! (from ! (stop !)) (init ! 33 refl (LL.lawful Co.the-type Co′.the-laws 𝓤 H A W .typed r _ is .0)) $ rewrite ! 33 (λ (v : Val). ‵ (fat fullShare Co′.mir m9 0 v)) (ap only (LL.tells Co.the-type Co′.the-laws r _ is)) refl $
+        assigns ! (of-opd ! (load ! (from ! (fld ! refl (stop !))) (look-in ! 33 (sub ! 0 refl (whole !))))) (from ! (hop ! (look ! 49 refl) (stop !))) (store-raw ! 10 refl (LL.lawful T.the-type T′.the-laws 𝓤 H A W .typed (r .header) _ (of-header r u is) .0)) $
+        assigns ! (of-opd ! (load ! (from ! (fld ! refl (stop !))) (look-in ! 33 (sub ! 1 refl (whole !))))) (from ! (stop !)) (init ! 51 refl (uint-lawful 𝓤 H A W w32 .typed (r .answer) _ (of-answer r u is) .0)) $
+        owned ! R (Is R) (LL.makes T.the-type T′.the-plain 𝓤 H A) (r .header) _ (of-header r u is) $ move ! (11 ∷ 0 ∷ 13 ∷ 14 ∷ 15 ∷ []) $ closes ! tt R (r .header) (mach (r .header) ∷ []) b o $
+        returns ! (look ! 50 refl) $ forget ! 14 refl $ forget ! 16 refl $ forget ! 18 refl $ forget ! 20 refl $ forget ! 22 refl $ forget ! 24 refl $ forget ! 26 refl $ forget ! 28 refl $ forget ! 30 refl $ forget ! 32 refl $ forget ! 34 refl $ forget ! 36 refl $ forget ! 38 refl $ forget ! 40 refl $ forget ! 42 refl $ forget ! 44 refl $ forget ! 46 refl $ forget ! 48 refl $ forget ! 50 refl $
+        move ! (50 ∷ 51 ∷ []) $ free1 ! $ move ! (48 ∷ 49 ∷ []) $ free1 ! $ move ! (46 ∷ 47 ∷ []) $ free1 ! $ move ! (44 ∷ 45 ∷ []) $ free1 ! $ move ! (42 ∷ 43 ∷ []) $ free1 ! $ move ! (40 ∷ 41 ∷ []) $ free1 ! $ move ! (38 ∷ 39 ∷ []) $ free1 ! $ move ! (36 ∷ 37 ∷ []) $ free1 ! $ move ! (34 ∷ 35 ∷ []) $ free1 ! $ move ! (32 ∷ 33 ∷ []) $ free1 ! $ move ! (30 ∷ 31 ∷ []) $ free1 ! $ move ! (28 ∷ 29 ∷ []) $ free1 ! $ move ! (26 ∷ 27 ∷ []) $ free1 ! $ move ! (24 ∷ 25 ∷ []) $ free1 ! $ move ! (22 ∷ 23 ∷ []) $ free1 ! $ move ! (20 ∷ 21 ∷ []) $ free1 ! $ move ! (18 ∷ 19 ∷ []) $ free1 ! $ move ! (16 ∷ 17 ∷ []) $ free1 ! $ move ! (14 ∷ 15 ∷ []) $ free1 ! $ free0 ! $
+        keep ! (0 ∷ 1 ∷ 2 ∷ 4 ∷ 12 ∷ 11 ∷ 10 ∷ 15 ∷ 7 ∷ 5 ∷ []) $ by ! (exits r u (zs .1 .0) (zs .1 .1 .0) (zs .1 .1 .1 .0) (zs .1 .1 .1 .1 .1 .1 .0) (zs .1 .1 .1 .1 .1 .1 .1 .0) is e l1 l2 l3))))))))))))))))))))))))))))))
 
 module _ {M : Type 1} (𝓤 : URA M) (H : Heap 𝓤) (A : Atoms 𝓤) (W : Given 𝓤 H A) (at-mem : Memory → SProp 𝓤) (run : Routine → Fun 𝓤) where
   walks : (C : Calls 𝓤 H) (Λ : Loops 𝓤 H) → FmC 𝓤 H (W .laws) C → Triple 𝓤 (C #core) (Core 𝓤 H A at-mem run) → Walks 𝓤 H A entry.ended stayed (WpFn 𝓤 H C Λ code.function) (entry.clauses 𝓤 H A at-mem run)
   walks C Λ fm known = walked 𝓤 H A entry.ended stayed (entry.clauses 𝓤 H A at-mem run) (WpFn 𝓤 H C Λ code.function)
-      (λ κs. (ptr-vals, (slice-vals, (slice-vals, (uint-vals w32, (slice-vals, (ptr-vals, (ptr-vals, tt)))))))) (λ κs. (mut-tells (named 0) (κs .0) T.the-row, (mut-slice-tells (named 1) (κs .1 .0) i32, (mut-slice-tells (named 2) (κs .1 .1 .0) f64, (uint-tells w32, (shr-slice-tells (named 3) (κs .1 .1 .1 .0) u8, (mut-tells (named 4) (κs .1 .1 .1 .1 .0) usize, (mut-tells (named 5) (κs .1 .1 .1 .1 .1 .0) usize, tt))))))))
-      (λ κs qs bounds a g are. via 𝓤 _ (fst∗ 𝓤 _ (emp 𝓤)) (walk 𝓤 H A W at-mem run (κs .0) (κs .1 .0) (κs .1 .1 .0) (κs .1 .1 .1 .0) (κs .1 .1 .1 .1 .0) (κs .1 .1 .1 .1 .1 .0) (qs .0) (qs .1 .0) (qs .1 .1 .0) (qs .1 .1 .1 .0) (qs .1 .1 .1 .1 .0) (qs .1 .1 .1 .1 .1 .0) (a .0 .ptr .0) (a .0 .ptr .1) (a .0 .name) (a .0 .now) (a .1 .0) (a .1 .1 .0) (a .1 .1 .1 .0) (a .1 .1 .1 .1 .0) (a .1 .1 .1 .1 .1 .0) (a .1 .1 .1 .1 .1 .1 .0) (are .1 .1 .1 .0 .1) C Λ fm known (are .1 .0 .0 .1) (are .1 .1 .0 .0 .1) (are .1 .1 .1 .1 .0 .0 .1)))
+      (λ κs. (ptr-vals, (slice-vals, (slice-vals, (slice-vals, (uint-vals w32, (slice-vals, (ptr-vals, (ptr-vals, tt))))))))) (λ κs. (mut-tells (named 0) (κs .0) T.the-row, (mut-slice-tells (named 1) (κs .1 .0) i32, (mut-slice-tells (named 2) (κs .1 .1 .0) f64, (mut-slice-tells (named 3) (κs .1 .1 .1 .0) u32, (uint-tells w32, (shr-slice-tells (named 4) (κs .1 .1 .1 .1 .0) u8, (mut-tells (named 5) (κs .1 .1 .1 .1 .1 .0) usize, (mut-tells (named 6) (κs .1 .1 .1 .1 .1 .1 .0) usize, tt)))))))))
+      (λ κs qs bounds a g are. via 𝓤 _ (fst∗ 𝓤 _ (emp 𝓤)) (walk 𝓤 H A W at-mem run (κs .0) (κs .1 .0) (κs .1 .1 .0) (κs .1 .1 .1 .0) (κs .1 .1 .1 .1 .0) (κs .1 .1 .1 .1 .1 .0) (κs .1 .1 .1 .1 .1 .1 .0) (qs .0) (qs .1 .0) (qs .1 .1 .0) (qs .1 .1 .1 .0) (qs .1 .1 .1 .1 .0) (qs .1 .1 .1 .1 .1 .0) (qs .1 .1 .1 .1 .1 .1 .0) (a .0 .ptr .0) (a .0 .ptr .1) (a .0 .name) (a .0 .now) (a .1 .0) (a .1 .1 .0) (a .1 .1 .1 .0) (a .1 .1 .1 .1 .0) (a .1 .1 .1 .1 .1 .0) (a .1 .1 .1 .1 .1 .1 .0) (a .1 .1 .1 .1 .1 .1 .1 .0) (are .1 .1 .1 .1 .0 .1) C Λ fm known (are .1 .0 .0 .1) (are .1 .1 .0 .0 .1) (are .1 .1 .1 .0 .0 .1) (are .1 .1 .1 .1 .1 .0 .0 .1)))
 
-  goes-all : AllGo 𝓤 H A W 6 (entry.signature .params) (entry.ended .kept) stayed
-  goes-all = (goes-ref 𝓤 H A W 6 0 tt (plain (λ _. T.the-row)), (goes-gave-slice 𝓤 H A W 6 1 tt (plain (λ _. i32)), (goes-gave-slice 𝓤 H A W 6 2 tt (plain (λ _. f64)), (goes-none 𝓤 H A W 6 (λ _. u32) yes (λ κs x f. refl), (goes-none-slice 𝓤 H A W 6 (3 ∷ []) tt (plain (λ _. u8)) yes, (goes-gave-ref 𝓤 H A W 6 4 tt (plain (λ _. usize)), (goes-gave-ref 𝓤 H A W 6 5 tt (plain (λ _. usize)), tt)))))))
+  goes-all : AllGo 𝓤 H A W 7 (entry.signature .params) (entry.ended .kept) stayed
+  goes-all = (goes-ref 𝓤 H A W 7 0 tt (plain (λ _. T.the-row)), (goes-gave-slice 𝓤 H A W 7 1 tt (plain (λ _. i32)), (goes-gave-slice 𝓤 H A W 7 2 tt (plain (λ _. f64)), (goes-gave-slice 𝓤 H A W 7 3 tt (plain (λ _. u32)), (goes-none 𝓤 H A W 7 (λ _. u32) yes (λ κs x f. refl), (goes-none-slice 𝓤 H A W 7 (4 ∷ []) tt (plain (λ _. u8)) yes, (goes-gave-ref 𝓤 H A W 7 5 tt (plain (λ _. usize)), (goes-gave-ref 𝓤 H A W 7 6 tt (plain (λ _. usize)), tt))))))))
 
 meets : {M : Type 1} (𝓤 : URA M) (H : Heap 𝓤) (A : Atoms 𝓤) → Given 𝓤 H A → (mem : Memory → SProp 𝓤) (run : Routine → Fun 𝓤) (𝓣 : Tables 𝓤 H) → Triple 𝓤 (𝓣 .C #core) (Core 𝓤 H A mem run)
     → Meets 𝓤 H A entry.signature (WpFn 𝓤 H (𝓣 .C) (𝓣 .Λ) code.function) (entry.spec 𝓤 H A mem run)

@@ -13,8 +13,11 @@ same-length c = search needs
 same-length-2 : tie.Need-same-length-2
 same-length-2 c = search needs
 
+same-length-3 : tie.Need-same-length-3
+same-length-3 c = search needs
+
 returns : tie.Need-returns
-returns c = record { is = c .before .before .before .before .before .tape-core .ensures .is }
+returns c = record { is = c .before .before .before .before .before .before .before .tape-core .ensures .is }
 
 pub tape-core-spec : {M : Type 1} → statement M
-tape-core-spec = tie.close (tie.spec tape-core-requires same-length same-length-2 returns)
+tape-core-spec = tie.close (tie.spec tape-core-requires same-length same-length-2 same-length-3 returns)

@@ -23,6 +23,9 @@ slice-aggregate-print-on c = search needs
 slice-aggregate-print-on-2 : tie.Need-slice-aggregate-print-on-2
 slice-aggregate-print-on-2 c = search needs
 
+slice-aggregate-print-on-3 : tie.Need-slice-aggregate-print-on-3
+slice-aggregate-print-on-3 c = search needs
+
 print-on-requires : tie.Need-print-on-requires
 print-on-requires c κs = search needs
 
@@ -42,6 +45,7 @@ print-spec =
     returns
     slice-aggregate-print-on
     slice-aggregate-print-on-2
+    slice-aggregate-print-on-3
     print-on-requires
     same-length-2
     returns-2)

@@ -5,10 +5,10 @@ use Rattle.trials.proofs.main.Statement.{statement}
 use Rattle.trials.proofs.main.Tie as tie
 
 abbrev Inv-loop : tie.InvT-loop
-Inv-loop t₀ v₀ h₀ turns₀ t v h turns = Unit {0}
+Inv-loop t₀ v₀ c₀ h₀ turns₀ t v c h turns = Unit {0}
 
 abbrev μ-loop : tie.MeasureT-loop
-μ-loop t₀ v₀ h₀ turns₀ t v h turns = turns
+μ-loop t₀ v₀ c₀ h₀ turns₀ t v c h turns = turns
 
 loop-holds : tie.Need-loop-holds Inv-loop μ-loop
 loop-holds c = tt

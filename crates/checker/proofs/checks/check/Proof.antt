@@ -1,91 +1,18 @@
--- `checker::checks::check` meets its contract: past the first two refusals the test by rows decides.
+-- `checker::checks::check` meets its contract: the list of its own is made of zeros.
 -- Assumes nothing.
-use native.Mathlib.Omega.{arith}
+use mathlib.Core.Path.{refl}
 use borrow.Author.Needs.{needs}
-use borrow.Author.Tests.{not-true, not-false}
-use mathlib.Core.Path.{refl, sym, _∙_}
-use Rattle.mesh.specs.Call.{lentChecks, lentRefusal}
-use Rattle.place_laws.proofs.Base.{base-range}
-use Rattle.readable.proofs.ReadableRows.{not-plain, plain-table, levelled-table}
-use Rattle.checker.proofs.Checking.{rows-pass, rows-fail, shallow}
 use Rattle.checker.proofs.checks.check.Statement.{statement}
 use Rattle.checker.proofs.checks.check.Tie as tie
 
-first-refusal-requires : tie.Need-first-refusal-requires
-first-refusal-requires c κs = search needs
+slice-aggregate-sound-refusal : tie.Need-slice-aggregate-sound-refusal
+slice-aggregate-sound-refusal c = search needs
+
+sound-refusal-requires : tie.Need-sound-refusal-requires
+sound-refusal-requires c κs = refl
 
 returns : tie.Need-returns
-unfolding lentRefusal lentChecks
-returns c = c .before .first-refusal .ensures .refused (c .if1 .taken) _
-
-words-fit-requires : tie.Need-words-fit-requires
-words-fit-requires c κs = search needs
-
-ground-depth-requires : tie.Need-ground-depth-requires
-ground-depth-requires c κs = search needs
-
-plain-requires : tie.Need-plain-requires
-plain-requires c κs =
-    let k = c .before .before in
-    let f = k .before .first-refusal .ensures .sizes (k .if1 .left) in
-    (record { words = omega (arith, f .words); small = f .high }, rw (c .ground-depth .ensures) (shallow _))
-
-returns-2 : tie.Need-returns-2
-returns-2 c =
-    let p = c .before in
-    let d = p .before in
-    let w = d .before in
-    let k = w .before in
-    let f = k .before .first-refusal .ensures .sizes (k .if1 .left) in
-    rows-fail _ _ f (k .before .first-refusal .ensures .rectangle (k .if1 .left)) (w .words-fit .ensures)
-    (not-plain _ _ _ _ (omega (arith, f .low)) (k .before .first-refusal .ensures .rectangle (k .if1 .left)) {b = p .plain .result} (rw (← d .ground-depth .ensures) (p .plain .ensures)) (not-true _ (c .if2 .taken))) refl
-
-rowwise-requires : tie.Need-rowwise-requires
-rowwise-requires c κs =
-    let p = c .before in
-    let d = p .before in
-    let k = d .before .before in
-    let f = k .before .first-refusal .ensures .sizes (k .if1 .left) in
-    let r = k .before .first-refusal .ensures .rectangle (k .if1 .left) in
-    let e = d .ground-depth .ensures in
-    let all = sym (p .plain .ensures) ∙ not-false _ (c .if2 .left) in (
-      record {
-        depth = e;
-        shallow = rw e (base-range _ r .1);
-        rooted = omega (arith, f .low);
-        tall = r .2;
-        readable = plain-table _ _ _ all (record { words = omega (arith, f .words); small = f .high });
-        levelled = levelled-table _ _ _ all (rw e (shallow _));
-      },
-      omega (arith, f .values),
-    )
-
-returns-3 : tie.Need-returns-3
-returns-3 c =
-    let r = c .before in
-    let w = r .before .before .before .before in
-    let k = w .before in
-    let f = k .before .first-refusal .ensures .sizes (k .if1 .left) in
-    rows-pass _ _ f (k .before .first-refusal .ensures .rectangle (k .if1 .left)) (w .words-fit .ensures) (r .rowwise .ensures) (c .if3 .taken)
-
-returns-4 : tie.Need-returns-4
-returns-4 c =
-    let r = c .before in
-    let w = r .before .before .before .before in
-    let k = w .before in
-    let f = k .before .first-refusal .ensures .sizes (k .if1 .left) in
-    rows-fail _ _ f (k .before .first-refusal .ensures .rectangle (k .if1 .left)) (w .words-fit .ensures) (r .rowwise .ensures) (c .if3 .left)
+returns c = c .before .sound-refusal .ensures .0
 
 pub check-spec : {M : Type 1} → statement M
-check-spec =
-    tie.close
-    (tie.spec
-    first-refusal-requires
-    returns
-    words-fit-requires
-    ground-depth-requires
-    plain-requires
-    returns-2
-    rowwise-requires
-    returns-3
-    returns-4)
+check-spec = tie.close (tie.spec slice-aggregate-sound-refusal sound-refusal-requires returns)

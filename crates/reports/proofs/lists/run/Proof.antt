@@ -7,10 +7,10 @@ use Rattle.reports.proofs.lists.run.Statement.{statement}
 use Rattle.reports.proofs.lists.run.Tie as tie
 
 abbrev Inv-loop : tie.InvT-loop
-Inv-loop t₀ v₀ h₀ b kind start bytes size i₀ at₀ t v h i at = i ≤ bytes
+Inv-loop t₀ v₀ c₀ h₀ b kind start bytes size i₀ at₀ t v c h i at = i ≤ bytes
 
 abbrev μ-loop : tie.MeasureT-loop
-μ-loop t₀ v₀ h₀ b kind start bytes size i₀ at₀ t v h i at = bytes - i
+μ-loop t₀ v₀ c₀ h₀ b kind start bytes size i₀ at₀ t v c h i at = bytes - i
 
 loop-holds : tie.Need-loop-holds Inv-loop μ-loop
 loop-holds c = omega arith

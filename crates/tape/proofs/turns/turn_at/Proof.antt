@@ -21,13 +21,13 @@ enum-told : tie.Need-enum-told
 enum-told c = search needs
 
 returns : tie.Need-returns
-returns c = (turned-unknown _ _ _ (omega arith) refl _ _ _ (sym (ap lengthIn (c .enum-told .given .1)) ∙ c .before .before .body-of .ensures), c .before .before .before .before .before .before .pre .1)
+returns c = (turned-unknown _ _ _ (omega arith) refl _ _ _ (sym (ap lengthIn (c .enum-told .given .1)) ∙ c .before .before .body-of .ensures), c .before .before .before .before .before .before .before .pre .1)
 
 sub-if1 : tie.Need-sub-if1
 sub-if1 c = search needs
 
 returns-2 : tie.Need-returns-2
-returns-2 c = (turned-short _ _ _ (omega arith) refl _ _ _ (sym (ap lengthIn (c .before .before .len .given .1)) ∙ c .before .before .before .before .body-of .ensures) (c .if1 .taken), c .before .before .before .before .before .before .before .before .pre .1)
+returns-2 c = (turned-short _ _ _ (omega arith) refl _ _ _ (sym (ap lengthIn (c .before .before .len .given .1)) ∙ c .before .before .before .before .body-of .ensures) (c .if1 .taken), c .before .before .before .before .before .before .before .before .before .pre .1)
 
 add-next : tie.Need-add-next
 add-next c = search needs
@@ -36,7 +36,7 @@ add-next-2 : tie.Need-add-next-2
 add-next-2 c = search needs
 
 request-requires : tie.Need-request-requires
-request-requires c κs = let p = c .before .before .before .before .before .before .before .before .before .before .before .pre in (p .0, p .1, whole-body _ _ _ (omega arith) refl (sym (ap lengthIn (c .before .before .before .before .before .len .given .1)) ∙ c .before .before .before .before .before .before .before .body-of .ensures) (c .before .before .before .if1 .left))
+request-requires c κs = let p = c .before .before .before .before .before .before .before .before .before .before .before .before .before .pre in (p .0, p .1, whole-body _ _ _ (omega arith) refl (sym (ap lengthIn (c .before .before .before .before .before .before .len .given .1)) ∙ c .before .before .before .before .before .before .before .before .body-of .ensures) (c .before .before .before .before .if1 .left))
 
 same-length : tie.Need-same-length
 same-length c = search needs
@@ -44,8 +44,11 @@ same-length c = search needs
 same-length-2 : tie.Need-same-length-2
 same-length-2 c = search needs
 
+same-length-3 : tie.Need-same-length-3
+same-length-3 c = search needs
+
 returns-3 : tie.Need-returns-3
-returns-3 c = (turned-request _ _ _ (omega arith) refl (sym (ap lengthIn (c .before .before .before .before .before .before .before .before .before .before .len .given .1)) ∙ c .before .before .before .before .before .before .before .before .before .before .before .before .body-of .ensures) (c .before .before .before .before .before .before .before .before .if1 .left) (c .before .before .before .before .request .ensures .0), c .before .before .before .before .request .ensures .1)
+returns-3 c = (turned-request _ _ _ (omega arith) refl (sym (ap lengthIn (c .before .before .before .before .before .before .before .before .before .before .before .before .before .len .given .1)) ∙ c .before .before .before .before .before .before .before .before .before .before .before .before .before .before .before .body-of .ensures) (c .before .before .before .before .before .before .before .before .before .before .before .if1 .left) (c .before .before .before .before .before .before .request .ensures .0), c .before .before .before .before .before .before .request .ensures .1)
 
 pub turn-at-spec : {M : Type 1} → statement M
 turn-at-spec =
@@ -63,4 +66,5 @@ turn-at-spec =
     request-requires
     same-length
     same-length-2
+    same-length-3
     returns-3)

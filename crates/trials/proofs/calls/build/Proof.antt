@@ -13,13 +13,19 @@ slice-relend-prefix-build : tie.Need-slice-relend-prefix-build
 slice-relend-prefix-build c = search needs
 
 slice-aggregate-build : tie.Need-slice-aggregate-build
-slice-aggregate-build c = omega (arith, length-take (c .before .before .before .before .args .n) (c .before .before .before .before .args .t .now))
+slice-aggregate-build c = omega (arith, length-take (c .before .before .before .before .before .args .n) (c .before .before .before .before .before .args .t .now))
 
 slice-relend-prefix-build-2 : tie.Need-slice-relend-prefix-build-2
 slice-relend-prefix-build-2 c = search needs
 
 slice-aggregate-build-2 : tie.Need-slice-aggregate-build-2
-slice-aggregate-build-2 c = omega (arith, length-take (c .before .before .before .before .before .args .m) (c .before .before .before .before .before .args .v .now))
+slice-aggregate-build-2 c = omega (arith, length-take (c .before .before .before .before .before .before .args .m) (c .before .before .before .before .before .before .args .v .now))
+
+slice-relend-prefix-build-3 : tie.Need-slice-relend-prefix-build-3
+slice-relend-prefix-build-3 c = search needs
+
+slice-aggregate-build-3 : tie.Need-slice-aggregate-build-3
+slice-aggregate-build-3 c = omega (arith, length-take (c .before .before .before .before .before .before .before .args .p) (c .before .before .before .before .before .before .before .args .c .now))
 
 element-copy-out-build : tie.Need-element-copy-out-build
 element-copy-out-build c = search needs
@@ -54,6 +60,9 @@ same-length c = search needs
 same-length-2 : tie.Need-same-length-2
 same-length-2 c = search needs
 
+same-length-3 : tie.Need-same-length-3
+same-length-3 c = search needs
+
 returns : tie.Need-returns
 returns c = search needs
 
@@ -66,6 +75,8 @@ build-spec =
     slice-aggregate-build
     slice-relend-prefix-build-2
     slice-aggregate-build-2
+    slice-relend-prefix-build-3
+    slice-aggregate-build-3
     element-copy-out-build
     element-copy-out-build-2
     element-copy-out-build-3
@@ -77,4 +88,5 @@ build-spec =
     finish-requires
     same-length
     same-length-2
+    same-length-3
     returns)

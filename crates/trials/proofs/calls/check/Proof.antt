@@ -10,10 +10,13 @@ header-requires : tie.Need-header-requires
 header-requires c κs = search needs
 
 slice-aggregate-check : tie.Need-slice-aggregate-check
-slice-aggregate-check c = omega (arith, length-take (c .before .before .before .args .n) (c .before .before .before .args .t .now))
+slice-aggregate-check c = omega (arith, length-take (c .before .before .before .before .args .n) (c .before .before .before .before .args .t .now))
 
 slice-aggregate-check-2 : tie.Need-slice-aggregate-check-2
-slice-aggregate-check-2 c = omega (arith, length-take (c .before .before .before .before .args .m) (c .before .before .before .before .args .v .now))
+slice-aggregate-check-2 c = omega (arith, length-take (c .before .before .before .before .before .args .m) (c .before .before .before .before .before .args .v .now))
+
+slice-aggregate-check-3 : tie.Need-slice-aggregate-check-3
+slice-aggregate-check-3 c = omega (arith, length-take (c .before .before .before .before .before .before .args .p) (c .before .before .before .before .before .before .args .c .now))
 
 element-copy-out-check : tie.Need-element-copy-out-check
 element-copy-out-check c = search needs
@@ -37,6 +40,7 @@ check-spec =
     header-requires
     slice-aggregate-check
     slice-aggregate-check-2
+    slice-aggregate-check-3
     element-copy-out-check
     check-requires
     cast-tell

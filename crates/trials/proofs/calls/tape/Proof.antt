@@ -13,19 +13,25 @@ slice-relend-prefix-tape : tie.Need-slice-relend-prefix-tape
 slice-relend-prefix-tape c = search needs
 
 slice-aggregate-tape : tie.Need-slice-aggregate-tape
-slice-aggregate-tape c = omega (arith, length-take (c .before .before .before .before .before .args .n) (c .before .before .before .before .before .args .t .now))
+slice-aggregate-tape c = omega (arith, length-take (c .before .before .before .before .before .before .args .n) (c .before .before .before .before .before .before .args .t .now))
 
 slice-relend-prefix-tape-2 : tie.Need-slice-relend-prefix-tape-2
 slice-relend-prefix-tape-2 c = search needs
 
 slice-aggregate-tape-2 : tie.Need-slice-aggregate-tape-2
-slice-aggregate-tape-2 c = omega (arith, length-take (c .before .before .before .before .before .before .args .m) (c .before .before .before .before .before .before .args .v .now))
+slice-aggregate-tape-2 c = omega (arith, length-take (c .before .before .before .before .before .before .before .args .m) (c .before .before .before .before .before .before .before .args .v .now))
+
+slice-relend-prefix-tape-3 : tie.Need-slice-relend-prefix-tape-3
+slice-relend-prefix-tape-3 c = search needs
+
+slice-aggregate-tape-3 : tie.Need-slice-aggregate-tape-3
+slice-aggregate-tape-3 c = omega (arith, length-take (c .before .before .before .before .before .before .before .before .args .p) (c .before .before .before .before .before .before .before .before .args .c .now))
 
 element-copy-out-tape : tie.Need-element-copy-out-tape
 element-copy-out-tape c = search needs
 
-slice-aggregate-tape-3 : tie.Need-slice-aggregate-tape-3
-slice-aggregate-tape-3 c = omega (arith, length-take (c .before .before .before .before .before .before .before .before .args .k) (c .before .before .before .before .before .before .before .before .args .b .now))
+slice-aggregate-tape-4 : tie.Need-slice-aggregate-tape-4
+slice-aggregate-tape-4 c = omega (arith, length-take (c .before .before .before .before .before .before .before .before .before .before .args .k) (c .before .before .before .before .before .before .before .before .before .before .args .b .now))
 
 tape-requires : tie.Need-tape-requires
 tape-requires c κs = search needs
@@ -51,6 +57,9 @@ same-length c = search needs
 same-length-2 : tie.Need-same-length-2
 same-length-2 c = search needs
 
+same-length-3 : tie.Need-same-length-3
+same-length-3 c = search needs
+
 returns : tie.Need-returns
 returns c = search needs
 
@@ -63,8 +72,10 @@ tape-spec =
     slice-aggregate-tape
     slice-relend-prefix-tape-2
     slice-aggregate-tape-2
-    element-copy-out-tape
+    slice-relend-prefix-tape-3
     slice-aggregate-tape-3
+    element-copy-out-tape
+    slice-aggregate-tape-4
     tape-requires
     tell-requires
     cast-tell
@@ -73,4 +84,5 @@ tape-spec =
     finish-requires
     same-length
     same-length-2
+    same-length-3
     returns)

@@ -45,7 +45,7 @@ use denote.Triple.Walked.{says, Stays, gave-slice, stay-none, walkOf, AllGo, goe
 use denote.Exit.{yes}
 use denote.Signature.{plain}
 use Rattle.grid.specs.Calls.{Builds}
-use Rattle.header.specs.Headers.{lentOf}
+use Rattle.header.specs.Headers.{countedOf}
 use Rattle.header.specs.declared.Header.{Header}
 use Rattle.header.proofs.Header as T
 use Rattle.header.proofs.Header.Laws as T′
@@ -65,13 +65,13 @@ use Rattle.trials.proofs.lent.build.Statement as stated
 use Rattle.trials.proofs.lent.build.Code as code
 
 abbrev stayed : Stays (entry.ended .signature .params) (entry.ended .kept)
-stayed = (stay-none (λ _. T.the-row) yes, (gave-slice (0 ∷ []) tt (plain (λ _. i32)), (gave-slice (1 ∷ []) tt (plain (λ _. f64)), (stay-none (λ _. u32) yes, (stay-none (λ _. u32) yes, (stay-none (λ _. u32) yes, (stay-none (λ _. u32) yes, tt)))))))
+stayed = (stay-none (λ _. T.the-row) yes, (gave-slice (0 ∷ []) tt (plain (λ _. i32)), (gave-slice (1 ∷ []) tt (plain (λ _. f64)), (gave-slice (2 ∷ []) tt (plain (λ _. u32)), (stay-none (λ _. u32) yes, (stay-none (λ _. u32) yes, (stay-none (λ _. u32) yes, (stay-none (λ _. u32) yes, tt))))))))
 
 -- the contract that the proof cites
 abbrev Core : {M : Type 1} (𝓤 : URA M) (H : Heap 𝓤) (A : Atoms 𝓤) (mem : Memory → SProp 𝓤) (run : Routine → Fun 𝓤) → Contract 𝓤
 Core 𝓤 H A mem run = tripleOf 𝓤 H A core.signature (core.spec 𝓤 H A mem run)
 
-module _ {M : Type 1} (𝓤 : URA M) (H : Heap 𝓤) (A : Atoms 𝓤) (W : Given 𝓤 H A) (at-mem : Memory → SProp 𝓤) (run : Routine → Fun 𝓤) (κ1 κ2 : Lft) (q1 q2 : Share) (h : Header) (x1 : RefT (List ℤ)) (x2 : RefT (List Float)) (x3 : ℕ) (x4 : ℕ) (x5 : ℕ) (x6 : ℕ) (was : Is T.the-row h (LL.val T.the-type T′.the-laws h ∷ [])) (fit3 : x3 < 2 ^ 32) (fit4 : x4 < 2 ^ 32) (fit5 : x5 < 2 ^ 32) (fit6 : x6 < 2 ^ 32) where
+module _ {M : Type 1} (𝓤 : URA M) (H : Heap 𝓤) (A : Atoms 𝓤) (W : Given 𝓤 H A) (at-mem : Memory → SProp 𝓤) (run : Routine → Fun 𝓤) (κ1 κ2 κ3 : Lft) (q1 q2 q3 : Share) (h : Header) (x1 : RefT (List ℤ)) (x2 : RefT (List Float)) (x3 : RefT (List ℕ)) (x4 : ℕ) (x5 : ℕ) (x6 : ℕ) (x7 : ℕ) (was : Is T.the-row h (LL.val T.the-type T′.the-laws h ∷ [])) (fit4 : x4 < 2 ^ 32) (fit5 : x5 < 2 ^ 32) (fit6 : x6 < 2 ^ 32) (fit7 : x7 < 2 ^ 32) where
   abbrev R : RattleType
   R = T.the-row
 
@@ -87,23 +87,29 @@ module _ {M : Type 1} (𝓤 : URA M) (H : Heap 𝓤) (A : Atoms 𝓤) (W : Given
   abbrev v2 : Val
   v2 = sliceVal (x2 .ptr) (length (x2 .now))
 
+  abbrev v3 : Val
+  v3 = sliceVal (x3 .ptr) (length (x3 .now))
+
   abbrev Arg : Type 0
-  Arg = (Header × (RefT (List ℤ) × (RefT (List Float) × (ℕ × (ℕ × (ℕ × (ℕ × Unit {0})))))))
+  Arg = (Header × (RefT (List ℤ) × (RefT (List Float) × (RefT (List ℕ) × (ℕ × (ℕ × (ℕ × (ℕ × Unit {0}))))))))
 
   abbrev a : Arg
-  a = (h, (x1, (x2, (x3, (x4, (x5, (x6, tt)))))))
+  a = (h, (x1, (x2, (x3, (x4, (x5, (x6, (x7, tt))))))))
 
-  abbrev vals : (List Val × (List Val × (List Val × (List Val × (List Val × (List Val × (List Val × Unit {0})))))))
-  vals = (mach h ∷ [], (v1 ∷ [], (v2 ∷ [], (vint w32 x3 ∷ [], (vint w32 x4 ∷ [], (vint w32 x5 ∷ [], (vint w32 x6 ∷ [], tt)))))))
+  abbrev vals : (List Val × (List Val × (List Val × (List Val × (List Val × (List Val × (List Val × (List Val × Unit {0}))))))))
+  vals = (mach h ∷ [], (v1 ∷ [], (v2 ∷ [], (v3 ∷ [], (vint w32 x4 ∷ [], (vint w32 x5 ∷ [], (vint w32 x6 ∷ [], (vint w32 x7 ∷ [], tt))))))))
 
   abbrev Post : Val → SProp 𝓤
-  Post = walkOf 𝓤 H A entry.ended stayed (entry.clauses 𝓤 H A at-mem run) .post (((κ1, (κ2, tt)), (q1, (q2, tt)), tt, a, vals), tt)
+  Post = walkOf 𝓤 H A entry.ended stayed (entry.clauses 𝓤 H A at-mem run) .post (((κ1, (κ2, (κ3, tt))), (q1, (q2, (q3, tt))), tt, a, vals), tt)
 
   abbrev Own1 : Fml
   Own1 = MutSlice (named 0) κ1 i32 .own x1 (v1 ∷ [])
 
   abbrev Own2 : Fml
   Own2 = MutSlice (named 1) κ2 f64 .own x2 (v2 ∷ [])
+
+  abbrev Own3 : Fml
+  Own3 = MutSlice (named 2) κ3 u32 .own x3 (v3 ∷ [])
 
   -- the struct at the block m, lent for the lifetime α under the name γ
   abbrev lent : GName → ℕ → RefT Header
@@ -113,17 +119,17 @@ module _ {M : Type 1} (𝓤 : URA M) (H : Heap 𝓤) (A : Atoms 𝓤) (W : Given
   Own0 α γ m = MutRef (named 0) (α ∷ []) R .own (lent γ m) (vptr m 0 ∷ [])
 
   abbrev Passed : Type 0
-  Passed = (RefT Header × (RefT (List ℤ) × (RefT (List Float) × (ℕ × (ℕ × (ℕ × (ℕ × Unit {0})))))))
+  Passed = (RefT Header × (RefT (List ℤ) × (RefT (List Float) × (RefT (List ℕ) × (ℕ × (ℕ × (ℕ × (ℕ × Unit {0}))))))))
 
   abbrev passed : GName → ℕ → Passed
-  passed γ m = (lent γ m, (x1, (x2, (x3, (x4, (x5, (x6, tt)))))))
+  passed γ m = (lent γ m, (x1, (x2, (x3, (x4, (x5, (x6, (x7, tt))))))))
 
   abbrev to-core : ℕ → GName → ℕ → Core 𝓤 H A at-mem run .Ghost
-  to-core α γ m = (((α ∷ [], (κ1, (κ2, tt))), (fullShare, (q1, (q2, tt))), tt, passed γ m, (vptr m 0 ∷ [], (v1 ∷ [], (v2 ∷ [], (vint w32 x3 ∷ [], (vint w32 x4 ∷ [], (vint w32 x5 ∷ [], (vint w32 x6 ∷ [], tt)))))))), tt)
+  to-core α γ m = (((α ∷ [], (κ1, (κ2, (κ3, tt)))), (fullShare, (q1, (q2, (q3, tt)))), tt, passed γ m, (vptr m 0 ∷ [], (v1 ∷ [], (v2 ∷ [], (v3 ∷ [], (vint w32 x4 ∷ [], (vint w32 x5 ∷ [], (vint w32 x6 ∷ [], (vint w32 x7 ∷ [], tt))))))))), tt)
 
-  goes : (α : ℕ) (γ : GName) (m : ℕ) → ent 𝓤 (⋆ 𝓤 H A ((‵ (flft (α ∷ []) fullShare) ⊛ (‵ (flft κ1 q1) ⊛ ‵ (flft κ2 q2) ⊛ ‵ ftrue)) ∷ ‵ (Own0 α γ m) ∷ ‵ Own1 ∷ ‵ Own2 ∷ [])) (Core 𝓤 H A at-mem run .pre (to-core α γ m))
+  goes : (α : ℕ) (γ : GName) (m : ℕ) → ent 𝓤 (⋆ 𝓤 H A ((‵ (flft (α ∷ []) fullShare) ⊛ (‵ (flft κ1 q1) ⊛ ‵ (flft κ2 q2) ⊛ ‵ (flft κ3 q3) ⊛ ‵ ftrue)) ∷ ‵ (Own0 α γ m) ∷ ‵ Own1 ∷ ‵ Own2 ∷ ‵ Own3 ∷ [])) (Core 𝓤 H A at-mem run .pre (to-core α γ m))
   goes α γ m =
-      qed W ((‵ (flft (α ∷ []) fullShare) ⊛ (‵ (flft κ1 q1) ⊛ ‵ (flft κ2 q2) ⊛ ‵ ftrue)) ∷ ‵ (Own0 α γ m) ∷ ‵ Own1 ∷ ‵ Own2 ∷ []) ∵ nothing ! $ owned ! u32 (Is u32) (uint-makes 𝓤 H A W w32) x6 _ (refl, fit6) $ fjoin ! $ owned ! u32 (Is u32) (uint-makes 𝓤 H A W w32) x5 _ (refl, fit5) $ fjoin ! $ owned ! u32 (Is u32) (uint-makes 𝓤 H A W w32) x4 _ (refl, fit4) $ fjoin ! $ owned ! u32 (Is u32) (uint-makes 𝓤 H A W w32) x3 _ (refl, fit3) $ fjoin ! $ move ! (4 ∷ 0 ∷ []) $ fjoin ! $ move ! (3 ∷ 0 ∷ []) $ fjoin ! $ move ! (2 ∷ 0 ∷ []) $ fjoin ! $ move ! (1 ∷ 0 ∷ []) $ join ! $ frame ! $ done !
+      qed W ((‵ (flft (α ∷ []) fullShare) ⊛ (‵ (flft κ1 q1) ⊛ ‵ (flft κ2 q2) ⊛ ‵ (flft κ3 q3) ⊛ ‵ ftrue)) ∷ ‵ (Own0 α γ m) ∷ ‵ Own1 ∷ ‵ Own2 ∷ ‵ Own3 ∷ []) ∵ nothing ! $ owned ! u32 (Is u32) (uint-makes 𝓤 H A W w32) x7 _ (refl, fit7) $ fjoin ! $ owned ! u32 (Is u32) (uint-makes 𝓤 H A W w32) x6 _ (refl, fit6) $ fjoin ! $ owned ! u32 (Is u32) (uint-makes 𝓤 H A W w32) x5 _ (refl, fit5) $ fjoin ! $ owned ! u32 (Is u32) (uint-makes 𝓤 H A W w32) x4 _ (refl, fit4) $ fjoin ! $ move ! (5 ∷ 0 ∷ []) $ fjoin ! $ move ! (4 ∷ 0 ∷ []) $ fjoin ! $ move ! (3 ∷ 0 ∷ []) $ fjoin ! $ move ! (2 ∷ 0 ∷ []) $ fjoin ! $ move ! (1 ∷ 0 ∷ []) $ join ! $ frame ! $ done !
 
   of-header : (x : Header) (u : Val) → Is T.the-row x (u ∷ []) → Is T.the-row x (LL.val T.the-type T′.the-laws x ∷ [])
   of-header x u is = LL.owes T.the-type T′.the-laws x (LL.owed T.the-type T′.the-laws x _ is)
@@ -137,53 +143,55 @@ module _ {M : Type 1} (𝓤 : URA M) (H : Heap 𝓤) (A : Atoms 𝓤) (W : Given
   of-out : (h′ : Header) (r : Built) (v u : Val) → Is R h′ (v ∷ []) → Is An.the-row r (u ∷ []) → Is Co.the-row (out h′ r) (handed (out h′ r) ∷ [])
   of-out h′ r v u now is = LL.owes Co.the-type Co′.the-laws (out h′ r) (of-header h′ v now, (of-answer r u is, tt))
 
-  exits : (h′ : Header) (r : Built) (z1 : List ℤ) (z2 : List Float) → Is Co.the-row (out h′ r) (handed (out h′ r) ∷ []) → Builds (lentOf h (x1 .now) (x2 .now)) x3 x4 x5 x6 (lentOf h′ z1 z2) r → length z1 ≡ length (x1 .now) → length z2 ≡ length (x2 .now)
-      → ent 𝓤 (⋆ 𝓤 H A ((‵ (flft κ1 q1) ⊛ ‵ (flft κ2 q2) ⊛ ‵ ftrue) ∷ ‵ (finally i32 (x1 .name) z1) ∷ ‵ (finally f64 (x2 .name) z2) ∷ [])) (Post (handed (out h′ r)))
-  exits h′ r z1 z2 is e l1 l2 =
-      qed W ((‵ (flft κ1 q1) ⊛ ‵ (flft κ2 q2) ⊛ ‵ ftrue) ∷ ‵ (finally i32 (x1 .name) z1) ∷ ‵ (finally f64 (x2 .name) z2) ∷ []) ∵
-      suffices ! _ (ends-at 𝓤 H A entry.ended stayed (entry.clauses 𝓤 H A at-mem run) W (((κ1, (κ2, tt)), (q1, (q2, tt)), tt, a, vals), tt) (handed (out h′ r)) (out h′ r) (tt, (z1, (z2, (tt, (tt, (tt, (tt, tt))))))) (tt, (l1, (l2, (tt, (tt, (tt, (tt, tt)))))))) $ says ! e $
-      move ! (0 ∷ []) $ frame ! $ nothing ! $ owned ! u32 (Is u32) (uint-makes 𝓤 H A W w32) x6 _ (refl, fit6) $ fjoin ! $ owned ! u32 (Is u32) (uint-makes 𝓤 H A W w32) x5 _ (refl, fit5) $ fjoin ! $ owned ! u32 (Is u32) (uint-makes 𝓤 H A W w32) x4 _ (refl, fit4) $ fjoin ! $ owned ! u32 (Is u32) (uint-makes 𝓤 H A W w32) x3 _ (refl, fit3) $ fjoin ! $ move ! (2 ∷ 0 ∷ []) $ fjoin ! $ move ! (1 ∷ 0 ∷ []) $ fjoin ! $ owned ! T.the-row (Is T.the-row) (LL.makes T.the-type T′.the-plain 𝓤 H A) h _ was $ fjoin ! $ owned ! Co.the-row (Is Co.the-row) (LL.makes Co.the-type Co′.the-plain 𝓤 H A) (out h′ r) _ is $ move ! (1 ∷ 0 ∷ []) $ done !
+  exits : (h′ : Header) (r : Built) (z1 : List ℤ) (z2 : List Float) (z3 : List ℕ) → Is Co.the-row (out h′ r) (handed (out h′ r) ∷ []) → Builds (countedOf h (x1 .now) (x2 .now) (x3 .now)) x4 x5 x6 x7 (countedOf h′ z1 z2 z3) r → length z1 ≡ length (x1 .now) → length z2 ≡ length (x2 .now) → length z3 ≡ length (x3 .now)
+      → ent 𝓤 (⋆ 𝓤 H A ((‵ (flft κ1 q1) ⊛ ‵ (flft κ2 q2) ⊛ ‵ (flft κ3 q3) ⊛ ‵ ftrue) ∷ ‵ (finally i32 (x1 .name) z1) ∷ ‵ (finally f64 (x2 .name) z2) ∷ ‵ (finally u32 (x3 .name) z3) ∷ [])) (Post (handed (out h′ r)))
+  exits h′ r z1 z2 z3 is e l1 l2 l3 =
+      qed W ((‵ (flft κ1 q1) ⊛ ‵ (flft κ2 q2) ⊛ ‵ (flft κ3 q3) ⊛ ‵ ftrue) ∷ ‵ (finally i32 (x1 .name) z1) ∷ ‵ (finally f64 (x2 .name) z2) ∷ ‵ (finally u32 (x3 .name) z3) ∷ []) ∵
+      suffices ! _ (ends-at 𝓤 H A entry.ended stayed (entry.clauses 𝓤 H A at-mem run) W (((κ1, (κ2, (κ3, tt))), (q1, (q2, (q3, tt))), tt, a, vals), tt) (handed (out h′ r)) (out h′ r) (tt, (z1, (z2, (z3, (tt, (tt, (tt, (tt, tt)))))))) (tt, (l1, (l2, (l3, (tt, (tt, (tt, (tt, tt))))))))) $ says ! e $
+      move ! (0 ∷ []) $ frame ! $ nothing ! $ owned ! u32 (Is u32) (uint-makes 𝓤 H A W w32) x7 _ (refl, fit7) $ fjoin ! $ owned ! u32 (Is u32) (uint-makes 𝓤 H A W w32) x6 _ (refl, fit6) $ fjoin ! $ owned ! u32 (Is u32) (uint-makes 𝓤 H A W w32) x5 _ (refl, fit5) $ fjoin ! $ owned ! u32 (Is u32) (uint-makes 𝓤 H A W w32) x4 _ (refl, fit4) $ fjoin ! $ move ! (3 ∷ 0 ∷ []) $ fjoin ! $ move ! (2 ∷ 0 ∷ []) $ fjoin ! $ move ! (1 ∷ 0 ∷ []) $ fjoin ! $ owned ! T.the-row (Is T.the-row) (LL.makes T.the-type T′.the-plain 𝓤 H A) h _ was $ fjoin ! $ owned ! Co.the-row (Is Co.the-row) (LL.makes Co.the-type Co′.the-plain 𝓤 H A) (out h′ r) _ is $ move ! (1 ∷ 0 ∷ []) $ done !
 
   module _ (C : Calls 𝓤 H) (Λ : Loops 𝓤 H) (fm : FmC 𝓤 H (W .laws) C) (known : Triple 𝓤 (C #core) (Core 𝓤 H A at-mem run)) where
-    walk : Room i32 (length (x1 .now)) → Room f64 (length (x2 .now)) → ent 𝓤 (onEntry 𝓤 H A entry.signature (κ1, (κ2, tt)) (q1, (q2, tt)) a vals) (WpFn 𝓤 H C Λ code.function (mach h ∷ v1 ∷ v2 ∷ vint w32 x3 ∷ vint w32 x4 ∷ vint w32 x5 ∷ vint w32 x6 ∷ []) Post)
-    walk room1 room2 =
-        qed W ((‵ (flft κ1 q1) ⊛ ‵ (flft κ2 q2) ⊛ ‵ ftrue) ∷ ‵ (owns (R ∷ MutSlice (named 0) κ1 i32 ∷ MutSlice (named 1) κ2 f64 ∷ u32 ∷ u32 ∷ u32 ∷ u32 ∷ []) a vals) ∷ []) ∵
-        move ! (1 ∷ []) $ fsplit ! $ move ! (1 ∷ []) $ fsplit ! $ move ! (1 ∷ []) $ fsplit ! $ move ! (1 ∷ []) $ fsplit ! $ move ! (1 ∷ []) $ fsplit ! $ move ! (1 ∷ []) $ fsplit ! $ move ! (1 ∷ []) $ fsplit ! $
-        enter ! C Λ code.function (mach h ∷ v1 ∷ v2 ∷ vint w32 x3 ∷ vint w32 x4 ∷ vint w32 x5 ∷ vint w32 x6 ∷ []) _ $
-        alloc1 ! (λ m0. alloc1 ! (λ m1. alloc1 ! (λ m2. alloc1 ! (λ m3. alloc1 ! (λ m4. alloc1 ! (λ m5. alloc1 ! (λ m6. alloc1 ! (λ m7. alloc1 ! (λ m8. alloc1 ! (λ m9. alloc1 ! (λ m10. alloc1 ! (λ m11. alloc1 ! (λ m12. alloc1 ! (λ m13. alloc1 ! (λ m14. alloc1 ! (λ m15. alloc0 ! $ params1 ! $
-        pass1 ! (init ! 28 refl (LL.lawful T.the-type T′.the-laws 𝓤 H A W .typed h _ (was) .0)) $ pass1 ! (init ! 26 refl (tt, (tt, (record { fits = room1 .0 }, tt)))) $ pass1 ! (init ! 24 refl (tt, (tt, (record { fits = room2 .0 }, tt)))) $ pass1 ! (init ! 22 refl (tt, record { fits = fit3 })) $ pass1 ! (init ! 20 refl (tt, record { fits = fit4 })) $ pass1 ! (init ! 18 refl (tt, record { fits = fit5 })) $ pass1 ! (init ! 16 refl (tt, record { fits = fit6 })) $ pass0 ! $
-        assigns ! (of-opd ! (load ! (from ! (stop !)) (look ! 28 refl))) (from ! (stop !)) (init ! 14 refl (LL.lawful T.the-type T′.the-laws 𝓤 H A W .typed h _ (was) .0)) $
-        assigns ! (addr ! (from ! (stop !))) (from ! (stop !)) (init ! 10 refl (tt, tt)) $
-        assigns ! (addr ! (from ! (fld ! refl (hop ! (look-in ! 26 (sub ! 0 refl (whole !))) (stop !))))) (from ! (stop !)) (init ! 8 refl (tt, tt)) $
-        assigns ! (agg ! (and-then ! (load ! (from ! (stop !)) (look ! 8 refl)) (and-then ! (load ! (from ! (fld ! refl (stop !))) (look-in ! 26 (sub ! 1 refl (whole !)))) (no-more !)))) (from ! (stop !)) (init ! 6 refl (tt, (tt, (record { fits = room1 .0 }, tt)))) $
-        assigns ! (addr ! (from ! (fld ! refl (hop ! (look-in ! 24 (sub ! 0 refl (whole !))) (stop !))))) (from ! (stop !)) (init ! 4 refl (tt, tt)) $
-        assigns ! (agg ! (and-then ! (load ! (from ! (stop !)) (look ! 4 refl)) (and-then ! (load ! (from ! (fld ! refl (stop !))) (look-in ! 24 (sub ! 1 refl (whole !)))) (no-more !)))) (from ! (stop !)) (init ! 2 refl (tt, (tt, (record { fits = room2 .0 }, tt)))) $
-        lft-new ! tt (λ α. move ! (15 ∷ 40 ∷ []) $ use2 W (‵ (partAt R fullShare h m8 0)) (part-in 𝓤 H A W R refl fullShare h m8 0 (mach h)) $ use1 W (later (some (λ (γ : GName). ‵ (Own0 α γ m8) ⊛ ‵ (flent (α ∷ []) (Body (mem R) m8 0 γ))))) (lends-ref 𝓤 H A W R (named 0) (α ∷ []) h m8 0) $ await ! tt $ pick ! (λ γ. split ! $
-        move ! (2 ∷ 41 ∷ []) $ join ! $ move ! (40 ∷ 39 ∷ []) $ join ! $ move ! (2 ∷ 0 ∷ []) $ join ! $ move ! (1 ∷ 0 ∷ []) $ join ! $ move ! (0 ∷ []) $ use1 W (raw (Core 𝓤 H A at-mem run .pre (to-core α γ m8))) (goes α γ m8) $
-        calls-at ! fm (Core 𝓤 H A at-mem run) known (to-core α γ m8) (and-then ! (load ! (from ! (stop !)) (look ! 12 refl)) (and-then ! (load ! (from ! (stop !)) (look ! 8 refl)) (and-then ! (load ! (from ! (stop !)) (look ! 4 refl)) (and-then ! (load ! (from ! (stop !)) (look ! 23 refl)) (and-then ! (load ! (from ! (stop !)) (look ! 21 refl)) (and-then ! (load ! (from ! (stop !)) (look ! 19 refl)) (and-then ! (load ! (from ! (stop !)) (look ! 17 refl)) (no-more !)))))))) (λ u.
-        use1 W (later (some (λ (r : Built). ((‵ (flft (α ∷ []) fullShare) ⊛ (‵ (flft κ1 q1) ⊛ ‵ (flft κ2 q2) ⊛ ‵ ftrue)) ⊛ ‵ (An.the-row .own r (u ∷ []))) ⊛ raw (ensured 𝓤 H A core.ended (core.clauses 𝓤 H A at-mem run) (α ∷ [], (κ1, (κ2, tt))) (passed γ m8) tt r)))) (id⊢ 𝓤 _) $ await ! tt $ pick ! (λ r.
-        split ! $ move ! (1 ∷ []) $ use1 W (some (λ (zs : (Header × (List ℤ × (List Float × (Unit {0} × (Unit {0} × (Unit {0} × (Unit {0} × Unit {0})))))))). ‵ (lasts core.ended (α ∷ [], (κ1, (κ2, tt))) (passed γ m8) zs) ⊛ raw (fact 𝓤 (Builds (lentOf h (x1 .now) (x2 .now)) x3 x4 x5 x6 (lentOf (zs .0) (zs .1 .0) (zs .1 .1 .0)) r)))) (id⊢ 𝓤 _) $ pick ! (λ zs.
-        split ! $ move ! (1 ∷ []) $ heard ! (Builds (lentOf h (x1 .now) (x2 .now)) x3 x4 x5 x6 (lentOf (zs .0) (zs .1 .0) (zs .1 .1 .0)) r) (λ e. fsplit ! $ move ! (1 ∷ []) $ fsplit ! $ fsplit ! $ move ! (1 ∷ []) $ feqL ! (λ l1. move ! (1 ∷ []) $ fsplit ! $ fsplit ! $ move ! (1 ∷ []) $ feqL ! (λ l2. move ! (1 ∷ []) $ fsplit ! $ move ! (1 ∷ []) $ fsplit ! $ move ! (1 ∷ []) $ fsplit ! $ move ! (1 ∷ []) $ fsplit ! $
-        move ! (8 ∷ []) $ split ! $ move ! (1 ∷ []) $ peeks ! An.the-row (Is An.the-row) (shows 𝓤 H A An.the-row) r (u ∷ []) (λ is.
-        land ! (from ! (stop !)) (init ! 23 refl (LL.lawful An.the-type An′.the-laws 𝓤 H A W .typed r _ (is) .0)) $ rewrite ! 23 (λ (y : Val). ‵ (fat fullShare An′.mir m9 0 y)) (ap only (LL.tells An.the-type An′.the-laws r _ is)) refl $
-        move ! (1 ∷ []) $ split ! $ lft-end ! tt $ move ! (0 ∷ 11 ∷ 10 ∷ []) $ use3 W (later (‵ (partAt R fullShare (zs .0) m8 0))) (ref-back 𝓤 H A W R (α ∷ []) γ (zs .0) m8 0) $ await ! tt $
-        use1 W (some (λ (v : Val). ‵ (fat fullShare T′.mir m8 0 v) ⊛ ‵ (R .own (zs .0) (v ∷ [])))) (part-out 𝓤 H A W R refl fullShare (zs .0) m8 0) $ pick ! (λ v. split ! $
+    walk : Room i32 (length (x1 .now)) → Room f64 (length (x2 .now)) → Room u32 (length (x3 .now)) → ent 𝓤 (onEntry 𝓤 H A entry.signature (κ1, (κ2, (κ3, tt))) (q1, (q2, (q3, tt))) a vals) (WpFn 𝓤 H C Λ code.function (mach h ∷ v1 ∷ v2 ∷ v3 ∷ vint w32 x4 ∷ vint w32 x5 ∷ vint w32 x6 ∷ vint w32 x7 ∷ []) Post)
+    walk room1 room2 room3 =
+        qed W ((‵ (flft κ1 q1) ⊛ ‵ (flft κ2 q2) ⊛ ‵ (flft κ3 q3) ⊛ ‵ ftrue) ∷ ‵ (owns (R ∷ MutSlice (named 0) κ1 i32 ∷ MutSlice (named 1) κ2 f64 ∷ MutSlice (named 2) κ3 u32 ∷ u32 ∷ u32 ∷ u32 ∷ u32 ∷ []) a vals) ∷ []) ∵
+        move ! (1 ∷ []) $ fsplit ! $ move ! (1 ∷ []) $ fsplit ! $ move ! (1 ∷ []) $ fsplit ! $ move ! (1 ∷ []) $ fsplit ! $ move ! (1 ∷ []) $ fsplit ! $ move ! (1 ∷ []) $ fsplit ! $ move ! (1 ∷ []) $ fsplit ! $ move ! (1 ∷ []) $ fsplit ! $
+        enter ! C Λ code.function (mach h ∷ v1 ∷ v2 ∷ v3 ∷ vint w32 x4 ∷ vint w32 x5 ∷ vint w32 x6 ∷ vint w32 x7 ∷ []) _ $
+        alloc1 ! (λ m0. alloc1 ! (λ m1. alloc1 ! (λ m2. alloc1 ! (λ m3. alloc1 ! (λ m4. alloc1 ! (λ m5. alloc1 ! (λ m6. alloc1 ! (λ m7. alloc1 ! (λ m8. alloc1 ! (λ m9. alloc1 ! (λ m10. alloc1 ! (λ m11. alloc1 ! (λ m12. alloc1 ! (λ m13. alloc1 ! (λ m14. alloc1 ! (λ m15. alloc1 ! (λ m16. alloc1 ! (λ m17. alloc1 ! (λ m18. alloc0 ! $ params1 ! $
+        pass1 ! (init ! 34 refl (LL.lawful T.the-type T′.the-laws 𝓤 H A W .typed h _ (was) .0)) $ pass1 ! (init ! 32 refl (tt, (tt, (record { fits = room1 .0 }, tt)))) $ pass1 ! (init ! 30 refl (tt, (tt, (record { fits = room2 .0 }, tt)))) $ pass1 ! (init ! 28 refl (tt, (tt, (record { fits = room3 .0 }, tt)))) $ pass1 ! (init ! 26 refl (tt, record { fits = fit4 })) $ pass1 ! (init ! 24 refl (tt, record { fits = fit5 })) $ pass1 ! (init ! 22 refl (tt, record { fits = fit6 })) $ pass1 ! (init ! 20 refl (tt, record { fits = fit7 })) $ pass0 ! $
+        assigns ! (of-opd ! (load ! (from ! (stop !)) (look ! 34 refl))) (from ! (stop !)) (init ! 18 refl (LL.lawful T.the-type T′.the-laws 𝓤 H A W .typed h _ (was) .0)) $
+        assigns ! (addr ! (from ! (stop !))) (from ! (stop !)) (init ! 14 refl (tt, tt)) $
+        assigns ! (addr ! (from ! (fld ! refl (hop ! (look-in ! 32 (sub ! 0 refl (whole !))) (stop !))))) (from ! (stop !)) (init ! 12 refl (tt, tt)) $
+        assigns ! (agg ! (and-then ! (load ! (from ! (stop !)) (look ! 12 refl)) (and-then ! (load ! (from ! (fld ! refl (stop !))) (look-in ! 32 (sub ! 1 refl (whole !)))) (no-more !)))) (from ! (stop !)) (init ! 10 refl (tt, (tt, (record { fits = room1 .0 }, tt)))) $
+        assigns ! (addr ! (from ! (fld ! refl (hop ! (look-in ! 30 (sub ! 0 refl (whole !))) (stop !))))) (from ! (stop !)) (init ! 8 refl (tt, tt)) $
+        assigns ! (agg ! (and-then ! (load ! (from ! (stop !)) (look ! 8 refl)) (and-then ! (load ! (from ! (fld ! refl (stop !))) (look-in ! 30 (sub ! 1 refl (whole !)))) (no-more !)))) (from ! (stop !)) (init ! 6 refl (tt, (tt, (record { fits = room2 .0 }, tt)))) $
+        assigns ! (addr ! (from ! (fld ! refl (hop ! (look-in ! 28 (sub ! 0 refl (whole !))) (stop !))))) (from ! (stop !)) (init ! 4 refl (tt, tt)) $
+        assigns ! (agg ! (and-then ! (load ! (from ! (stop !)) (look ! 4 refl)) (and-then ! (load ! (from ! (fld ! refl (stop !))) (look-in ! 28 (sub ! 1 refl (whole !)))) (no-more !)))) (from ! (stop !)) (init ! 2 refl (tt, (tt, (record { fits = room3 .0 }, tt)))) $
+        lft-new ! tt (λ α. move ! (19 ∷ 47 ∷ []) $ use2 W (‵ (partAt R fullShare h m9 0)) (part-in 𝓤 H A W R refl fullShare h m9 0 (mach h)) $ use1 W (later (some (λ (γ : GName). ‵ (Own0 α γ m9) ⊛ ‵ (flent (α ∷ []) (Body (mem R) m9 0 γ))))) (lends-ref 𝓤 H A W R (named 0) (α ∷ []) h m9 0) $ await ! tt $ pick ! (λ γ. split ! $
+        move ! (2 ∷ 48 ∷ []) $ join ! $ move ! (46 ∷ 45 ∷ []) $ join ! $ move ! (46 ∷ 0 ∷ []) $ join ! $ move ! (2 ∷ 0 ∷ []) $ join ! $ move ! (1 ∷ 0 ∷ []) $ join ! $ move ! (0 ∷ []) $ use1 W (raw (Core 𝓤 H A at-mem run .pre (to-core α γ m9))) (goes α γ m9) $
+        calls-at ! fm (Core 𝓤 H A at-mem run) known (to-core α γ m9) (and-then ! (load ! (from ! (stop !)) (look ! 16 refl)) (and-then ! (load ! (from ! (stop !)) (look ! 12 refl)) (and-then ! (load ! (from ! (stop !)) (look ! 8 refl)) (and-then ! (load ! (from ! (stop !)) (look ! 4 refl)) (and-then ! (load ! (from ! (stop !)) (look ! 27 refl)) (and-then ! (load ! (from ! (stop !)) (look ! 25 refl)) (and-then ! (load ! (from ! (stop !)) (look ! 23 refl)) (and-then ! (load ! (from ! (stop !)) (look ! 21 refl)) (no-more !))))))))) (λ u.
+        use1 W (later (some (λ (r : Built). ((‵ (flft (α ∷ []) fullShare) ⊛ (‵ (flft κ1 q1) ⊛ ‵ (flft κ2 q2) ⊛ ‵ (flft κ3 q3) ⊛ ‵ ftrue)) ⊛ ‵ (An.the-row .own r (u ∷ []))) ⊛ raw (ensured 𝓤 H A core.ended (core.clauses 𝓤 H A at-mem run) (α ∷ [], (κ1, (κ2, (κ3, tt)))) (passed γ m9) tt r)))) (id⊢ 𝓤 _) $ await ! tt $ pick ! (λ r.
+        split ! $ move ! (1 ∷ []) $ use1 W (some (λ (zs : (Header × (List ℤ × (List Float × (List ℕ × (Unit {0} × (Unit {0} × (Unit {0} × (Unit {0} × Unit {0}))))))))). ‵ (lasts core.ended (α ∷ [], (κ1, (κ2, (κ3, tt)))) (passed γ m9) zs) ⊛ raw (fact 𝓤 (Builds (countedOf h (x1 .now) (x2 .now) (x3 .now)) x4 x5 x6 x7 (countedOf (zs .0) (zs .1 .0) (zs .1 .1 .0) (zs .1 .1 .1 .0)) r)))) (id⊢ 𝓤 _) $ pick ! (λ zs.
+        split ! $ move ! (1 ∷ []) $ heard ! (Builds (countedOf h (x1 .now) (x2 .now) (x3 .now)) x4 x5 x6 x7 (countedOf (zs .0) (zs .1 .0) (zs .1 .1 .0) (zs .1 .1 .1 .0)) r) (λ e. fsplit ! $ move ! (1 ∷ []) $ fsplit ! $ fsplit ! $ move ! (1 ∷ []) $ feqL ! (λ l1. move ! (1 ∷ []) $ fsplit ! $ fsplit ! $ move ! (1 ∷ []) $ feqL ! (λ l2. move ! (1 ∷ []) $ fsplit ! $ fsplit ! $ move ! (1 ∷ []) $ feqL ! (λ l3. move ! (1 ∷ []) $ fsplit ! $ move ! (1 ∷ []) $ fsplit ! $ move ! (1 ∷ []) $ fsplit ! $ move ! (1 ∷ []) $ fsplit ! $
+        move ! (9 ∷ []) $ split ! $ move ! (1 ∷ []) $ peeks ! An.the-row (Is An.the-row) (shows 𝓤 H A An.the-row) r (u ∷ []) (λ is.
+        land ! (from ! (stop !)) (init ! 28 refl (LL.lawful An.the-type An′.the-laws 𝓤 H A W .typed r _ (is) .0)) $ rewrite ! 28 (λ (y : Val). ‵ (fat fullShare An′.mir m10 0 y)) (ap only (LL.tells An.the-type An′.the-laws r _ is)) refl $
+        move ! (1 ∷ []) $ split ! $ lft-end ! tt $ move ! (0 ∷ 12 ∷ 11 ∷ []) $ use3 W (later (‵ (partAt R fullShare (zs .0) m9 0))) (ref-back 𝓤 H A W R (α ∷ []) γ (zs .0) m9 0) $ await ! tt $
+        use1 W (some (λ (v : Val). ‵ (fat fullShare T′.mir m9 0 v) ⊛ ‵ (R .own (zs .0) (v ∷ [])))) (part-out 𝓤 H A W R refl fullShare (zs .0) m9 0) $ pick ! (λ v. split ! $
         move ! (1 ∷ []) $ peeks ! R (Is R) (shows 𝓤 H A R) (zs .0) (v ∷ []) (λ now.
-        rewrite ! 1 (λ (y : Val). ‵ (fat fullShare T′.mir m8 0 y)) (ap only (LL.tells T.the-type T′.the-laws (zs .0) _ now)) refl $
-        assigns ! (of-opd ! (load ! (from ! (stop !)) (look ! 1 refl))) (from ! (stop !)) (init ! 11 refl (LL.lawful T.the-type T′.the-laws 𝓤 H A W .typed (zs .0) _ (of-header (zs .0) v now) .0)) $
-        assigns ! (agg ! (and-then ! (load ! (from ! (stop !)) (look ! 11 refl)) (and-then ! (load ! (from ! (stop !)) (look ! 23 refl)) (no-more !)))) (from ! (stop !)) (init ! 40 refl (LL.lawful Co.the-type Co′.the-laws 𝓤 H A W .typed (out (zs .0) r) _ (of-out (zs .0) r v u now is) .0)) $
-        returns ! (look ! 40 refl) $ forget ! 11 refl $ forget ! 13 refl $ forget ! 15 refl $ forget ! 17 refl $ forget ! 19 refl $ forget ! 21 refl $ forget ! 23 refl $ forget ! 1 refl $ forget ! 26 refl $ forget ! 28 refl $ forget ! 30 refl $ forget ! 32 refl $ forget ! 34 refl $ forget ! 36 refl $ forget ! 38 refl $ forget ! 40 refl $
-        move ! (40 ∷ 41 ∷ []) $ free1 ! $ move ! (38 ∷ 39 ∷ []) $ free1 ! $ move ! (36 ∷ 37 ∷ []) $ free1 ! $ move ! (34 ∷ 35 ∷ []) $ free1 ! $ move ! (32 ∷ 33 ∷ []) $ free1 ! $ move ! (30 ∷ 31 ∷ []) $ free1 ! $ move ! (28 ∷ 29 ∷ []) $ free1 ! $ move ! (26 ∷ 27 ∷ []) $ free1 ! $ move ! (1 ∷ 25 ∷ []) $ free1 ! $ move ! (22 ∷ 23 ∷ []) $ free1 ! $ move ! (20 ∷ 21 ∷ []) $ free1 ! $ move ! (18 ∷ 19 ∷ []) $ free1 ! $ move ! (16 ∷ 17 ∷ []) $ free1 ! $ move ! (14 ∷ 15 ∷ []) $ free1 ! $ move ! (12 ∷ 13 ∷ []) $ free1 ! $ move ! (10 ∷ 11 ∷ []) $ free1 ! $ free0 ! $
-        keep ! (1 ∷ 9 ∷ 8 ∷ []) $ by ! (exits (zs .0) r (zs .1 .0) (zs .1 .1 .0) (of-out (zs .0) r v u now is) e l1 l2))))))))))))))))))))))))))))
+        rewrite ! 1 (λ (y : Val). ‵ (fat fullShare T′.mir m9 0 y)) (ap only (LL.tells T.the-type T′.the-laws (zs .0) _ now)) refl $
+        assigns ! (of-opd ! (load ! (from ! (stop !)) (look ! 1 refl))) (from ! (stop !)) (init ! 12 refl (LL.lawful T.the-type T′.the-laws 𝓤 H A W .typed (zs .0) _ (of-header (zs .0) v now) .0)) $
+        assigns ! (agg ! (and-then ! (load ! (from ! (stop !)) (look ! 12 refl)) (and-then ! (load ! (from ! (stop !)) (look ! 28 refl)) (no-more !)))) (from ! (stop !)) (init ! 47 refl (LL.lawful Co.the-type Co′.the-laws 𝓤 H A W .typed (out (zs .0) r) _ (of-out (zs .0) r v u now is) .0)) $
+        returns ! (look ! 47 refl) $ forget ! 12 refl $ forget ! 14 refl $ forget ! 16 refl $ forget ! 18 refl $ forget ! 20 refl $ forget ! 22 refl $ forget ! 24 refl $ forget ! 26 refl $ forget ! 28 refl $ forget ! 1 refl $ forget ! 31 refl $ forget ! 33 refl $ forget ! 35 refl $ forget ! 37 refl $ forget ! 39 refl $ forget ! 41 refl $ forget ! 43 refl $ forget ! 45 refl $ forget ! 47 refl $
+        move ! (47 ∷ 48 ∷ []) $ free1 ! $ move ! (45 ∷ 46 ∷ []) $ free1 ! $ move ! (43 ∷ 44 ∷ []) $ free1 ! $ move ! (41 ∷ 42 ∷ []) $ free1 ! $ move ! (39 ∷ 40 ∷ []) $ free1 ! $ move ! (37 ∷ 38 ∷ []) $ free1 ! $ move ! (35 ∷ 36 ∷ []) $ free1 ! $ move ! (33 ∷ 34 ∷ []) $ free1 ! $ move ! (31 ∷ 32 ∷ []) $ free1 ! $ move ! (1 ∷ 30 ∷ []) $ free1 ! $ move ! (27 ∷ 28 ∷ []) $ free1 ! $ move ! (25 ∷ 26 ∷ []) $ free1 ! $ move ! (23 ∷ 24 ∷ []) $ free1 ! $ move ! (21 ∷ 22 ∷ []) $ free1 ! $ move ! (19 ∷ 20 ∷ []) $ free1 ! $ move ! (17 ∷ 18 ∷ []) $ free1 ! $ move ! (15 ∷ 16 ∷ []) $ free1 ! $ move ! (13 ∷ 14 ∷ []) $ free1 ! $ move ! (11 ∷ 12 ∷ []) $ free1 ! $ free0 ! $
+        keep ! (1 ∷ 10 ∷ 9 ∷ 8 ∷ []) $ by ! (exits (zs .0) r (zs .1 .0) (zs .1 .1 .0) (zs .1 .1 .1 .0) (of-out (zs .0) r v u now is) e l1 l2 l3))))))))))))))))))))))))))))))))
 
 module _ {M : Type 1} (𝓤 : URA M) (H : Heap 𝓤) (A : Atoms 𝓤) (W : Given 𝓤 H A) (at-mem : Memory → SProp 𝓤) (run : Routine → Fun 𝓤) where
   walks : (C : Calls 𝓤 H) (Λ : Loops 𝓤 H) → FmC 𝓤 H (W .laws) C → Triple 𝓤 (C #core) (Core 𝓤 H A at-mem run) → Walks 𝓤 H A entry.ended stayed (WpFn 𝓤 H C Λ code.function) (entry.clauses 𝓤 H A at-mem run)
   walks C Λ fm known = walked 𝓤 H A entry.ended stayed (entry.clauses 𝓤 H A at-mem run) (WpFn 𝓤 H C Λ code.function)
-      (λ κs. (LL.vals T.the-type T′.the-laws, (slice-vals, (slice-vals, (uint-vals w32, (uint-vals w32, (uint-vals w32, (uint-vals w32, tt)))))))) (λ κs. (LL.tells T.the-type T′.the-laws, (mut-slice-tells (named 0) (κs .0) i32, (mut-slice-tells (named 1) (κs .1 .0) f64, (uint-tells w32, (uint-tells w32, (uint-tells w32, (uint-tells w32, tt))))))))
-      (λ κs qs bounds a g are. via 𝓤 _ (fst∗ 𝓤 _ (emp 𝓤)) (walk 𝓤 H A W at-mem run (κs .0) (κs .1 .0) (qs .0) (qs .1 .0) (a .0) (a .1 .0) (a .1 .1 .0) (a .1 .1 .1 .0) (a .1 .1 .1 .1 .0) (a .1 .1 .1 .1 .1 .0) (a .1 .1 .1 .1 .1 .1 .0) (are .0) (are .1 .1 .1 .0 .1) (are .1 .1 .1 .1 .0 .1) (are .1 .1 .1 .1 .1 .0 .1) (are .1 .1 .1 .1 .1 .1 .0 .1) C Λ fm known (are .1 .0 .0 .1) (are .1 .1 .0 .0 .1)))
+      (λ κs. (LL.vals T.the-type T′.the-laws, (slice-vals, (slice-vals, (slice-vals, (uint-vals w32, (uint-vals w32, (uint-vals w32, (uint-vals w32, tt))))))))) (λ κs. (LL.tells T.the-type T′.the-laws, (mut-slice-tells (named 0) (κs .0) i32, (mut-slice-tells (named 1) (κs .1 .0) f64, (mut-slice-tells (named 2) (κs .1 .1 .0) u32, (uint-tells w32, (uint-tells w32, (uint-tells w32, (uint-tells w32, tt)))))))))
+      (λ κs qs bounds a g are. via 𝓤 _ (fst∗ 𝓤 _ (emp 𝓤)) (walk 𝓤 H A W at-mem run (κs .0) (κs .1 .0) (κs .1 .1 .0) (qs .0) (qs .1 .0) (qs .1 .1 .0) (a .0) (a .1 .0) (a .1 .1 .0) (a .1 .1 .1 .0) (a .1 .1 .1 .1 .0) (a .1 .1 .1 .1 .1 .0) (a .1 .1 .1 .1 .1 .1 .0) (a .1 .1 .1 .1 .1 .1 .1 .0) (are .0) (are .1 .1 .1 .1 .0 .1) (are .1 .1 .1 .1 .1 .0 .1) (are .1 .1 .1 .1 .1 .1 .0 .1) (are .1 .1 .1 .1 .1 .1 .1 .0 .1) C Λ fm known (are .1 .0 .0 .1) (are .1 .1 .0 .0 .1) (are .1 .1 .1 .0 .0 .1)))
 
-  goes-all : AllGo 𝓤 H A W 2 (entry.signature .params) (entry.ended .kept) stayed
-  goes-all = (goes-none 𝓤 H A W 2 (λ _. T.the-row) yes (λ κs x f. refl), (goes-gave-slice 𝓤 H A W 2 0 tt (plain (λ _. i32)), (goes-gave-slice 𝓤 H A W 2 1 tt (plain (λ _. f64)), (goes-none 𝓤 H A W 2 (λ _. u32) yes (λ κs x f. refl), (goes-none 𝓤 H A W 2 (λ _. u32) yes (λ κs x f. refl), (goes-none 𝓤 H A W 2 (λ _. u32) yes (λ κs x f. refl), (goes-none 𝓤 H A W 2 (λ _. u32) yes (λ κs x f. refl), tt)))))))
+  goes-all : AllGo 𝓤 H A W 3 (entry.signature .params) (entry.ended .kept) stayed
+  goes-all = (goes-none 𝓤 H A W 3 (λ _. T.the-row) yes (λ κs x f. refl), (goes-gave-slice 𝓤 H A W 3 0 tt (plain (λ _. i32)), (goes-gave-slice 𝓤 H A W 3 1 tt (plain (λ _. f64)), (goes-gave-slice 𝓤 H A W 3 2 tt (plain (λ _. u32)), (goes-none 𝓤 H A W 3 (λ _. u32) yes (λ κs x f. refl), (goes-none 𝓤 H A W 3 (λ _. u32) yes (λ κs x f. refl), (goes-none 𝓤 H A W 3 (λ _. u32) yes (λ κs x f. refl), (goes-none 𝓤 H A W 3 (λ _. u32) yes (λ κs x f. refl), tt))))))))
 
 meets : {M : Type 1} (𝓤 : URA M) (H : Heap 𝓤) (A : Atoms 𝓤) → Given 𝓤 H A → (mem : Memory → SProp 𝓤) (run : Routine → Fun 𝓤) (𝓣 : Tables 𝓤 H) → Triple 𝓤 (𝓣 .C #core) (Core 𝓤 H A mem run)
     → Meets 𝓤 H A entry.signature (WpFn 𝓤 H (𝓣 .C) (𝓣 .Λ) code.function) (entry.spec 𝓤 H A mem run)
