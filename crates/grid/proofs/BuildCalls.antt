@@ -3,9 +3,8 @@
 use Prim.Native.Nat.{ℕ, _*_, _≤_, _<_}
 use native.Mathlib.Omega.{arith}
 use native.Mathlib.Nat.{mul-le-mul}
-use mathlib.Core.Path.{_≡_, refl, sym, ap, _∙_, subst}
+use mathlib.Core.Path.{_≡_, sym, ap, _∙_, subst}
 use mathlib.Core.Logic.{_≢_}
-use mathlib.Core.Bool.{Bool, true, false, cond}
 use mathlib.Core.List.{List, [], _∷_}
 use lib.Dec.{eqb, ltb}
 use lib.ListN.{length}
@@ -25,6 +24,7 @@ use Rattle.build.specs.BuildSteps.{Made}
 use Rattle.tally.specs.TallyRows.{builtCounts}
 use Rattle.tally.proofs.BuiltCounts.{built-listed}
 use Rattle.demand_laws.proofs.Refusals.{unless-accepted, unless-refused}
+use Rattle.place_laws.proofs.Bools.{cond-same}
 use Rattle.place_laws.proofs.Ranges.{fits-sizes}
 use Rattle.number_laws.proofs.Checks.{passes}
 use Rattle.demand_laws.proofs.PicturedCalls.{Buildable, build-checked}
@@ -32,14 +32,10 @@ use Rattle.grid.specs.Calls.{builtOf, asked, Builds}
 
 -- ---- the refusal
 
-cond-same : (b : Bool) (n : ℕ) → cond b n n ≡ n
-cond-same true n = refl
-cond-same false n = refl
-
 -- the list's length comes with 1
 pub miscounted : (cap : ℕ) (l : Counted) (g : Grid) → length (l .counts) ≢ countPlaces → 1 ≡ refusal (buildChecks cap l g)
 unfolding buildChecks refusal
-miscounted cap l g h = rw (ne-eqb (length (l .counts)) countPlaces h) (sym (cond-same (missized cap (l .lent)) 1))
+miscounted cap l g h = rw (ne-eqb (length (l .counts)) countPlaces h) (sym (cond-same {A = ℕ} (missized cap (l .lent)) 1))
 
 module _ (cap : ℕ) (l : Counted) (g : Grid) (long : length (l .counts) ≡ countPlaces) where
   past-length : refusal (buildChecks cap l g) ≡ refusal (no1 cap (l .lent) ∷ no2 g ∷ (11 if ltb cap (length (numbered g))) ∷ [])

@@ -19,7 +19,7 @@ use Rattle.mesh.specs.LeafCounts.{countPlaces, leafCounts, Counted, counted, So
 use Rattle.mesh.specs.Test.{sound}
 use Rattle.mesh.specs.Refusal.{refusal}
 use Rattle.mesh.specs.Call.{missized, misfit, Sizes, lentChecks, lentRefusal, countedChecks, checkCall}
-use Rattle.place_laws.proofs.Bools.{is-yes, yes-is}
+use Rattle.place_laws.proofs.Bools.{is-yes, yes-is, cond-same}
 use Rattle.picture_laws.proofs.Decoding.{decode-back}
 use Rattle.picture_laws.proofs.Equal.{list-is, list-refl}
 use Rattle.picture_laws.proofs.Accepted.{lent-sound, sound-accepted, picture-sizes}
@@ -39,11 +39,7 @@ module _ (cap : ℕ) (l : Counted) where
 
   pub miscounted : length (l .counts) ≢ countPlaces → 1 ≡ checkCall cap l
   unfolding checkCall countedChecks refusal
-  miscounted h = rw (ne-eqb (length (l .counts)) countPlaces h) (go (missized cap (l .lent)))
-    where
-      go : (b : Bool) → _≡_ {A = ℕ} 1 (cond b 1 1)
-      go true = refl
-      go false = refl
+  miscounted h = rw (ne-eqb (length (l .counts)) countPlaces h) (sym (cond-same {A = ℕ} (missized cap (l .lent)) 1))
 
   -- ---- then what every call asks, and then whether the list agrees
 

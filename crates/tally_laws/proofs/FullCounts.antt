@@ -3,7 +3,7 @@
 -- Assumes nothing.
 use Prim.Native.Nat.{ℕ, suc, _+_, _*_, _^_, _≤_, _<_}
 use native.Mathlib.Omega.{arith}
-use mathlib.Core.Path.{_≡_, refl, sym, ap, _∙_}
+use mathlib.Core.Path.{_≡_, refl, sym, ap, _∙_, subst}
 use mathlib.Core.Logic.{_⊎_, inl, inr}
 use mathlib.Core.Bool.{Bool, false, _&&_, and-false}
 use mathlib.Core.Option.{none, some}
@@ -20,6 +20,8 @@ use Rattle.mesh.specs.Valid.{Valid}
 use Rattle.mesh.specs.LeafCounts.{isCounted, leafCount}
 use Rattle.tally_laws.specs.LeavesOn.{statusAt, leavesOn}
 use Rattle.place_laws.proofs.Bools.{yes-is, no-is, and-left, and-right}
+use Rattle.place_laws.proofs.Lists.{any-hit}
+use Rattle.place_laws.proofs.Counting.{count-none}
 use Rattle.place_laws.proofs.Distinct.{keep-in, in-keep, keep-distinct}
 use Rattle.place_laws.proofs.Kids.{leaf-cell}
 use Rattle.place_laws.proofs.Base.{cell-on}
@@ -128,14 +130,13 @@ status-most (carried x) = omega arith
 pub leaf-placed : (s : State) → Valid s → (n : ℕ) (p : Place) (x : Cell) → entry (s .entries) n ≡ used p (some x) → (base (gridOf s) ≤ p .depth) × (p .depth ≤ base (gridOf s) + 12) × (status (x .value) ≤ 2)
 leaf-placed s v n p x e = let t = cell-there (s .entries) n p x e in (v .mesh .low p t, v .mesh .high p t, status-most (x .value))
 
-count-none : {A : Type 0} (f : A → Bool) (d : A) (xs : List A) → ((n : ℕ) → f (getD xs n d) ≡ false) → count f xs ≡ 0
-count-none f d [] e = refl
-count-none f d (x ∷ xs) e = let z : f x ≡ false = e 0 in rw z (omega (arith, count-none f d xs (λ n. e (suc n))))
-
 pub none-else : (s : State) → Valid s → (l k : ℕ) → (12 < l) ⊎ (2 < k) → leafCount s l k ≡ 0
 unfolding leafCount
-none-else s v l k h = count-none (isCounted (gridOf s) (cells (s .entries)) l k) nil (s .entries) (λ n. go n (entry (s .entries) n) refl)
+none-else s v l k h = count-none counts-here (s .entries) (λ t. let (n, _, u) = any-hit counts-here nil (s .entries) t in subst T (go n (entry (s .entries) n) refl) u)
   where
+    counts-here : Entry → Bool
+    counts-here = isCounted (gridOf s) (cells (s .entries)) l k
+
     apart : (n : ℕ) (p : Place) (x : Cell) → entry (s .entries) n ≡ used p (some x) → (12 < l) ⊎ (2 < k) → (eqb (p .depth) (base (gridOf s) + l) && eqb (status (x .value)) k) ≡ false
     apart n p x e (inl a) = let (_, high, _) = leaf-placed s v n p x e in rw (ne-eqb (p .depth) (base (gridOf s) + l) (λ z. omega arith))
     apart n p x e (inr a) = let (_, _, few) = leaf-placed s v n p x e in rw (ne-eqb (status (x .value)) k (λ z. omega arith)) (and-false (eqb (p .depth) (base (gridOf s) + l)))
