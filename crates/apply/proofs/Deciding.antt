@@ -10,11 +10,12 @@ use lib.Ieee.{Float}
 use Rattle.mesh.specs.State.{State, Header}
 use Rattle.mesh.specs.LeafCounts.{Counted}
 use Rattle.mesh.specs.Refusal.{refusal}
-use Rattle.mesh.specs.Request.{Request, refine, sentence, remove, kill, setValue, checks}
+use Rattle.mesh.specs.Request.{Request, refine, sentence, remove, kill, setValue, looseChecks, checks}
+use Rattle.number_laws.proofs.Checks.{loosely}
 use Rattle.refusals.specs.Decide.{refineRows, sentenceRows, removeRows, killRows, setRows, refineRefusal, sentenceRefusal, removeRefusal, killRefusal, setRefusal}
 use Rattle.refusals.proofs.Arms.{accepted-within}
 use Rattle.refusals.proofs.Refusing.{refine-refusal, sentence-refusal, remove-refusal, kill-refusal, set-refusal}
-use Rattle.apply.specs.Drawn.{lists, Drawn}
+use Rattle.apply.specs.Drawn.{lists, Drawn, Standing}
 use Rattle.apply.specs.Applied.{Applied}
 use Rattle.apply.proofs.Drawing.{from-picture}
 
@@ -61,6 +62,11 @@ module _ (t : List ℤ) (cap n : ℕ) where
   pub kill-within : (d : ℕ) {given : ℕ} → given ≡ killRefusal t cap d n → given ≡ 0 → n ≤ cap
   unfolding killRefusal
   kill-within d x z = accepted-within t cap n (drop 1 (killRows t cap d n)) (sym x ∙ z) .1
+
+-- ---- one that is not refused passes the checks that its effect rests on
+
+pub passed : {cap d : ℕ} {t : List ℤ} {v : List Float} {c : List ℕ} (h : Standing cap d t v c) (q : Request) → Decides q cap d (lists t v c) 0 → refusal (looseChecks (h .pictured .state) q) ≡ 0
+passed h q x = loosely (h .pictured .state) q (sym (x (h .pictured .state) (h .pictured .drawn)))
 
 -- ---- a refused request
 

@@ -10,11 +10,9 @@ use lib.Ieee.{Float}
 use Rattle.mesh.specs.Place.{base}
 use Rattle.mesh.specs.State.{State, isFree, placeAt, gridOf, capacity}
 use Rattle.mesh.specs.Picture.{table}
-use Rattle.mesh.specs.Refusal.{refusal}
 use Rattle.mesh.specs.Carrying.{sentencedCell, measuredCell}
-use Rattle.mesh.specs.Request.{Request, refine, sentence, remove, kill, setValue, looseChecks, effect, marked, newCell}
+use Rattle.mesh.specs.Request.{Request, refine, sentence, remove, kill, setValue, effect, marked, newCell}
 use Rattle.number_laws.specs.Numbered.{Numbered}
-use Rattle.number_laws.proofs.Checks.{loosely}
 use Rattle.number_laws.proofs.NumberedPlaces.{valid-numbered}
 use Rattle.table.specs.Words.{freeAt}
 use Rattle.free.specs.FreeMap.{Mapped}
@@ -27,7 +25,7 @@ use Rattle.edit_laws.proofs.Killing as Killing
 use Rattle.apply.specs.Drawn.{lists, Pictured, Standing}
 use Rattle.apply.specs.Applied.{Applied}
 use Rattle.apply.proofs.Drawing.{drawn-words, from-picture}
-use Rattle.apply.proofs.Deciding.{Decides}
+use Rattle.apply.proofs.Deciding.{Decides, passed}
 
 -- the number 0 is not free
 pub nil-taken : {cap d : ℕ} {t : List ℤ} {v : List Float} {c : List ℕ} → Pictured cap d (lists t v c) → freeAt t 0 ≡ false
@@ -42,9 +40,6 @@ module _ {cap d : ℕ} {t : List ℤ} {v : List Float} {c : List ℕ} (h : Stand
 
   on-picture : (P : List ℤ → ℕ → ℕ → Type 0) → P (table s) (capacity s) (base (gridOf s)) → P t cap d
   on-picture P = from-picture (h .pictured .drawn) P
-
-  passed : (q : Request) → Decides q cap d (lists t v c) 0 → refusal (looseChecks s q) ≡ 0
-  passed q x = loosely s q (sym (x s (h .pictured .drawn)))
 
   module _ {t′ : List ℤ} {v′ : List Float} {c′ : List ℕ} where
     after : (q : Request) → Applied q cap d (lists t v c) (lists t′ v′ c′) 0 → t′ ≡ table (effect s q)
@@ -65,20 +60,20 @@ module _ {cap d : ℕ} {t : List ℤ} {v : List Float} {c : List ℕ} (h : Stand
       -- ---- patches that come and go
 
       pub refine-left : Applied (refine n) cap d (lists t v c) (lists t′ v′ c′) 0 → freeAt t′ ≡ freeAt (suppliedNear t cap d n)
-      refine-left a = ap freeAt (after (refine n) a) ∙ sym (on-picture (λ t cap d. freeAt (suppliedNear t cap d n) ≡ freeAt (table (effect s (refine n)))) (refine-free s (h .pictured .drawn .valid) n (passed (refine n) (a .decided))))
+      refine-left a = ap freeAt (after (refine n) a) ∙ sym (on-picture (λ t cap d. freeAt (suppliedNear t cap d n) ≡ freeAt (table (effect s (refine n)))) (refine-free s (h .pictured .drawn .valid) n (passed h (refine n) (a .decided))))
 
       pub remove-left : Applied (remove n) cap d (lists t v c) (lists t′ v′ c′) 0 → freeAt t′ ≡ freeAt (droppedNear t cap n)
-      remove-left a = ap freeAt (after (remove n) a) ∙ sym (on-picture (λ t cap d. freeAt (droppedNear t cap n) ≡ freeAt (table (effect s (remove n)))) (Removal.dropped-free s (h .pictured .drawn .valid) n (passed (remove n) (a .decided))))
+      remove-left a = ap freeAt (after (remove n) a) ∙ sym (on-picture (λ t cap d. freeAt (droppedNear t cap n) ≡ freeAt (table (effect s (remove n)))) (Removal.dropped-free s (h .pictured .drawn .valid) n (passed h (remove n) (a .decided))))
 
       pub kill-left : Applied (kill n) cap d (lists t v c) (lists t′ v′ c′) 0 → freeAt t′ ≡ freeAt (droppedCorners t cap d n)
-      kill-left a = ap freeAt (after (kill n) a) ∙ sym (on-picture (λ t cap d. freeAt (droppedCorners t cap d n) ≡ freeAt (table (effect s (kill n)))) (Killing.dropped-free s (h .pictured .drawn .valid) n (passed (kill n) (a .decided))))
+      kill-left a = ap freeAt (after (kill n) a) ∙ sym (on-picture (λ t cap d. freeAt (droppedCorners t cap d n) ≡ freeAt (table (effect s (kill n)))) (Killing.dropped-free s (h .pictured .drawn .valid) n (passed h (kill n) (a .decided))))
 
   module _ (n : ℕ) where
     pub remove-first : Decides (remove n) cap d (lists t v c) 0 → freeAt (emptied t cap n) ≡ freeAt t
-    remove-first x = on-picture (λ t cap d. freeAt (emptied t cap n) ≡ freeAt t) (Removal.emptied-free s (h .pictured .drawn .valid) n (passed (remove n) x))
+    remove-first x = on-picture (λ t cap d. freeAt (emptied t cap n) ≡ freeAt t) (Removal.emptied-free s (h .pictured .drawn .valid) n (passed h (remove n) x))
 
     pub kill-first : Decides (kill n) cap d (lists t v c) 0 → freeAt (cleared t n) ≡ freeAt t
-    kill-first x = on-picture (λ t cap d. freeAt (cleared t n) ≡ freeAt t) (Killing.cleared-free s (h .pictured .drawn .valid) n (passed (kill n) x))
+    kill-first x = on-picture (λ t cap d. freeAt (cleared t n) ≡ freeAt t) (Killing.cleared-free s (h .pictured .drawn .valid) n (passed h (kill n) x))
 
 -- ---- the map
 

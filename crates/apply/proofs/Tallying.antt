@@ -17,11 +17,10 @@ use Rattle.tally.specs.CountSteps.{Move, moved, Movable}
 use Rattle.tally.specs.TallyRows.{Placed, LevelBelow, KidsPlaced, refinedMove, removedMove, killedMove, measuredMove}
 use Rattle.tally.proofs.Moving.{Balanced, can-move, moves-on}
 use Rattle.tally.proofs.RequestMoves.{refine-placed, refine-balanced, remove-placed, remove-balanced, kill-placed, kill-balanced, set-placed, set-balanced}
-use Rattle.number_laws.proofs.Checks.{loosely}
 use Rattle.refusals.specs.Decide.{refineRefusal, removeRefusal, killRefusal, setRefusal}
 use Rattle.apply.specs.Drawn.{lists, Drawn, Standing}
 use Rattle.apply.proofs.Drawing.{drawn-words, drawn-values, drawn-counts}
-use Rattle.apply.proofs.Deciding.{Decides, refine-decides, remove-decides, kill-decides, set-decides}
+use Rattle.apply.proofs.Deciding.{passed, refine-decides, remove-decides, kill-decides, set-decides}
 
 -- the counts c can make the move m, and then are those of the effect
 pub record Tallied (s : State) (q : Request) (c : List ℕ) (m : Move) : Type 0 where
@@ -60,24 +59,18 @@ module _ {s : State} {cap d : ℕ} {t : List ℤ} {v : List Float} {c : List ℕ
 -- ---- what the code asks for, once the request is not refused
 
 module _ {cap d : ℕ} {t : List ℤ} {v : List Float} {c : List ℕ} (h : Standing cap d t v c) (n : ℕ) where
-  abbrev its : State
-  its = h .pictured .state
-
   drawn : Drawn (h .pictured .state) cap d (lists t v c)
   drawn = h .pictured .drawn
 
-  passed : (q : Request) → Decides q cap d (lists t v c) 0 → refusal (looseChecks its q) ≡ 0
-  passed q x = loosely its q (sym (x its drawn))
-
   module _ {given : ℕ} (z : given ≡ 0) where
     pub refine-asks : given ≡ refineRefusal t cap n → Placed t v n × LevelBelow t n × Movable c (refinedMove t v n)
-    refine-asks x = let (a, b, m) = refine-tallied drawn n (passed (refine n) (refine-decides cap d n t v c (sym z ∙ x))) in (a, b, m .movable)
+    refine-asks x = let (a, b, m) = refine-tallied drawn n (passed h (refine n) (refine-decides cap d n t v c (sym z ∙ x))) in (a, b, m .movable)
 
     pub remove-asks : given ≡ removeRefusal t cap n → Placed t v n × KidsPlaced t v cap n × Movable c (removedMove t v cap n)
-    remove-asks x = let (a, b, m) = remove-tallied drawn n (passed (remove n) (remove-decides cap d n t v c (sym z ∙ x))) in (a, b, m .movable)
+    remove-asks x = let (a, b, m) = remove-tallied drawn n (passed h (remove n) (remove-decides cap d n t v c (sym z ∙ x))) in (a, b, m .movable)
 
     pub kill-asks : given ≡ killRefusal t cap d n → Placed t v n × Movable c (killedMove t v n)
-    kill-asks x = let (a, m) = kill-tallied drawn n (passed (kill n) (kill-decides cap d n t v c (sym z ∙ x))) in (a, m .movable)
+    kill-asks x = let (a, m) = kill-tallied drawn n (passed h (kill n) (kill-decides cap d n t v c (sym z ∙ x))) in (a, m .movable)
 
     pub set-asks : (w : Float) → given ≡ setRefusal t cap n w → Placed t v n × Movable c (measuredMove t v n w)
-    set-asks w x = let (a, m) = set-tallied drawn n w (passed (setValue n w) (set-decides cap d n t v c w (sym z ∙ x))) in (a, m .movable)
+    set-asks w x = let (a, m) = set-tallied drawn n w (passed h (setValue n w) (set-decides cap d n t v c w (sym z ∙ x))) in (a, m .movable)

@@ -25,11 +25,11 @@ use Rattle.place_laws.proofs.Lists.{every-at}
 use Rattle.picture_laws.proofs.Accepted.{lent-sizes, lent-sound, sound-capacity}
 use Rattle.picture_laws.proofs.Decoding.{decode-back}
 use Rattle.tally_laws.proofs.CountedChecks.{lent-passed}
+use Rattle.table_laws.proofs.LevelWords.{level-is}
 use Rattle.table.specs.Words.{wordOf, linkOf, flagOf, freeAt, depthOf}
 use Rattle.carried.specs.Carried.{carriedOf, statusOf}
 use Rattle.walk.specs.WalkRows.{leafRow}
 use Rattle.tally.specs.TallyRows.{Placed, withRow, rowCounts}
-use Rattle.tally.proofs.RowPlaces.{level-above}
 use Rattle.tally.proofs.RowCounting.{rows-counted}
 use Rattle.checker_laws.specs.Rowwise.{rootOk, childOk, placeOk, emptyOk, usedTests, usedOk, rowOk}
 use Rattle.checker_laws.proofs.WordsBack.{flag-zero}
@@ -62,7 +62,7 @@ module _ (g : Grid) (t : List ℤ) (cap : ℕ) (v : List Float) (n : ℕ) where
 
     used-level : wordOf t n levelWord ≤ 12
     unfolding depthOf
-    used-level = omega (arith, used-deep, level-above (base g) (wordOf t n levelWord) used-high used-deep)
+    used-level = omega (arith, used-deep, level-is (base g) (wordOf t n levelWord) used-high used-deep)
 
     used-status : statusOf (carriedOf t v n) ≤ 2
     unfolding usedOk

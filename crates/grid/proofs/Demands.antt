@@ -24,7 +24,7 @@ use Rattle.lookup.specs.LookupRows.{foundOf, valueOfReading}
 use Rattle.walk_laws.specs.Points.{total}
 use Rattle.walk_laws.specs.Reach.{reaches}
 use Rattle.picture_laws.proofs.Accepted.{lent-sizes, sound-capacity}
-use Rattle.tally_laws.proofs.CountedChecks.{counted-lent, counted-sound, sound-counted}
+use Rattle.tally_laws.proofs.CountedChecks.{counted-lent, counted-sound, sound-counted, lent-of}
 use Rattle.call_laws.proofs.Looked as calling
 use Rattle.demand_laws.specs.Deeds.{deeds, after}
 use Rattle.demand_laws.specs.Demand.{Demand3}
@@ -130,7 +130,7 @@ pub tape-keeps-sound : (l : Counted) (cap : ℕ) (l′ : Counted) (bytes : List 
 tape-keeps-sound l cap l′ bytes r b z o =
     let s = o .state in
     let left : l′ ≡ tapeCall cap (counted s) bytes .lent = ap (λ (x : Call.Taped). x .lent) (b .is) ∙ ap (λ (x : Counted). tapeCall cap x bytes .lent) (o .is-counted) in
-    let ok : checkCall cap l′ ≡ 0 = ap (checkCall cap) left ∙ tape-checked s (o .valid) cap (sound-capacity cap (l .lent) z (record { state = o .state; valid = o .valid; is-picture = ap (λ (x : Counted). x .lent) (o .is-counted) })) bytes in
+    let ok : checkCall cap l′ ≡ 0 = ap (checkCall cap) left ∙ tape-checked s (o .valid) cap (sound-capacity cap (l .lent) z (lent-of o)) bytes in
     (lent-sizes cap (l′ .lent) (counted-lent cap l′ ok), counted-sound cap l′ ok)
 
 -- ---- demand 3: "from any accepted build, over any tapes, refused requests among them"

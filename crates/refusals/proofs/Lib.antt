@@ -4,7 +4,6 @@ pub mod Besides
 pub mod Lacking
 pub mod CountedFree
 pub mod OtherGround
-pub mod LevelWords
 pub mod Refusing
 pub mod OneRow
 pub mod Arms

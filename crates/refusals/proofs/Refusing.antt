@@ -34,7 +34,7 @@ use Rattle.refusals.proofs.Besides.{coarse-row, finer-row}
 use Rattle.refusals.proofs.Lacking.{lacking-row}
 use Rattle.refusals.proofs.CountedFree.{free-total}
 use Rattle.refusals.proofs.OtherGround.{other-row}
-use Rattle.refusals.proofs.LevelWords.{level-says}
+use Rattle.table_laws.proofs.LevelWords.{level-says}
 
 -- ---- one check after the other
 

@@ -10,17 +10,18 @@ use lib.Dec.{eqb}
 use borrow.Author.Tests.{eq-eqb, ne-eqb}
 use Rattle.mesh.specs.Place.{Place, base}
 use Rattle.mesh.specs.State.{State, used, Cell, Value, blank, measured, carried, status, valueOf, placeOf, entry, gridOf}
+use Rattle.mesh.specs.Carrying.{inherited}
 use Rattle.mesh.specs.Valid.{Valid}
 use Rattle.mesh.specs.Picture.{levelWord, table, amounts}
 use Rattle.mesh.specs.LeafCounts.{countPlaces, countPlace}
 use Rattle.table.specs.Words.{wordOf, depthOf}
 use Rattle.carried.specs.Carried.{statusOf, carriedOf, carriedFor, passedDown}
 use Rattle.table_laws.proofs.Pictured.{carried-there}
+use Rattle.table_laws.proofs.LevelWords.{level-is}
 use Rattle.table_laws.proofs.LinkedRows.{depth-of}
 use Rattle.tally_laws.specs.Moves.{spot}
 use Rattle.tally_laws.proofs.FullCounts.{leaf-placed}
 use Rattle.tally.specs.TallyRows.{rowPlace, Placed}
-use Rattle.tally.proofs.RowPlaces.{level-above}
 
 -- ---- levels and statuses by their places
 
@@ -40,7 +41,7 @@ same-level d a l = go (ℕ-discrete a l)
     go (yes e) = rw (e, eq-eqb l l refl) (eq-eqb (d + l) (d + l) refl)
     go (no e) = rw (ne-eqb a l e) (ne-eqb (d + a) (d + l) (λ z. e (omega arith)))
 
-pub status-passed : (w : Value) → statusOf (passedDown (carriedFor w)) ≡ cond (eqb (status w) 0) 0 2
+pub status-passed : (w : Value) → statusOf (passedDown (carriedFor w)) ≡ status (inherited w)
 status-passed blank = refl
 status-passed (measured x) = refl
 status-passed (carried x) = refl
@@ -60,7 +61,7 @@ module _ (s : State) (v : Valid s) where
     row-depth =
         let d = depth-of s v n p (ap placeOf e) in
         let (low, high, _) = leaf-placed s v n p x e in
-        sym d ∙ level-above (base (gridOf s)) (wordOf (table s) n levelWord) (omega (arith, d)) (omega (arith, d))
+        sym d ∙ level-is (base (gridOf s)) (wordOf (table s) n levelWord) (omega (arith, d)) (omega (arith, d))
 
     pub row-status : statusOf (carriedOf (table s) (amounts s) n) ≡ status (x .value)
     row-status = ap statusOf (carried-there s n) ∙ ap (λ w. status (valueOf w)) e

@@ -17,6 +17,7 @@ use Rattle.mesh.specs.State.{State, Entry, used, Cell, status, valueOf, placeOf
 use Rattle.mesh.specs.Valid.{Valid}
 use Rattle.mesh.specs.Picture.{levelWord, table, amounts}
 use Rattle.mesh.specs.LeafCounts.{countPlaces, countPlace}
+use Rattle.mesh.specs.Carrying.{inherited}
 use Rattle.mesh.specs.Refusal.{refusal}
 use Rattle.mesh.specs.Request.{refine, remove, kill, setValue, looseChecks, effect}
 use Rattle.place_laws.proofs.Kids.{kid-depth, parent-kid, leaf-cell}
@@ -32,6 +33,7 @@ use Rattle.table_laws.proofs.LinkedRows.{link-kid}
 use Rattle.tally_laws.specs.Moves.{spot, leaving, coming, itsStatus}
 use Rattle.tally_laws.proofs.RequestCounts.{effect-counts}
 use Rattle.tally.specs.TallyRows.{rowPlace, Placed, LevelBelow, KidsPlaced, refinedMove, removedMove, killedMove, measuredMove}
+use Rattle.tally.proofs.RowPlaces.{passed-status}
 use Rattle.tally.proofs.Moving.{Balanced}
 use Rattle.tally.proofs.PicturedPlaces.{place-inside, spot-at, status-passed, row-depth, row-placed, row-spot}
 
@@ -97,23 +99,19 @@ module _ (s : State) (v : Valid s) where
         let d = refine-named .0 in
         let (p, low) = refine-placed in
         let x = carriedOf (table s) (amounts s) n in
-        let e : statusOf (passedDown x) ≡ cond (eqb (itsStatus s n) 0) 0 2 = ap (λ y. statusOf (passedDown y)) (carried-there s n) ∙ status-passed (valueOf (entry (s .entries) n)) in
-        let few : statusOf (passedDown x) ≤ 2 = rw e (small (eqb (itsStatus s n) 0)) in
+        let e : statusOf (passedDown x) ≡ status (inherited (valueOf (entry (s .entries) n))) = ap (λ y. statusOf (passedDown y)) (carried-there s n) ∙ status-passed (valueOf (entry (s .entries) n)) in
+        let few = passed-status x in
         record {
           inside = omega (arith, low, few);
           within = one-past n d;
           few = omega arith;
           balance = λ l k a b.
               let into = countPlace (wordOf (table s) n levelWord + 1) (statusOf (passedDown x)) in
-              let z : cond (eqb (countPlace l k) into) 4 0 ≡ 4 * spot (gridOf s) l k (suc (placeAt (s .entries) n .depth)) (cond (eqb (itsStatus s n) 0) 0 2) =
+              let z : cond (eqb (countPlace l k) into) 4 0 ≡ 4 * spot (gridOf s) l k (suc (placeAt (s .entries) n .depth)) (status (inherited (valueOf (entry (s .entries) n)))) =
               cond-many 4 (eqb (countPlace l k) into)
               ∙ ap (λ (y : ℕ). 4 * y) (other-spot n d l k (wordOf (table s) n levelWord + 1) (suc (placeAt (s .entries) n .depth)) (statusOf (passedDown x)) b few (omega (arith, depth-is n d)) ∙ ap (spot (gridOf s) l k (suc (placeAt (s .entries) n .depth))) e) in
               omega (arith, effect-counts s v (refine n) ok l k, own-spot n d l k b, z);
         }
-      where
-        small : (b : Bool) → cond {A = ℕ} b 0 2 ≤ 2
-        small true = omega arith
-        small false = omega arith
 
   -- ---- kill and set value
 

@@ -98,7 +98,7 @@ module _ (cap : ℕ) (l : Counted) where
 
 -- ---- what pictures a state, with its counts
 
-pub lent-of : {l : Counted} → SoundCounts l → Sound (l .lent)
+abbrev pub lent-of : {l : Counted} → SoundCounts l → Sound (l .lent)
 lent-of o = record { state = o .state; valid = o .valid; is-picture = ap (λ (x : Counted). x .lent) (o .is-counted) }
 
 pub sound-counted : (cap : ℕ) (l : Counted) → Sizes cap (l .lent) → SoundCounts l → checkCall cap l ≡ 0

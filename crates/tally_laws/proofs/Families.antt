@@ -12,7 +12,7 @@ use lib.Dec.{T, eqb}
 use Rattle.mesh.specs.Tools.{any, count, isSome}
 use Rattle.mesh.specs.Place.{Place, Grid, NE, SE, SW, NW, same, base, kid, kids, parent, In, Distinct}
 use Rattle.mesh.specs.Mesh.{Mesh, leaf}
-use Rattle.mesh.specs.State.{Cell, Value, blank, measured, carried, status}
+use Rattle.mesh.specs.State.{Cell, status}
 use Rattle.mesh.specs.Carrying.{inherited, kidCell}
 use Rattle.mesh.specs.Deed.{Contents, held, put}
 use Rattle.tally_laws.specs.Moves.{spot, sumOver}
@@ -44,12 +44,6 @@ sum-counted f w (q ∷ qs) h = rw (h q (in-here q q qs refl), sum-counted f w qs
 four-same : (w : Place → ℕ) (a : ℕ) (p : Place) → ((q : Place) → parent q ≡ some p → w q ≡ a) → sumOver w (kids p) ≡ 4 * a
 unfolding kids
 four-same w a p h = omega (arith, h (kid NE p) (parent-kid NE p), h (kid SE p) (parent-kid SE p), h (kid SW p) (parent-kid SW p), h (kid NW p) (parent-kid NW p))
-
--- "kids of a blank cell are blank, otherwise carried"
-status-inherited : (w : Value) → status (inherited w) ≡ cond (eqb (status w) 0) 0 2
-status-inherited blank = refl
-status-inherited (measured x) = refl
-status-inherited (carried x) = refl
 
 module _ (g : Grid) (c : Contents) (l k : ℕ) where
   leaf-adds : (q : Place) → T (leaf g (held c) q) → cond (counts g c l k q) 1 0 ≡ spot g l k (q .depth) (statusAt c q)
@@ -162,9 +156,9 @@ module _ {g : Grid} {c d : Contents} (p : Place) {x : Option Cell} (h : Changed 
             let old : T (held c r) = rw (off h r (λ j. omega (arith, parent-depth r p (in-parent r p j)))) at t in
             leaf-kidless g (held c) p was q f (rw z at (h .before .above r old (omega arith)))
 
-    pub kids-come : c p ≡ some y → leavesOn g d l k + spot g l k (p .depth) (statusAt c p) ≡ leavesOn g c l k + 4 * spot g l k (suc (p .depth)) (cond (eqb (statusAt c p) 0) 0 2)
-    kids-come is =
-        omega (arith, family-moved, folded g c l k p was, unfolded g d l k p kid-leaf, four-same (λ q. spot g l k (suc (p .depth)) (statusAt d q)) (spot g l k (suc (p .depth)) (cond (eqb (statusAt c p) 0) 0 2)) p its)
+    pub kids-come : leavesOn g d l k + spot g l k (p .depth) (statusAt c p) ≡ leavesOn g c l k + 4 * spot g l k (suc (p .depth)) (status (inherited (y .value)))
+    kids-come =
+        omega (arith, family-moved, folded g c l k p was, unfolded g d l k p kid-leaf, four-same (λ q. spot g l k (suc (p .depth)) (statusAt d q)) (spot g l k (suc (p .depth)) (status (inherited (y .value)))) p its)
       where
-        its : (q : Place) → parent q ≡ some p → spot g l k (suc (p .depth)) (statusAt d q) ≡ spot g l k (suc (p .depth)) (cond (eqb (statusAt c p) 0) 0 2)
-        its q f = rw (on h q (parent-in q p f), e, is, status-inherited (y .value))
+        its : (q : Place) → parent q ≡ some p → spot g l k (suc (p .depth)) (statusAt d q) ≡ spot g l k (suc (p .depth)) (status (inherited (y .value)))
+        its q f = rw (on h q (parent-in q p f), e)

@@ -71,9 +71,9 @@ unfolding looseChecks leaving coming
 effect-counts s v (refine n) ok l k =
     let (d, rest) = named s v n _ ok in
     let (kidless, _) = passes 8 _ _ (λ z. omega arith) rest in
-    rw (its-status d)
+    rw (its-status d, ap valueOf (d .is-entry))
     (moved (kids (placeAt (s .entries) n)) _ v (refine-valid s v n ok) (refine-frame s v n ok .0) (refine-contents s v n ok) l k _ _
-    (λ h. kids-come (placeAt (s .entries) n) h l k (d .its) (ap (Option·map kidCell) (d .is-contents)) (held-leaf v (placeAt (s .entries) n) (named-leaf v d kidless)) (d .is-contents)))
+    (λ h. kids-come (placeAt (s .entries) n) h l k (d .its) (ap (Option·map kidCell) (d .is-contents)) (held-leaf v (placeAt (s .entries) n) (named-leaf v d kidless))))
 effect-counts s v (sentence n) ok l k =
     let (d, rest) = named s v n _ ok in
     let (kidless, _) = passes 8 _ _ (λ z. omega arith) rest in

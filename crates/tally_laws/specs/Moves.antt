@@ -6,6 +6,7 @@ use mathlib.Core.List.{List, [], _∷_}
 use lib.Dec.{eqb}
 use Rattle.mesh.specs.Place.{Place, Grid, base, kids}
 use Rattle.mesh.specs.State.{State, status, valueOf, entry, number, placeAt, gridOf}
+use Rattle.mesh.specs.Carrying.{inherited}
 use Rattle.mesh.specs.Request.{Request, refine, sentence, remove, kill, setValue}
 
 -- 1 for a leaf of this depth and status, counted on level l with the status k
@@ -32,7 +33,7 @@ leaving s (kill n) l k = spot (gridOf s) l k (itsDepth s n) (itsStatus s n)
 leaving s (setValue n x) l k = spot (gridOf s) l k (itsDepth s n) (itsStatus s n)
 
 unfoldable pub coming : State → Request → ℕ → ℕ → ℕ
-coming s (refine n) l k = 4 * spot (gridOf s) l k (suc (itsDepth s n)) (cond (eqb (itsStatus s n) 0) 0 2)
+coming s (refine n) l k = 4 * spot (gridOf s) l k (suc (itsDepth s n)) (status (inherited (valueOf (entry (s .entries) n))))
 coming s (sentence n) l k = 0
 coming s (remove n) l k = spot (gridOf s) l k (itsDepth s n) (itsStatus s n)
 coming s (kill n) l k = 0

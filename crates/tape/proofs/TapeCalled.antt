@@ -12,6 +12,7 @@ use Rattle.mesh.specs.Tape.{run}
 use Rattle.mesh.specs.Call.{Sizes, Taped, tapeCall}
 use Rattle.picture_laws.proofs.Parts.{parts-picture}
 use Rattle.picture_laws.proofs.Accepted.{sound-capacity}
+use Rattle.tally_laws.proofs.CountedChecks.{lent-of}
 use Rattle.demand_laws.proofs.Tapes.{run-led}
 use Rattle.demand_laws.proofs.PicturedCalls.{tape-runs}
 use Rattle.apply.specs.Drawn.{lists, Drawn, Pictured}
@@ -28,7 +29,7 @@ module _ (cap : ℕ) (l : Counted) (o : SoundCounts l) (z : Sizes cap (l .lent))
   sound-drawn : Drawn (o .state) cap d (lists (l .lent .words) (l .lent .values) (l .counts))
   sound-drawn = record {
     valid = o .valid;
-    is-capacity = sound-capacity cap (l .lent) z (record { state = o .state; valid = o .valid; is-picture = ap (λ (x : Counted). x .lent) (o .is-counted) });
+    is-capacity = sound-capacity cap (l .lent) z (lent-of o);
     is-depth = sym (deep ∙ ap (λ (h : Header). base (h .grid)) same-header);
     is-counted = λ i. record { lent = record { header = s .header; words = o .is-counted i .lent .words; values = o .is-counted i .lent .values }; counts = o .is-counted i .counts };
   }
