@@ -1,5 +1,7 @@
 // The flags of a row worked out anew in two steps: its walls from the cells of its level and the walls of the level below, and then its points and
 // its cell from the walls around it.
+#![tactic(auto)]
+
 ghost use Rattle.std.specs.Prelude.{◌≡◌, ◌<◌, ◌≤◌};
 ghost use Rattle.mesh.specs.Tools.{digits};
 ghost use Rattle.mesh.specs.Picture.{row_words};

@@ -1,5 +1,7 @@
 // One request on a table: it is decided first, and a refused one writes nothing. The map of free numbers and the leaf counts go along: the counts
 // move by the rows as they are before the request writes.
+#![tactic(auto)]
+
 ghost use Rattle.std.specs.Prelude.{◌≡◌};
 ghost use Rattle.mesh.specs.Request.{refine, sentence, remove, kill, set_value};
 ghost use Rattle.table.specs.Words.{free_at};
@@ -17,7 +19,7 @@ use refusals::requests::{
 use tally::moves::{killed, refined, removed, valued};
 
 // The refusal, 0 for none, and what is kept beside the map.
-#[derive(Drop)]
+#[derive(Clone, Copy)]
 pub struct Decided {
     pub refusal: u32,
     pub spare: Spare,

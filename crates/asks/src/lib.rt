@@ -1,4 +1,6 @@
 // What the checks ask of the rows of a table.
+#![tactic(auto)]
+
 ghost use Rattle.std.specs.Prelude.{◌≡◌, ◌||◌, cond, ◌<◌, ◌≤◌, eqb};
 ghost use Rattle.mesh.specs.Picture.{row_words};
 ghost use Rattle.mesh.specs.Mesh.{sentenced_bit};

@@ -1,4 +1,6 @@
 // Flags along the border of a level-0 cell worked out anew, down by kids and level by level.
+#![tactic(auto)]
+
 ghost use Rattle.std.specs.Prelude.{◌≡◌, false, ◌<◌, ◌≤◌, T, length, get_or};
 ghost use Rattle.mesh.specs.Tools.{all};
 ghost use Rattle.table.specs.Words.{link_of};
@@ -64,7 +66,7 @@ fn pass_down(t: &mut [i32], cap: usize, d: u32, walls: bool, ws: &[u8], e: u32, 
 }
 
 // The rows on and beside the border of a level-0 cell: its own, and those north, east, north-east, south and west of it.
-#[derive(Drop)]
+#[derive(Clone, Copy)]
 pub struct Border {
     pub own: usize,
     pub north: usize,

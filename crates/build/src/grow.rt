@@ -90,7 +90,7 @@ fn grow_level(
 }
 
 // The first number of level 0, and the next number.
-#[derive(Drop)]
+#[derive(Clone, Copy)]
 pub struct Reach {
     pub ground: usize,
     pub next: usize,

@@ -1,4 +1,6 @@
 // The table and the values of a build.
+#![tactic(auto)]
+
 ghost use Rattle.std.specs.Prelude.{◌≡◌, ◌+◌, ◌*◌, ◌≤◌, length};
 ghost use Rattle.header.specs.Headers.{header_of, lent_of};
 ghost use Rattle.mesh.specs.Picture.{row_words};

@@ -1,1 +1,2 @@
 // The calls on lent lists that pass the first checks answer what the code makes of the rows.
+#![tactic(auto)]

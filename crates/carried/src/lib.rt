@@ -1,4 +1,6 @@
 // What a row carries beside its marks, read and written at once: the status of its value, and the value.
+#![tactic(auto)]
+
 pub mod values;
 
 ghost use Rattle.std.specs.Prelude.{◌≡◌, ◌+◌, ◌*◌, ◌<◌, ◌≤◌, length};
@@ -9,7 +11,7 @@ use crate::values::{is_plus_zero, put_value, same_bits, value};
 use table::words::{ROW_WORDS, STATUS, raw};
 
 // The status is the word as it stands: a table that is checked may say any.
-#[derive(Drop)]
+#[derive(Clone, Copy)]
 pub struct Carried {
     pub status: i32,
     pub value: f64,

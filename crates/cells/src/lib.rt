@@ -1,4 +1,6 @@
 // The tests of what stands in a row: a ghost, a point or a cell, its flags and its value; or nothing.
+#![tactic(auto)]
+
 pub mod amounts;
 pub mod empty;
 pub mod flags;

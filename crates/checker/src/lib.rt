@@ -1,4 +1,6 @@
 // The test that a lent table is sound, row by row and by links.
+#![tactic(auto)]
+
 pub mod checks;
 pub mod first_checks;
 

@@ -1,4 +1,6 @@
 // How many patches the full rectangle has.
+#![tactic(auto)]
+
 ghost use Rattle.std.specs.Prelude.{◌≡◌, ◌≤◌, length};
 ghost use Rattle.mesh.specs.Place.{base};
 ghost use Rattle.header.specs.Headers.{header_of};

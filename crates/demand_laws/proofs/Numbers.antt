@@ -87,7 +87,7 @@ module _ (s : State) (v : Valid s) (n : ℕ) (ok : refusal (loose_checks s (refi
     refine-smallest z =
         let (next, is) = refine-turn s v n ok xs ys q e z in
         rw is (record {
-          holds = (was_free (next_free between) next.is_free (halves.0.change (next_free between)), λ r i h. apart r i next h);
+          holds = (was_free (next_free between) next.vacant (halves.0.change (next_free between)), λ r i h. apart r i next h);
           none_below = λ m l (f, others). taken-below m l next f others (halves.0.change m);
         })
       where
@@ -99,7 +99,7 @@ module _ (s : State) (v : Valid s) (n : ℕ) (ok : refusal (loose_checks s (refi
         apart r i next h =
             let there = halves.0.there r i in
             let k : number between.entries r ≡ next_free between = sym (stays-taken r there) ∙ h in
-            none-ne-some _ (ap place_of (sym next.is_free) ∙ ap (λ (m : ℕ). place_of (entry between.entries m)) (sym k) ∙ number-place between.entries r there)
+            none-ne-some _ (ap place_of (sym next.vacant) ∙ ap (λ (m : ℕ). place_of (entry between.entries m)) (sym k) ∙ number-place between.entries r there)
 
         taken-below : (m : ℕ) → m < next_free between → Next between → entry s.entries m ≡ free → ((r : Place) → In r xs → number t.entries r ≢ m)
             → Change xs (entry s.entries m) (entry between.entries m) → ⊥

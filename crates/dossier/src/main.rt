@@ -1,11 +1,13 @@
 // Prints the dossier page of the grid that standard input describes, or refusal it is refused. Where the input cannot be read, or the output not be
 // written, it says so on standard error.
+#![tactic(auto)]
+
 ghost use Rattle.io.specs.Counts.{IsPrefixLen};
 
 use libc::{STDERR_FILENO, STDIN_FILENO, STDOUT_FILENO};
 
 // The bytes of standard input that were read, and whether no read of it failed.
-#[derive(Drop)]
+#[derive(Clone, Copy)]
 struct Input {
     bytes: usize,
     readable: bool,

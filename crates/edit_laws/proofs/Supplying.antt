@@ -67,7 +67,7 @@ module _ {g : Grid} {cap : ℕ} {f : Flags} (alive : Alive f) {s : State} {t : L
   number-found next = rw h.is-table (
       search-hit (free_at (table_with g es f)) cap 1 (next_free s - 1) (next_free s) (omega (arith, next.not-nil)) (omega (arith, next.inside, next.not-nil, h.rooted.long))
       (λ j _ l. rw (free-at g es f alive) (next.smallest j l))
-      (rw (free-at g es f alive) (ap is_free next.is_free))
+      (rw (free-at g es f alive) (ap is_free next.vacant))
       )
 
   blank-after : Gave s (supply s q) (q ∷ []) → Blank (supply s q).entries f
@@ -95,10 +95,10 @@ module _ {g : Grid} {cap : ℕ} {f : Flags} (alive : Alive f) {s : State} {t : L
     new-table : link_in t cap (base g) x.parent x.l x.m (next_free s) ≡ table_with g more f
     new-table =
         rw h.is-table
-        (link-in h.rooted f (next_free s) x.parent x.l x.m o next.is_free own l-digit m-digit z room smooth ∙ ap (table_with g more) no-flags)
+        (link-in h.rooted f (next_free s) x.parent x.l x.m o next.vacant own l-digit m-digit z room smooth ∙ ap (table_with g more) no-flags)
 
     new-rooted : Rooted g cap more
-    new-rooted = link-in-rooted h.rooted f (next_free s) x.parent x.l x.m o next.is_free own l-digit m-digit z room smooth
+    new-rooted = link-in-rooted h.rooted f (next_free s) x.parent x.l x.m o next.vacant own l-digit m-digit z room smooth
 
   pub supply-shows : Shows g cap f (supply s (kid_by x.l x.m o)) (supplied cap (base g) x t)
   unfolding supply supplied

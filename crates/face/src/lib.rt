@@ -1,5 +1,7 @@
 // The calls of `grid` for C and Rust: the header by pointer, a list as a pointer and a length, every answer but the refusal through a pointer. Each
 // exported entry is thin: it copies the header out and calls the core above it, and a build or a tape puts back the header that the core leaves.
+#![tactic(auto)]
+
 ghost use Rattle.header.specs.Headers.{lent_of, counted_of};
 ghost use Rattle.face.specs.Outputs.{Builds, Tapes, Checks, Counts, Scans, Looks, Pages};
 
@@ -8,7 +10,7 @@ use lookup::{amount_of, status_of};
 use scan::four;
 
 // The header at exit, and the refusal or 0.
-#[derive(Drop)]
+#[derive(Clone, Copy)]
 struct Left {
     header: Header,
     answer: u32,

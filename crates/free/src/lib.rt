@@ -1,3 +1,5 @@
 // Free numbers, kept in a map along a tape.
+#![tactic(auto)]
+
 pub mod load;
 pub mod map;

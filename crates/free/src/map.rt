@@ -3,7 +3,7 @@ ghost use Rattle.std.specs.Prelude.{◌≡◌, Bool, true, false, cond, ℕ, ◌
 ghost use Rattle.free.specs.FreeMap.{on, off, Low, map_bit, switched, First, first_from, Kept, Maps, Mapped};
 
 // What is kept beside the 64 words: which are not 0, and how many numbers are free.
-#[derive(Drop)]
+#[derive(Clone, Copy)]
 pub struct Spare {
     pub top: u64,
     pub count: usize,

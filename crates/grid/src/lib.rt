@@ -1,4 +1,6 @@
 // The public calls of the grid library. Every call takes any lists of any length and any header, and refuses by number; none has a `requires`.
+#![tactic(auto)]
+
 ghost use Rattle.std.specs.Prelude.{◌≡◌};
 ghost use Rattle.mesh.specs.Refusal.{refusal};
 ghost use Rattle.mesh.specs.Call.{check_call, scan_call, lookup_call, page_call, build_checks, count_call};
@@ -15,13 +17,13 @@ use tally::COUNT_PLACES;
 use tally::full::put_built;
 
 // What a build answers: a refusal or 0, and the number in use.
-#[derive(Drop)]
+#[derive(Clone, Copy)]
 pub struct Built {
     pub refusal: u32,
     pub used: usize,
 }
 
-#[derive(Drop)]
+#[derive(Clone, Copy)]
 pub struct BuildOut {
     pub header: Header,
     pub answer: Built,
@@ -150,14 +152,14 @@ pub fn build_core(
 }
 
 // What a tape answers: the requests done, the refusal of the next one or 0, and its offset or the tape's length.
-#[derive(Drop)]
+#[derive(Clone, Copy)]
 pub struct Taped {
     pub done: usize,
     pub refusal: u32,
     pub offset: usize,
 }
 
-#[derive(Drop)]
+#[derive(Clone, Copy)]
 pub struct TapeOut {
     pub header: Header,
     pub answer: Taped,
@@ -243,7 +245,7 @@ pub fn tape(
 }
 
 // What the question answers: a refusal or 0, and the number.
-#[derive(Drop)]
+#[derive(Clone, Copy)]
 pub struct HowMany {
     pub refusal: u32,
     pub count: u32,

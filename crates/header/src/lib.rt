@@ -1,4 +1,6 @@
 // What is lent beside the table, and the depth of level 0 by it. Every header is made here, so that one with another field is made here too.
+#![tactic(auto)]
+
 ghost use Rattle.std.specs.Prelude.{◌≡◌, ◌+◌, ◌%◌, ◌≤◌};
 ghost use Rattle.mesh.specs.Place.{base, is_ring, in_rectangle};
 ghost use Rattle.mesh.specs.Seam.{last_j};
@@ -7,7 +9,7 @@ ghost use Rattle.header.specs.Headers.{header_of, fresh_header, with_mark};
 
 // The rectangle of level-0 cells, whether its rows go round, and the edit mark.
 #[repr(C)]
-#[derive(Drop)]
+#[derive(Clone, Copy)]
 pub struct Header {
     pub columns: u32,
     pub rows: u32,

@@ -1,4 +1,6 @@
 // What the program `dossier` refuses of its input before the build.
+#![tactic(auto)]
+
 ghost use Rattle.std.specs.Prelude.{◌≡◌};
 ghost use Rattle.mesh.specs.Refusal.{refusal};
 ghost use Rattle.mesh.specs.Program.{input_checks};

@@ -1,4 +1,6 @@
 // What an accepted kill does to a lent table and its values.
+#![tactic(auto)]
+
 ghost use Rattle.std.specs.Prelude.{◌≡◌, ◌+◌, ◌*◌, ◌<◌, ◌≤◌, length};
 ghost use Rattle.mesh.specs.Picture.{row_words};
 ghost use Rattle.table.specs.Words.{free_at};

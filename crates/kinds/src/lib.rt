@@ -1,4 +1,6 @@
 // The bytes of a request: the body that its kind byte announces, and the numbers and values in it.
+#![tactic(auto)]
+
 ghost use Rattle.std.specs.Prelude.{◌≡◌, ◌+◌, ◌≤◌, ◌<◌, length, drop};
 ghost use Rattle.mesh.specs.Tape.{field, number_in};
 ghost use Rattle.kinds.specs.BodyLengths.{length_in, body_length, StandsFor};
@@ -51,7 +53,7 @@ pub fn value_at(tape: &[u8], at: usize) -> f64
 }
 
 // The body that a kind byte announces: so many bytes, and none of an unknown kind.
-#[derive(Drop)]
+#[derive(Clone, Copy)]
 pub enum Body {
     Bytes(usize),
     Unknown,

@@ -1,4 +1,6 @@
 // The leaves of a table, in the order of the page.
+#![tactic(auto)]
+
 ghost use Rattle.std.specs.Prelude.{◌+◌, ◌≤◌, length};
 ghost use Rattle.table.specs.Plain.{Sized};
 ghost use Rattle.lines.specs.Puts.{Put};

@@ -1,4 +1,6 @@
 // The rows that a scan lists: counted, and their numbers written as far as they fit.
+#![tactic(auto)]
+
 ghost use Rattle.std.specs.Prelude.{◌≡◌, cond, [], ◌∷◌, ◌+◌, ◌<◌, ◌≤◌, min, ◌*◌, T, eqb, leb, length, get_or};
 ghost use Rattle.mesh.specs.Tools.{all};
 ghost use Rattle.table.specs.Words.{link_of, depth_of};

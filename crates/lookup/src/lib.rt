@@ -1,4 +1,6 @@
 // Lookup over the rows of a table: the leaf that holds a point, or one it is tried again at, and its value.
+#![tactic(auto)]
+
 ghost use Rattle.std.specs.Prelude.{◌≡◌, ◌/◌, ◌%◌, ◌^◌, ◌<◌, ◌≤◌, length};
 ghost use Rattle.table.specs.Words.{link_of};
 ghost use Rattle.worked.specs.Worked.{kid_word};
@@ -102,7 +104,7 @@ fn lookup_row(header: Header, t: &[i32], cap: usize, d: u32, u: u32, v: u32) -> 
 }
 
 // A leaf's value, as measured, as carried down from its parent, or none.
-#[derive(Drop)]
+#[derive(Clone, Copy)]
 pub enum Reading {
     Measured(f64),
     Carried(f64),
@@ -110,7 +112,7 @@ pub enum Reading {
 }
 
 // What came of a lookup: a refusal or 0, the leaf's number, and its value.
-#[derive(Drop)]
+#[derive(Clone, Copy)]
 pub struct Found {
     pub refusal: u32,
     pub leaf: u32,

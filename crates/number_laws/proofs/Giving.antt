@@ -29,7 +29,7 @@ use Rattle.number_laws.proofs.NumberedPlaces.{number-place, place-number, unnumb
 
 pub record Next (s : State) : Type 0 where
   pub not-nil : next_free s ≢ 0
-  pub is_free : entry s.entries (next_free s) ≡ free
+  pub vacant : entry s.entries (next_free s) ≡ free
   pub inside : next_free s < length s.entries
   pub smallest : (m : ℕ) → m < next_free s → is_free (entry s.entries m) ≡ false
 
@@ -40,7 +40,7 @@ found s nz =
     let is : first is_free 0 s.entries ≡ k = e ∙ zero-add k in
     record {
       not-nil = nz;
-      is_free = free-is (entry s.entries (first is_free 0 s.entries)) (rw is t);
+      vacant = free-is (entry s.entries (first is_free 0 s.entries)) (rw is t);
       inside = rw is l;
       smallest = λ m h. first-before is_free nil 0 s.entries k m e (rw is at h);
     }
@@ -159,15 +159,15 @@ module _ (s : State) (u : Numbered s.entries) (q : Place) (z : number s.entries 
 
   more-free : suc (free_count one_more.entries) ≡ free_count s.entries
   unfolding free_count
-  more-free = sym (count_set is_free nil s.entries (next_free s) (used q none) next.inside (rw next.is_free tt) refl)
+  more-free = sym (count_set is_free nil s.entries (next_free s) (used q none) next.inside (rw next.vacant tt) refl)
 
   more-used : in_use one_more.entries ≡ suc (in_use s.entries)
   unfolding in_use
-  more-used = count-more is_used nil s.entries (next_free s) (used q none) next.inside (ap is_used next.is_free) tt
+  more-used = count-more is_used nil s.entries (next_free s) (used q none) next.inside (ap is_used next.vacant) tt
 
   more-elsewhere : (r : Place) → same r q ≡ false → number one_more.entries r ≡ number s.entries r
   unfolding number
-  more-elsewhere r e = first-set (stands r) nil 0 s.entries (next_free s) (used q none) (e ∙ ap (stands r) (sym next.is_free))
+  more-elsewhere r e = first-set (stands r) nil 0 s.entries (next_free s) (used q none) (e ∙ ap (stands r) (sym next.vacant))
 
   more-gave : Gave s one_more (q ∷ [])
   more-gave = record {
@@ -185,7 +185,7 @@ module _ (s : State) (u : Numbered s.entries) (q : Place) (z : number s.entries 
       lacks = rw (eq-eqb (number s.entries q) 0 z)
 
       changed : (n : ℕ) → ((n ≡ next_free s) × (entry one_more.entries n ≡ used q none)) ⊎ (entry one_more.entries n ≡ entry s.entries n) → Change (q ∷ []) (entry s.entries n) (entry one_more.entries n)
-      changed n (inl x) = taken q (ap (entry s.entries) x.0 ∙ next.is_free) x.1 (in-here q q [] refl)
+      changed n (inl x) = taken q (ap (entry s.entries) x.0 ∙ next.vacant) x.1 (in-here q q [] refl)
       changed n (inr e) = stays e
 
 -- "each only where missing"

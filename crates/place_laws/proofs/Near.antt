@@ -109,16 +109,19 @@ module _ (g : Grid) (c : Place → Bool) where
 
   pub corner-touched : {p r : Place} → Corner g r p → T (c r) → T (touched g c p)
   unfolding touched
-  corner-touched {p} {r} c-here t = or_left (c p) (on g c (step g W p) || (on g c (step g S p) || on g c (step g SW p))) t
-  corner-touched {p} {r} c-east t =
-      or_right (c p) (on g c (step g W p) || (on g c (step g S p) || on g c (step g SW p)))
-      (or_left (on g c (step g W p)) (on g c (step g S p) || on g c (step g SW p)) (on-is (step g W p) r (east-west g r) t))
-  corner-touched {p} {r} c-north t =
-      or_right (c p) (on g c (step g W p) || (on g c (step g S p) || on g c (step g SW p)))
-      (or_right (on g c (step g W p)) (on g c (step g S p) || on g c (step g SW p))
-      (or_left (on g c (step g S p)) (on g c (step g SW p)) (on-is (step g S p) r (north-south g r) t)))
-  corner-touched {p} {r} c-both t =
-      or_right (c p) (on g c (step g W p) || (on g c (step g S p) || on g c (step g SW p)))
-      (or_right (on g c (step g W p)) (on g c (step g S p) || on g c (step g SW p))
-      (or_right (on g c (step g S p)) (on g c (step g SW p))
-      (on-is (step g SW p) r (rw (southwest g p, west-of-north g (to_east g r), east-west g r) (north-south g r)) t)))
+  corner-touched {p} {r} k t = go k t
+    where
+      go : {r p : Place} → Corner g r p → T (c r) → T (touched g c p)
+      go {r} {p} c-here t = or_left (c p) (on g c (step g W p) || (on g c (step g S p) || on g c (step g SW p))) t
+      go {r} {p} c-east t =
+          or_right (c p) (on g c (step g W p) || (on g c (step g S p) || on g c (step g SW p)))
+          (or_left (on g c (step g W p)) (on g c (step g S p) || on g c (step g SW p)) (on-is (step g W p) r (east-west g r) t))
+      go {r} {p} c-north t =
+          or_right (c p) (on g c (step g W p) || (on g c (step g S p) || on g c (step g SW p)))
+          (or_right (on g c (step g W p)) (on g c (step g S p) || on g c (step g SW p))
+          (or_left (on g c (step g S p)) (on g c (step g SW p)) (on-is (step g S p) r (north-south g r) t)))
+      go {r} {p} c-both t =
+          or_right (c p) (on g c (step g W p) || (on g c (step g S p) || on g c (step g SW p)))
+          (or_right (on g c (step g W p)) (on g c (step g S p) || on g c (step g SW p))
+          (or_right (on g c (step g S p)) (on g c (step g SW p))
+          (on-is (step g SW p) r (rw (southwest g p, west-of-north g (to_east g r), east-west g r) (north-south g r)) t)))

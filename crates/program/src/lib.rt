@@ -1,4 +1,6 @@
 // What the program `dossier` prints for its input, as a call on two lists: the page of the grid after the tape, or the line of the refusal.
+#![tactic(auto)]
+
 ghost use Rattle.std.specs.Prelude.{◌≡◌, ◌*◌, ◌≤◌, length};
 ghost use Rattle.mesh.specs.Picture.{row_words};
 ghost use Rattle.mesh.specs.LeafCounts.{count_places};

@@ -1,4 +1,6 @@
 // Words that are read as they stand, once every row has been looked at.
+#![tactic(auto)]
+
 ghost use Rattle.std.specs.Prelude.{◌≡◌, ◌+◌, ◌*◌, ◌≤◌, ◌<◌, suc, leb, length};
 ghost use Rattle.mesh.specs.Picture.{flags_word, level_word, row_words};
 ghost use Rattle.table.specs.Plain.{Sized};

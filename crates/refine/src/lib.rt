@@ -1,4 +1,6 @@
 // An accepted refinement.
+#![tactic(auto)]
+
 pub mod supply;
 
 ghost use Rattle.std.specs.Prelude.{◌≡◌, ◌+◌, ◌*◌, ◌<◌, ◌≤◌, length};

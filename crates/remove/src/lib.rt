@@ -1,4 +1,6 @@
 // An accepted removal.
+#![tactic(auto)]
+
 ghost use Rattle.std.specs.Prelude.{◌≡◌, ◌<◌, ◌≤◌, length};
 ghost use Rattle.edit_laws.specs.Tables.{kid_spots, each_at, drop_untouched, emptied, dropped_near, remove_table, remove_values};
 ghost use Rattle.near.specs.NearSpots.{corner_spots};

@@ -1,4 +1,6 @@
 // What the program `trials` reads and writes: numbers and lists by its input, and the lines that tell what a call answered and left.
+#![tactic(auto)]
+
 pub mod input;
 pub mod lists;
 pub mod report;

@@ -1,4 +1,6 @@
 // Scan as a call that passed the first checks: refused by a number, or the numbers written.
+#![tactic(auto)]
+
 ghost use Rattle.std.specs.Prelude.{◌≡◌, ◌+◌, ◌≤◌, T, eqb, leb, length, ◌-ℤ◌, nat_abs};
 ghost use Rattle.std.specs.Int.Signed.{le_z};
 ghost use Rattle.mesh.specs.Tools.{any, all};

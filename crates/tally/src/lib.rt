@@ -1,4 +1,6 @@
 // The leaf counts beside a table (02, No. 5): how many leaves of each level have each status, level l and status k at place 3l + k.
+#![tactic(auto)]
+
 pub mod full;
 pub mod moves;
 

@@ -1,2 +1,4 @@
 // A tape of requests, carried out on a lent table.
+#![tactic(auto)]
+
 pub mod turns;

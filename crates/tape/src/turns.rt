@@ -12,7 +12,7 @@ use header::next_mark;
 use kinds::{Body, body_of};
 
 // The refusal, 0 for none, the offset of the next kind byte, and what is kept beside the map.
-#[derive(Drop)]
+#[derive(Clone, Copy)]
 pub struct Turn {
     pub refusal: u32,
     pub next: usize,
@@ -60,7 +60,7 @@ fn turn_at(
 }
 
 // The requests done, the refusal or 0, the offset of the refused kind byte or the tape's length, and the mark.
-#[derive(Drop)]
+#[derive(Clone, Copy)]
 pub struct Run {
     pub done: usize,
     pub refusal: u32,

@@ -1,4 +1,6 @@
 // The rows of a table on the way down: which are leaves, and which have no kids.
+#![tactic(auto)]
+
 ghost use Rattle.std.specs.Prelude.{◌≡◌, ◌+◌, ◌*◌, ◌≤◌, length};
 ghost use Rattle.mesh.specs.Picture.{row_words};
 ghost use Rattle.table.specs.Plain.{Plain, Sized};

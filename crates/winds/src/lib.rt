@@ -1,9 +1,11 @@
 // "The offset and opposite of each of the eight winds stand in one small table", used for links and kids.
+#![tactic(auto)]
+
 ghost use Rattle.std.specs.Prelude.{◌≡◌, ◌<◌};
 ghost use Rattle.winds.specs.WindTable.{compass_at, digits_of, KidWind};
 
 // How far east and how far north a wind goes, each one too large, and the place of the opposite wind in the table.
-#[derive(Drop)]
+#[derive(Clone, Copy)]
 pub struct Compass {
     pub east: u32,
     pub north: u32,
@@ -81,7 +83,7 @@ pub const S: usize = 6;
 pub const W: usize = 7;
 
 // The digits that a kid's column and row end in.
-#[derive(Drop)]
+#[derive(Clone, Copy)]
 pub struct Digits {
     pub l: u32,
     pub m: u32,
