@@ -24,7 +24,7 @@ odd-finite d s (suc q) k l = refl
 
 fields-finite : (s : Bool) (x t : ℕ) → (x ≡ 2047 → ⊥) → finite (of_fields binary64 s x t) ≡ true
 unfolding of_fields
-fields-finite s zero t h = odd-finite _ s t 0 _
+fields-finite s zero t h = odd-finite (prec binary64) s t 0 (low binary64)
 fields-finite s (suc x) t h = rw (ne_eqb (suc x) 2047 h) (odd-finite (prec binary64) s (hid binary64 + t) x (low binary64))
 
 fields-other : (s : Bool) (x t : ℕ) → x ≡ 2047 → finite (of_fields binary64 s x t) ≡ false

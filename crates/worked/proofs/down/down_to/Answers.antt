@@ -15,7 +15,7 @@ named_by-n-requires c =
 pub loop-e-preserved : goal.loop-e-preserved
 loop-e-preserved c =
     let at = c.loop-e in
-    (omega (arith, at.invariant.0), c.Named-by.ensures.0, down-again _ _ _ _ _ at.e at.n _ _ (omega arith) at.invariant.0 at.invariant.2 c.kid_word.ensures.1 c.Named-by.ensures.1)
+    (omega (arith, at.invariant.0), c.named_by-n.ensures.0, down-again _ _ _ _ _ at.e at.n _ _ (omega arith) at.invariant.0 at.invariant.2 c.kid_word.ensures.1 c.named_by-n.ensures.1)
 
 pub returns : goal.returns
 returns c =
