@@ -7,24 +7,24 @@ use Rattle.kinds.proofs.body_of.Goals as goal
 
 pub returns-in-1 : goal.returns-in-1
 unfolding body_length kinds kind
-returns-in-1 c = sym (ap body_length c.match.keys1)
+returns-in-1 c = sym (ap body_length c.in-1.is)
 
 pub returns-in-2 : goal.returns-in-2
 unfolding body_length kinds kind
-returns-in-2 c = sym (ap body_length c.match.keys2)
+returns-in-2 c = sym (ap body_length c.in-2.is)
 
 pub returns-in-3 : goal.returns-in-3
 unfolding body_length kinds kind
-returns-in-3 c = sym (ap body_length c.match.keys3)
+returns-in-3 c = sym (ap body_length c.in-3.is)
 
 pub returns-in-4 : goal.returns-in-4
 unfolding body_length kinds kind
-returns-in-4 c = sym (ap body_length c.match.keys4)
+returns-in-4 c = sym (ap body_length c.in-4.is)
 
 pub returns-in-5 : goal.returns-in-5
 unfolding body_length kinds kind
-returns-in-5 c = sym (ap body_length c.match.keys5)
+returns-in-5 c = sym (ap body_length c.in-5.is)
 
 pub returns-in_default : goal.returns-in_default
 unfolding body_length kinds
-returns-in_default c = rw (unknown _ c.match.rest)
+returns-in_default c = rw (unknown _ c.in_default.is)

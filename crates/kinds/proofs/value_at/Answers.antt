@@ -3,4 +3,4 @@ use Rattle.kinds.proofs.Bodies.{field-behind}
 use Rattle.kinds.proofs.value_at.Goals as goal
 
 pub returns : goal.returns
-returns c = rw (field-behind _ _ 2 8, ← c.high_first.ensures) c.value_of_lem.ensures
+returns c = rw (field-behind _ _ 2 8, ← c.high_first.ensures) c.value_of.ensures

@@ -1,0 +1,11 @@
+-- `listing::from_level` meets its contract: the signed words that are compared are those that the code reads.
+use mathlib.Core.Path.{◌∙◌}
+use mir.Facts.{to_z-of_z}
+use borrow.Author.Rules.{rules, sfits_of}
+use Rattle.listing.proofs.ScanSteps.{level-test}
+use Rattle.listing.proofs.from_level.Goals as goal
+
+pub returns : goal.returns
+returns c =
+    let a = c.args in
+    level-test a.t.now a.n (to_z-of_z (search rules)) (to_z-of_z (sfits_of c.raw.type_inv) ∙ c.raw.ensures)
