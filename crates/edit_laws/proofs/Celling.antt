@@ -98,7 +98,7 @@ cells-put {g} {cap} {es} r f x y (q ∷ qs) (one_more {x = spot} {xs = xs} n ns)
     let same_number : (o : Place) → number es o ≡ number one o = λ o. sym (fill-number (q ∷ []) y es o) in
     let words : put_cell x c t (kid_at t cap spot) ≡ table_with g one (with_flags q x f) = rw (kid_at_lem r f n, ne_eqb k 0 z) (put-cell g es r.numbered k q h y f x) in
     let values : put_cell_amount c (values_of es) (kid_at t cap spot) ≡ values_of one = rw (kid_at_lem r f n, ne_eqb k 0 z) (put-amount g es r.numbered k q h y) in
-    let (a, b) = cells-put (fill-rooted (q ∷ []) y r) (with_flags q x f) x y qs (named-same (λ o d. same_number o) ns) (λ o i w. there o (in-there o q qs i) (same_number o ∙ w)) in (
+    let (a, b) = cells-put {es = one} (fill-rooted (q ∷ []) y r) (with_flags q x f) x y qs (named-same (λ o d. same_number o) ns) (λ o i w. there o (in-there o q qs i) (same_number o ∙ w)) in (
       ap (each_at (put_cell x c) cap xs) words
           ∙ a
           ∙ ap (λ (ds : List Entry). table_with g ds (with_all qs x (with_flags q x f))) (sym (fill-first q qs y es))

@@ -119,7 +119,7 @@ pub give-shows : {g : Grid} {cap : ℕ} {f : Flags} → Alive f → {e : ℕ} �
     → Distinct qs → lacking s.entries qs ≤ free_count s.entries → Shows g cap f (give s qs) (supplied_all cap (base g) xs t)
 unfolding give over_spots
 give-shows alive room low [] h no_more there d enough = h
-give-shows {g} {cap} {f} alive {e} room low (q ∷ qs) {s} {t} h (one_more {x = x} n ns) there d enough =
+give-shows {g} {cap} {f} alive {e} room low (q ∷ qs) {s} {t} h (one_more {x = x} {xs = xs} n ns) there d enough =
     let (o, a, k) = mapped (kid_by x.l x.m) q n.above n.is-kid in
     let above : parent q ≡ some o = ap parent (sym k) ∙ kid-by-parent x.l x.m o n.l-digit n.m-digit in
     let sum = lacking-append s.entries (q ∷ []) qs in
@@ -128,6 +128,6 @@ give-shows {g} {cap} {f} alive {e} room low (q ∷ qs) {s} {t} h (one_more {x = 
     let stay : (p : Place) → p.depth ≡ e → number s.entries p ≡ number (supply s q).entries p =
     λ p y. sym (first.elsewhere p (λ i. omega (arith, named-depth n, ap (λ (z : Place). z.depth) (in_one p q i)))) in
     let one = supply-shows alive h x o (n.is_row ∙ ap (number_of s.entries) a) (there q o (in-here q q qs refl) above) n.l-digit n.m-digit (rw (n.level o a) room) (rw (n.level o a) low) (rw k (omega arith)) in
-    give-shows alive room low qs (rw k at one) (named-same stay ns)
+    give-shows alive room low {xs = xs} qs (rw k at one) (named-same stay ns)
     (λ p r i a z. let y = there p r (in-there p q qs i) a in y (sym (kept-number first r y) ∙ z)) d.1
     (omega (arith, lacking-after (q ∷ []) qs first apart, first.free-fewer))

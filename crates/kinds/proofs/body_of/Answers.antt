@@ -27,4 +27,4 @@ returns-in-5 c = sym (ap body_length c.in-5.is)
 
 pub returns-in_default : goal.returns-in_default
 unfolding body_length kinds
-returns-in_default c = rw (unknown _ c.in_default.is)
+returns-in_default c = rw (unknown _ c.in_default.in_default-own.rest)

@@ -1,0 +1,17 @@
+-- `patch::links::drop_side` meets its contract: the words are those of the wind and of its opposite.
+use native.Mathlib.Omega.{arith}
+use Rattle.patch.proofs.LinkingIn.{side-dropped}
+use Rattle.edit_laws.proofs.PlainKept.{plain-drop}
+use Rattle.patch.proofs.Opposite.{opposite-below}
+use Rattle.patch.proofs.links.drop_side.Goals as goal
+
+pub overflow_add-o : goal.overflow_add-o
+overflow_add-o c = omega (arith, opposite-below _ _ c.requires.2 c.wind-c.ensures)
+
+pub put_unless_nil-requires : goal.put_unless_nil-requires
+put_unless_nil-requires c = omega (arith, opposite-below _ _ c.requires.2 c.wind-c.ensures)
+
+pub returns : goal.returns
+returns c =
+    let e = side-dropped _ _ _ _ c.requires.2 c.link-x.ensures.1 c.wind-c.ensures c.put_unless_nil.ensures in
+    (e, plain-drop _ _ c.requires.0 e)
