@@ -4,7 +4,7 @@
 
 ghost use Rattle.io.specs.Counts.{IsPrefixLen};
 
-use libc::{STDERR_FILENO, STDIN_FILENO, STDOUT_FILENO};
+use std::io::{Read, Write};
 
 // The bytes of standard input that were read, and whether no read of it failed.
 #[derive(Clone, Copy)]
@@ -14,19 +14,17 @@ struct Input {
 }
 
 // Reads standard input to its end, or as much of it as the list holds.
-fn read_input(b: &mut [u8]) -> Input
+fn read_input(input: &mut impl Read, b: &mut [u8]) -> Input
     ensures { IsPrefixLen result.bytes b.new }
 {
     let mut done = 0;
     while done < b.len() {
-        let got = libc::read(STDIN_FILENO, &mut b[done..]);
-        if got < 0 {
+        let Ok(more) = input.read(&mut b[done..]) else {
             return Input {
                 bytes: done,
                 readable: false,
             };
-        }
-        let more = io::count(got, &b[done..]);
+        };
         if more == 0 {
             break;
         }
@@ -38,30 +36,30 @@ fn read_input(b: &mut [u8]) -> Input
     }
 }
 
-fn complain(line: &[u8]) {
-    io::write_all(STDERR_FILENO, line);
+// Says it on standard error; where that cannot be written either, nothing is left to say it on.
+fn complain(rt: &HostRuntime, line: &[u8]) {
+    let _ = rt.stderr().write_all(line);
 }
 
 // Prints what the program prints for the input.
-fn answer(input: &[u8]) {
+fn answer(rt: &HostRuntime, input: &[u8]) {
     let mut out = [0u8; 104000];
     let w = program::print(input, &mut out);
     let k = w.count;
-    let whole = io::write_all(STDOUT_FILENO, &out[..k]);
-    if !whole {
-        complain(b"dossier: standard output cannot be written\n");
+    if rt.stdout().write_all(&out[..k]).is_err() {
+        complain(rt, b"dossier: standard output cannot be written\n");
     }
 }
 
 // What was read before a read that failed is no input: it would be taken for a tape, and its page looks like any other.
-fn main() {
+fn main(rt: HostRuntime) {
     // One byte past the longest input is enough to refuse it.
     let mut input = [0u8; 60001];
-    let got = read_input(&mut input);
+    let got = read_input(&mut rt.stdin(), &mut input);
     if !got.readable {
-        complain(b"dossier: standard input cannot be read\n");
+        complain(&rt, b"dossier: standard input cannot be read\n");
         return;
     }
     let n = got.bytes;
-    answer(&input[..n]);
+    answer(&rt, &input[..n]);
 }

@@ -1,5 +1,24 @@
-// Numbers in the bytes of a run.
+// Numbers in the bytes of a run, and how these are read.
 ghost use Rattle.std.specs.Prelude.{◌≤◌, ◌<◌};
+ghost use Rattle.std.specs.Io.{ReadsAtMost};
+
+use std::io;
+use std::io::Read;
+
+// Reads until b is full or the input ends, and answers how many bytes there were.
+pub fn read_full(input: &mut impl Read, b: &mut [u8]) -> io::Result<usize>
+    ensures { ReadsAtMost result b.new }
+{
+    let mut done = 0;
+    while done < b.len() {
+        let more = input.read(&mut b[done..])?;
+        if more == 0 {
+            break;
+        }
+        done += more;
+    }
+    Ok(done)
+}
 
 fn wide(b: u8) -> u64
     ensures { result < 256 }

@@ -1,7 +1,8 @@
 // The lines that are written: numbers, and of a list its sum by place.
 ghost use Rattle.std.specs.Prelude.{◌<◌};
 
-use libc::STDOUT_FILENO;
+use std::io;
+use std::io::Write;
 use table::words::coded;
 
 // A sum that tells lists apart in which an item changed or moved.
@@ -85,30 +86,29 @@ fn sum_bytes(out: &[u8]) -> u64 {
     s
 }
 
-pub fn tell(n: u64) {
-    io::print_decimal(STDOUT_FILENO, n);
-    io::write_all(STDOUT_FILENO, b" ");
+pub fn tell(lines: &mut impl Write, n: u64) -> io::Result<()> {
+    write!(lines, "{n} ")
 }
 
-pub fn tell_value(x: f64) {
-    io::print_hex(STDOUT_FILENO, bits(x), 16);
-    io::write_all(STDOUT_FILENO, b" ");
+pub fn tell_value(lines: &mut impl Write, x: f64) -> io::Result<()> {
+    let w = bits(x);
+    write!(lines, "{w:016x} ")
 }
 
-pub fn tell_shorts(out: &[u16]) {
-    tell(sum_shorts(out));
+pub fn tell_shorts(lines: &mut impl Write, out: &[u16]) -> io::Result<()> {
+    tell(lines, sum_shorts(out))
 }
 
-pub fn tell_bytes(out: &[u8]) {
-    tell(sum_bytes(out));
+pub fn tell_bytes(lines: &mut impl Write, out: &[u8]) -> io::Result<()> {
+    tell(lines, sum_bytes(out))
 }
 
-pub fn tell_lists(t: &[i32], v: &[f64], c: &[u32]) {
-    tell(sum_words(t));
-    tell(sum_values(v));
-    tell(sum_counts(c));
+pub fn tell_lists(lines: &mut impl Write, t: &[i32], v: &[f64], c: &[u32]) -> io::Result<()> {
+    tell(lines, sum_words(t))?;
+    tell(lines, sum_values(v))?;
+    tell(lines, sum_counts(c))
 }
 
-pub fn end_line() {
-    io::write_all(STDOUT_FILENO, b"\n");
+pub fn end_line(lines: &mut impl Write) -> io::Result<()> {
+    writeln!(lines)
 }

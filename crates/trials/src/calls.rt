@@ -9,6 +9,8 @@ use reports::lists::word;
 use reports::report::{
     end_line, mix, mix_value, tell, tell_bytes, tell_lists, tell_shorts, tell_value,
 };
+use std::io;
+use std::io::Write;
 
 fn long(x: u32) -> usize {
     x as usize
@@ -24,27 +26,45 @@ fn level(x: u32) -> i32 {
 }
 
 // Writes the rest of a line, what the call left, and keeps the header.
-fn finish(t: &[i32], v: &[f64], c: &[u32], h: &mut [u32; 14], header: Header) {
-    tell(header.columns as u64);
-    tell(header.rows as u64);
-    tell(header.mode as u64);
-    tell(header.mark as u64);
-    tell_lists(t, v, c);
-    end_line();
+fn finish(
+    lines: &mut impl Write,
+    t: &[i32],
+    v: &[f64],
+    c: &[u32],
+    h: &mut [u32; 14],
+    header: Header,
+) -> io::Result<()> {
+    tell(lines, header.columns as u64)?;
+    tell(lines, header.rows as u64)?;
+    tell(lines, header.mode as u64)?;
+    tell(lines, header.mark as u64)?;
+    tell_lists(lines, t, v, c)?;
+    end_line(lines)?;
     h[0] = header.columns;
     h[1] = header.rows;
     h[2] = header.mode;
     h[3] = header.mark as u32;
+    Ok(())
 }
 
-fn check(t: &[i32], v: &[f64], c: &[u32], h: &[u32; 14], n: usize, m: usize, p: usize)
+fn check(
+    lines: &mut impl Write,
+    t: &[i32],
+    v: &[f64],
+    c: &[u32],
+    h: &[u32; 14],
+    n: usize,
+    m: usize,
+    p: usize,
+) -> io::Result<()>
     requires { (n ≤ length t.now) × (m ≤ length v.now) × (p ≤ length c.now) }
 {
     let r = grid::check(header(h), &t[..n], &v[..m], &c[..p], h[4]);
-    tell(r as u64);
+    tell(lines, r as u64)
 }
 
 fn build(
+    lines: &mut impl Write,
     t: &mut [i32],
     v: &mut [f64],
     c: &mut [u32],
@@ -52,7 +72,7 @@ fn build(
     n: usize,
     m: usize,
     p: usize,
-)
+) -> io::Result<()>
     requires { (n ≤ length t.old) × (m ≤ length v.old) × (p ≤ length c.old) }
 {
     let r = lent::build(
@@ -65,12 +85,13 @@ fn build(
         h[9],
         h[10],
     );
-    tell(r.answer.refusal as u64);
-    tell(r.answer.used as u64);
-    finish(t, v, c, h, r.header);
+    tell(lines, r.answer.refusal as u64)?;
+    tell(lines, r.answer.used as u64)?;
+    finish(lines, t, v, c, h, r.header)
 }
 
 fn tape(
+    lines: &mut impl Write,
     t: &mut [i32],
     v: &mut [f64],
     c: &mut [u32],
@@ -80,7 +101,7 @@ fn tape(
     p: usize,
     b: &[u8],
     k: usize,
-)
+) -> io::Result<()>
     requires { (n ≤ length t.old) × (m ≤ length v.old) × (p ≤ length c.old) × (k ≤ length b.now) }
 {
     let r = lent::tape(
@@ -91,13 +112,14 @@ fn tape(
         h[4],
         &b[..k],
     );
-    tell(r.answer.done as u64);
-    tell(r.answer.refusal as u64);
-    tell(r.answer.offset as u64);
-    finish(t, v, c, h, r.header);
+    tell(lines, r.answer.done as u64)?;
+    tell(lines, r.answer.refusal as u64)?;
+    tell(lines, r.answer.offset as u64)?;
+    finish(lines, t, v, c, h, r.header)
 }
 
 fn scan_on(
+    lines: &mut impl Write,
     t: &[i32],
     v: &[f64],
     h: &[u32; 14],
@@ -106,7 +128,7 @@ fn scan_on(
     order: [u8; 4],
     out: &mut [u16],
     k: usize,
-)
+) -> io::Result<()>
     requires { (n ≤ length t.now) × (m ≤ length v.now) × (k ≤ length out.old) }
 {
     let from = level(h[10]);
@@ -123,42 +145,55 @@ fn scan_on(
         to,
         &mut out[..k],
     );
-    tell(r.refusal as u64);
-    tell(r.count as u64);
-    tell_shorts(out);
+    tell(lines, r.refusal as u64)?;
+    tell(lines, r.count as u64)?;
+    tell_shorts(lines, out)
 }
 
-fn scan(t: &[i32], v: &[f64], h: &[u32; 14], n: usize, m: usize, b: &[u8; 4096])
+fn scan(
+    lines: &mut impl Write,
+    t: &[i32],
+    v: &[f64],
+    h: &[u32; 14],
+    n: usize,
+    m: usize,
+    b: &[u8; 4096],
+) -> io::Result<()>
     requires { (n ≤ length t.now) × (m ≤ length v.now) }
 {
     let filler = (h[13] % 65536) as u16;
     let mut out = [filler; 256];
     let k = long(h[12]);
     if k > 256 {
-        return;
+        return Ok(());
     }
-    scan_on(t, v, h, n, m, [b[0], b[1], b[2], b[3]], &mut out, k);
+    scan_on(lines, t, v, h, n, m, [b[0], b[1], b[2], b[3]], &mut out, k)
 }
 
-fn lookup(t: &[i32], v: &[f64], h: &[u32; 14], n: usize, m: usize)
+fn lookup(
+    lines: &mut impl Write,
+    t: &[i32],
+    v: &[f64],
+    h: &[u32; 14],
+    n: usize,
+    m: usize,
+) -> io::Result<()>
     requires { (n ≤ length t.now) × (m ≤ length v.now) }
 {
     let r = grid::lookup(header(h), &t[..n], &v[..m], h[4], h[8], h[9]);
-    tell(r.refusal as u64);
-    tell(r.leaf as u64);
+    tell(lines, r.refusal as u64)?;
+    tell(lines, r.leaf as u64)?;
     let reading = r.reading;
     match reading {
         Reading::Measured(x) => {
-            tell(1);
-            tell_value(x);
+            tell(lines, 1)?;
+            tell_value(lines, x)
         }
         Reading::Carried(x) => {
-            tell(2);
-            tell_value(x);
+            tell(lines, 2)?;
+            tell_value(lines, x)
         }
-        Reading::Blank => {
-            tell(0);
-        }
+        Reading::Blank => tell(lines, 0),
     }
 }
 
@@ -194,7 +229,14 @@ fn sweep_row(t: &[i32], v: &[f64], h: &[u32; 14], n: usize, m: usize, y: u32, su
 }
 
 // Lookups of 64 times 64 points, by a step.
-fn sweep(t: &[i32], v: &[f64], h: &[u32; 14], n: usize, m: usize)
+fn sweep(
+    lines: &mut impl Write,
+    t: &[i32],
+    v: &[f64],
+    h: &[u32; 14],
+    n: usize,
+    m: usize,
+) -> io::Result<()>
     requires { (n ≤ length t.now) × (m ≤ length v.now) }
 {
     let mut s: u64 = 1;
@@ -205,60 +247,83 @@ fn sweep(t: &[i32], v: &[f64], h: &[u32; 14], n: usize, m: usize)
         y = std::num::wrapping_add_u32(y, h[10]);
         left -= 1;
     }
-    tell(s);
+    tell(lines, s)
 }
 
-fn page_on(t: &[i32], v: &[f64], h: &[u32; 14], n: usize, m: usize, out: &mut [u8], k: usize)
+fn page_on(
+    lines: &mut impl Write,
+    t: &[i32],
+    v: &[f64],
+    h: &[u32; 14],
+    n: usize,
+    m: usize,
+    out: &mut [u8],
+    k: usize,
+) -> io::Result<()>
     requires { (n ≤ length t.now) × (m ≤ length v.now) × (k ≤ length out.old) }
 {
     let r = grid::page(header(h), &t[..n], &v[..m], h[4], &mut out[..k]);
-    tell(r.refusal as u64);
-    tell(r.count as u64);
-    tell_bytes(out);
+    tell(lines, r.refusal as u64)?;
+    tell(lines, r.count as u64)?;
+    tell_bytes(lines, out)
 }
 
-fn page(t: &[i32], v: &[f64], h: &[u32; 14], n: usize, m: usize)
+fn page(
+    lines: &mut impl Write,
+    t: &[i32],
+    v: &[f64],
+    h: &[u32; 14],
+    n: usize,
+    m: usize,
+) -> io::Result<()>
     requires { (n ≤ length t.now) × (m ≤ length v.now) }
 {
     let filler = (h[13] % 256) as u8;
     let mut out = [filler; 16384];
     let k = long(h[12]);
     if k > 16384 {
-        return;
+        return Ok(());
     }
-    page_on(t, v, h, n, m, &mut out, k);
+    page_on(lines, t, v, h, n, m, &mut out, k)
 }
 
 // The question, which is lent the counts alone.
-fn count(c: &[u32], h: &[u32; 14], p: usize)
+fn count(lines: &mut impl Write, c: &[u32], h: &[u32; 14], p: usize) -> io::Result<()>
     requires { p ≤ length c.now }
 {
     let r = grid::count(&c[..p], h[8], h[9]);
-    tell(r.refusal as u64);
-    tell(r.count as u64);
+    tell(lines, r.refusal as u64)?;
+    tell(lines, r.count as u64)
 }
 
 // The calls that only read and are lent no counts.
-fn read(t: &[i32], v: &[f64], h: &[u32; 14], n: usize, m: usize, b: &[u8; 4096], kind: usize)
+fn read(
+    lines: &mut impl Write,
+    t: &[i32],
+    v: &[f64],
+    h: &[u32; 14],
+    n: usize,
+    m: usize,
+    b: &[u8; 4096],
+    kind: usize,
+) -> io::Result<()>
     requires { (n ≤ length t.now) × (m ≤ length v.now) }
 {
     if kind == 7 {
-        scan(t, v, h, n, m, b);
-        return;
+        return scan(lines, t, v, h, n, m, b);
     }
     if kind == 8 {
-        lookup(t, v, h, n, m);
-        return;
+        return lookup(lines, t, v, h, n, m);
     }
     if kind == 10 {
-        sweep(t, v, h, n, m);
-        return;
+        return sweep(lines, t, v, h, n, m);
     }
-    page(t, v, h, n, m);
+    page(lines, t, v, h, n, m)
 }
 
 // The calls that only read.
 fn ask(
+    lines: &mut impl Write,
     t: &[i32],
     v: &[f64],
     c: &[u32],
@@ -268,22 +333,21 @@ fn ask(
     p: usize,
     b: &[u8; 4096],
     kind: usize,
-)
+) -> io::Result<()>
     requires { (n ≤ length t.now) × (m ≤ length v.now) × (p ≤ length c.now) }
 {
     if kind == 4 {
-        check(t, v, c, h, n, m, p);
-        return;
+        return check(lines, t, v, c, h, n, m, p);
     }
     if kind == 12 {
-        count(c, h, p);
-        return;
+        return count(lines, c, h, p);
     }
-    read(t, v, h, n, m, b, kind);
+    read(lines, t, v, h, n, m, b, kind)
 }
 
 // Makes the call of a kind, whose items are the first k bytes of b, and writes its line.
 pub fn call(
+    lines: &mut impl Write,
     t: &mut [i32],
     v: &mut [f64],
     c: &mut [u32],
@@ -291,30 +355,28 @@ pub fn call(
     b: &[u8; 4096],
     k: usize,
     kind: usize,
-)
+) -> io::Result<()>
     requires { k ≤ 4096 }
 {
     let n = long(h[5]);
     let m = long(h[6]);
     let p = long(h[7]);
     if n > t.len() {
-        return;
+        return Ok(());
     }
     if m > v.len() {
-        return;
+        return Ok(());
     }
     if p > c.len() {
-        return;
+        return Ok(());
     }
     if kind == 5 {
-        build(t, v, c, h, n, m, p);
-        return;
+        return build(lines, t, v, c, h, n, m, p);
     }
     if kind == 6 {
-        tape(t, v, c, h, n, m, p, b, k);
-        return;
+        return tape(lines, t, v, c, h, n, m, p, b, k);
     }
-    ask(t, v, c, h, n, m, p, b, kind);
+    ask(lines, t, v, c, h, n, m, p, b, kind)?;
     let left = header(h);
-    finish(t, v, c, h, left);
+    finish(lines, t, v, c, h, left)
 }

@@ -29,9 +29,10 @@ mod lent;
 ghost use Rattle.std.specs.Prelude.{◌<◌, ◌≤◌, length};
 
 use crate::calls::call;
-use libc::STDIN_FILENO;
-use reports::input::short;
+use reports::input::{read_full, short};
 use reports::lists::run;
+use std::io;
+use std::io::{Read, Write};
 
 fn least(a: usize, b: usize) -> usize
     ensures { (result ≤ a) × (result ≤ b) }
@@ -40,10 +41,11 @@ fn least(a: usize, b: usize) -> usize
 }
 
 // Reads n bytes into the list b.
-fn fill(b: &mut [u8], n: usize)
+fn fill(input: &mut impl Read, b: &mut [u8], n: usize) -> io::Result<()>
     requires { n ≤ length b.old }
 {
-    io::read_full(STDIN_FILENO, &mut b[..n]);
+    read_full(input, &mut b[..n])?;
+    Ok(())
 }
 
 // Whether a run of the kind changes what is lent, and is no call.
@@ -56,6 +58,8 @@ fn changes(kind: usize) -> bool {
 
 // Reads a run's items and carries it out, its head being read.
 fn carry_out(
+    input: &mut impl Read,
+    lines: &mut impl Write,
     t: &mut [i32; 2844],
     v: &mut [f64; 231],
     c: &mut [u32; 69],
@@ -64,41 +68,52 @@ fn carry_out(
     start: usize,
     bytes: usize,
     size: usize,
-)
+) -> io::Result<()>
     requires { (start < 65536) × (bytes < 65536) × (size < 65536) }
 {
     let mut b = [0u8; 4096];
     let n = least(bytes, 4096);
-    fill(&mut b, n);
+    fill(input, &mut b, n)?;
     if changes(kind) {
         run(t, v, c, h, &b, kind, start, bytes, size);
-        return;
+        return Ok(());
     }
-    call(t, v, c, h, &b, n, kind);
+    call(lines, t, v, c, h, &b, n, kind)
 }
 
 // Reads a run and carries it out. Answers whether there was one.
-fn turn(t: &mut [i32; 2844], v: &mut [f64; 231], c: &mut [u32; 69], h: &mut [u32; 14]) -> bool {
+fn turn(
+    input: &mut impl Read,
+    lines: &mut impl Write,
+    t: &mut [i32; 2844],
+    v: &mut [f64; 231],
+    c: &mut [u32; 69],
+    h: &mut [u32; 14],
+) -> io::Result<bool> {
     let mut head = [0u8; 8];
-    let got = io::read_full(STDIN_FILENO, &mut head);
+    let got = read_full(input, &mut head)?;
     if got < 8 {
-        return false;
+        return Ok(false);
     }
     let kind = short(&head, 0);
     let start = short(&head, 2);
     let bytes = short(&head, 4);
     let size = short(&head, 6);
-    carry_out(t, v, c, h, kind, start, bytes, size);
-    true
+    carry_out(input, lines, t, v, c, h, kind, start, bytes, size)?;
+    Ok(true)
 }
 
-fn main() {
+fn main(rt: HostRuntime) -> io::Result<()> {
+    let mut input = rt.stdin();
+    let mut lines = rt.stdout();
     let mut t = [0i32; 2844];
     let mut v = [0.0f64; 231];
     let mut c = [0u32; 69];
     let mut h = [0u32; 14];
-    let mut turns = u64::MAX;
-    while turns > 0 && turn(&mut t, &mut v, &mut c, &mut h) {
-        turns -= 1;
+    for _ in 0..u64::MAX {
+        if !turn(&mut input, &mut lines, &mut t, &mut v, &mut c, &mut h)? {
+            break;
+        }
     }
+    Ok(())
 }

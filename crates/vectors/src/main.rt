@@ -4,9 +4,11 @@
 // A length above 60,001 ends the list.
 #![tactic(auto)]
 
-ghost use Rattle.std.specs.Prelude.{◌≤◌, ◌<◌, length};
+ghost use Rattle.std.specs.Prelude.{◌≤◌, ◌<◌, length, IfOk};
 
-use libc::{STDIN_FILENO, STDOUT_FILENO};
+use reports::input::read_full;
+use std::io;
+use std::io::{Read, Write};
 
 fn wide(b: u8) -> usize
     ensures { result < 256 }
@@ -22,43 +24,47 @@ fn number(b: &[u8; 4]) -> usize {
 }
 
 // Reads n bytes into the list b, and answers how many there were.
-fn fill(b: &mut [u8], n: usize) -> usize
+fn fill(input: &mut impl Read, b: &mut [u8], n: usize) -> io::Result<usize>
     requires { n ≤ length b.old }
-    ensures { result ≤ n }
+    ensures { IfOk result (λ m. m ≤ n) }
 {
-    io::read_full(STDIN_FILENO, &mut b[..n])
+    read_full(input, &mut b[..n])
 }
 
 // Prints for the first n bytes of b.
-fn answer(b: &[u8], n: usize)
+fn answer(pages: &mut impl Write, b: &[u8], n: usize) -> io::Result<()>
     requires { n ≤ length b.now }
 {
     let mut out = [0u8; 104000];
     let w = program::print(&b[..n], &mut out);
     let k = w.count;
-    io::write_all(STDOUT_FILENO, &out[..k]);
+    pages.write_all(&out[..k])
 }
 
 // Reads a case and prints for it. Answers whether there was one.
-fn turn() -> bool {
+fn turn(input: &mut impl Read, pages: &mut impl Write) -> io::Result<bool> {
     let mut head = [0u8; 4];
-    let got = io::read_full(STDIN_FILENO, &mut head);
+    let got = read_full(input, &mut head)?;
     if got < 4 {
-        return false;
+        return Ok(false);
     }
     let n = number(&head);
     if n > 60001 {
-        return false;
+        return Ok(false);
     }
     let mut b = [0u8; 60001];
-    let m = fill(&mut b, n);
-    answer(&b, m);
-    true
+    let m = fill(input, &mut b, n)?;
+    answer(pages, &b, m)?;
+    Ok(true)
 }
 
-fn main() {
-    let mut turns = u64::MAX;
-    while turns > 0 && turn() {
-        turns -= 1;
+fn main(rt: HostRuntime) -> io::Result<()> {
+    let mut input = rt.stdin();
+    let mut pages = rt.stdout();
+    for _ in 0..u64::MAX {
+        if !turn(&mut input, &mut pages)? {
+            break;
+        }
     }
+    Ok(())
 }
