@@ -2,7 +2,7 @@
 // written, it says so on standard error.
 #![tactic(auto)]
 
-ghost use Rattle.io.specs.Counts.{IsPrefixLen};
+ghost use Rattle.std.specs.Prelude.{◌≤◌, length};
 
 use std::io::{Read, Write};
 
@@ -15,7 +15,7 @@ struct Input {
 
 // Reads standard input to its end, or as much of it as the list holds.
 fn read_input(input: &mut impl Read, b: &mut [u8]) -> Input
-    ensures { IsPrefixLen result.bytes b.new }
+    ensures { result.bytes ≤ length b.new }
 {
     let mut done = 0;
     while done < b.len() {
