@@ -21,6 +21,8 @@
 // A line has what the call answered; then columns, rows, mode and mark as it left them; then the sums by place of all words, all values and all counts.
 //
 // A run has at most 4,096 bytes of items. Items past the end of what they change are passed over.
+//
+// Where a read or a write fails, the program ends with that error, and what it wrote before stands.
 #![tactic(auto)]
 
 mod calls;

@@ -2,6 +2,8 @@
 //
 // Standard input is a list of cases. A case is four bytes, the length of the input, high byte first, and then the input's bytes.
 // A length above 60,001 ends the list.
+//
+// Where a read or a write fails, the program ends with that error, and what it wrote before stands.
 #![tactic(auto)]
 
 ghost use Rattle.std.specs.Prelude.{◌≤◌, ◌<◌, length, IfOk};
