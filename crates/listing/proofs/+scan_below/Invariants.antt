@@ -2,8 +2,6 @@
 use Prim.Native.Nat.{◌-◌, ◌≤◌}
 use mathlib.Core.Path.{◌≡◌}
 use lib.ListN.{length}
-use mir.Syntax.{w32}
-use mir.Val.{to_z}
 use Rattle.listing.specs.ListedRows.{scans}
 use Rattle.walk.proofs.WalkSteps.{parts, kid_part}
 use Rattle.listing.specs.Written.{WroteWhatFits}
@@ -11,7 +9,10 @@ use Rattle.listing.proofs.+scan_below.Given as goal
 
 abbrev pub invariant-loop-q : goal.invariant-loop-q
 invariant-loop-q l = (l.q ≤ 4) × (length l.out ≡ length l.initial.out) × (l.m ≤ length l.out)
-    × WroteWhatFits l.initial.out l.at (parts (kid_part l.t l.cap (scans l.t l.cap l.d (to_z w32 l.from) l.kind) l.order l.left l.n) l.order l.q) l.out l.m
+    × WroteWhatFits l.initial.out l.at (parts (kid_part l.t l.cap (scans l.t l.cap l.d l.from l.kind) l.order l.left l.n) l.order l.q) l.out l.m
 
 abbrev pub decreases-loop-q : goal.decreases-loop-q
 decreases-loop-q l = 4 - l.q
+
+abbrev pub decreases-scan_below : goal.decreases-scan_below
+decreases-scan_below l = l.left

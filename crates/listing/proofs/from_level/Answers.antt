@@ -1,5 +1,6 @@
 -- `listing::from_level` meets its contract: the signed words that are compared are those that the code reads.
 use mathlib.Core.Path.{◌∙◌}
+use mir.Syntax.{w32}
 use mir.Facts.{to_z-of_z}
 use borrow.Author.Rules.{rules, sfits_of}
 use Rattle.listing.proofs.ScanSteps.{level-test}
@@ -8,4 +9,4 @@ use Rattle.listing.proofs.from_level.Goals as goal
 pub returns : goal.returns
 returns c =
     let a = c.args in
-    level-test a.t.now a.n (to_z-of_z (search rules)) (to_z-of_z (sfits_of c.raw.type_inv) ∙ c.raw.ensures)
+    level-test a.t.now a.n (to_z-of_z {w = w32} (search rules)) (to_z-of_z {w = w32} (sfits_of c.raw.type_inv) ∙ c.raw.ensures)

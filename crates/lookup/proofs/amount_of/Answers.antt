@@ -7,4 +7,4 @@ use Rattle.carried.proofs.Bits.{plus-zero}
 use Rattle.lookup.proofs.amount_of.Goals as goal
 
 pub returns-in-Blank : goal.returns-in-Blank
-returns-in-Blank c = plus-zero ∙ sym (ap (λ (x : Reading). amount (value_of_reading x)) c.enum_told-1.given.1)
+returns-in-Blank c = plus-zero ∙ sym (ap (λ (x : Reading). amount (value_of_reading x)) c.in-Blank.is)

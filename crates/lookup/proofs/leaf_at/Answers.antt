@@ -2,7 +2,6 @@
 -- the row n finds with l digits left is what the way from the root finds.
 use native.Mathlib.Omega.{arith}
 use mathlib.Core.Path.{refl, sym, ◌∙◌}
-use borrow.Author.Tests.{not-true, not-false}
 use borrow.Author.Rules.{rules}
 use Rattle.lookup.proofs.LookupSteps.{find-leaf, find-last, find-on, row-at-east, row-at-north, row-at-inside}
 use Rattle.lookup.proofs.leaf_at.Goals as goal
@@ -22,18 +21,18 @@ pub returns-then-l-eq0 : goal.returns-then-l-eq0
 returns-then-l-eq0 c =
     let leaf = c.leaf in
     let at = c.loop-cap in
-    (omega arith, find-last _ _ _ _ at.l at.n (sym leaf.ensures ∙ not-true leaf.result c.loop-cap-test.true) c.if-l-eq0.true ∙ at.invariant.2)
+    (omega arith, find-last _ _ _ _ at.l at.n (sym leaf.ensures ∙ c.loop-cap-test.true) c.if-l-eq0.true ∙ at.invariant.2)
 
 pub loop-cap-preserved : goal.loop-cap-preserved
 loop-cap-preserved c =
     let leaf = c.leaf in
     let at = c.loop-cap in
     let p = c.requires.0 in
-    let on = find-on _ _ _ _ p.nil at.l at.n _ (sym leaf.ensures ∙ not-true leaf.result c.loop-cap-test.true) c.if-l-eq0.false c.toward-n.ensures.1 in
+    let on = find-on _ _ _ _ p.nil at.l at.n _ (sym leaf.ensures ∙ c.loop-cap-test.true) c.if-l-eq0.false c.toward-n.ensures.1 in
     (search rules, c.toward-n.ensures.0, on ∙ at.invariant.2)
 
 pub returns : goal.returns
 returns c =
     let leaf = c.leaf in
     let at = c.loop-cap in
-    (at.invariant.1, find-leaf _ _ _ _ at.l at.n (sym leaf.ensures ∙ not-false leaf.result c.loop-cap-test.false) ∙ at.invariant.2)
+    (at.invariant.1, find-leaf _ _ _ _ at.l at.n (sym leaf.ensures ∙ c.loop-cap-test.false) ∙ at.invariant.2)

@@ -1,11 +1,7 @@
+-- `lines::numerals::put_text` meets its contract: as far as the loop came, that much of the text is put.
+use Rattle.std.proofs.Common.{sym, refl, arith, take_all, rules}
 use Rattle.lines.proofs.Puts.{take_more, put_as, put-none, put_one, put-more, put_next}
-use Rattle.std.proofs.Common.{◌-◌, sym, refl, arith, take_all, rules}
 use Rattle.lines.proofs.numerals.put_text.Goals as goal
--- `page::put_text` meets its contract: as far as the loop came, that much of the text is put.
--- Assumes nothing.
-use Rattle.lines.specs.Puts.{Put}
-use Rattle.lines.proofs.numerals.put_text.Statement.{statement}
-use Rattle.lines.proofs.numerals.put_text.Tie as tie
 
 pub loop-i-init : goal.loop-i-init
 loop-i-init c = (omega arith, refl, put_next (omega arith) (put-none _ _))

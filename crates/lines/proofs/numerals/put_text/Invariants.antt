@@ -1,4 +1,6 @@
+-- `lines::numerals::put_text`: as far as the loop came, that much of the text is put.
 use Rattle.std.proofs.Common.{◌≡◌, ◌+◌, ◌-◌, ◌≤◌, length, take}
+use Rattle.lines.specs.Puts.{Put}
 use Rattle.lines.proofs.numerals.put_text.Given as goal
 
 abbrev pub invariant-loop-i : goal.invariant-loop-i
