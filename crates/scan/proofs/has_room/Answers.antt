@@ -1,5 +1,4 @@
 -- `scan::has_room` meets its contract: an output that is longer than the table is long enough.
--- Assumes nothing.
 use Prim.Native.Nat.{◌+◌, min}
 use native.Mathlib.Omega.{arith}
 use mathlib.Core.Path.{sym, ap, ◌∙◌}
@@ -12,27 +11,17 @@ use Rattle.listing.specs.ListedRows.{scans}
 use Rattle.walk.specs.WalkRows.{row_walk}
 use Rattle.listing.proofs.ScanSteps.{same-level}
 use Rattle.listing.proofs.Writing.{counted-fits}
-use Rattle.scan.proofs.has_room.Statement.{statement}
-use Rattle.scan.proofs.has_room.Tie as tie
+use Rattle.scan.proofs.has_room.Goals as goal
 
-returns : tie.Need-returns
-returns c =
-    let a = c.before.args in
+pub returns-then-cap-size : goal.returns-then-cap-size
+returns-then-cap-size c =
+    let a = c.args in
     let n = length (row_walk a.t.now a.cap (scans a.t.now a.cap a.d a.from a.kind) a.order.now a.left a.n) in
-    sym (le-leb n a.size (omega (arith, c.before.requires.5, c.if1.true)))
+    sym (le-leb n a.size (omega (arith, c.requires.5, c.if-cap-size.true)))
 
-add-count-rows : tie.Need-overflow-add-count-rows
-add-count-rows c = search rules
-
-count-rows-requires : tie.Need-count-rows-requires
-count-rows-requires c κs = search rules
-
-returns-2 : tie.Need-returns-2
-returns-2 c =
-    let a = c.before.before.args in
+pub returns : goal.returns
+returns c =
+    let a = c.args in
     counted-fits _ _ _
-    (c.count-rows.ensures
+    (c.count_rows.ensures
     ∙ ap (λ xs. min (0 + length xs) (a.size + 1)) (same-level a.t.now a.cap a.d a.kind a.order.now a.left a.n (to_z-of_z {w = w32} {z = a.from} (search rules))))
-
-pub has-room-spec : {M : Type 1} → statement M
-has-room-spec = tie.close (tie.spec returns add-count-rows count-rows-requires returns-2)
