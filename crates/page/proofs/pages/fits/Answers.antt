@@ -1,0 +1,19 @@
+-- `page::pages::fits` meets its contract: the longest last line fits, or its length is worked out.
+use native.Mathlib.Omega.{arith}
+use mathlib.Core.Path.{refl, sym, ap}
+use lib.Dec.{leb}
+use borrow.Author.Tests.{le-leb}
+use Rattle.header.specs.Headers.{header_of}
+use Rattle.page.proofs.PagePut.{page-short, page-size}
+use Rattle.page.proofs.pages.fits.Goals as goal
+
+pub returns-then-size-room : goal.returns-then-size-room
+returns-then-size-room c =
+    let a = c.args in
+    sym (le-leb _ a.room (omega (arith, c.body_size-size.ensures, page-short (header_of a.header) a.t.now a.v.now a.leaves.now)))
+
+pub returns : goal.returns
+returns c =
+    let a = c.args in
+    ap (λ n. leb n a.room)
+    (omega (arith, c.body_size-size.ensures, c.digits.ensures, c.digits-2.ensures, page-size (header_of a.header) a.t.now a.v.now a.leaves.now _ _ refl c.body_sum-sum.ensures))
