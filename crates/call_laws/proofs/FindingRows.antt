@@ -5,7 +5,7 @@ use Prim.Native.Nat.{ℕ, zero, suc, ◌+◌, ◌-◌, ◌/◌, ◌%◌, ◌^◌
 use native.Mathlib.Nat.{div-eq_of_lt}
 use native.Mathlib.Omega.{arith}
 use native.Mathlib.Decide.{ℕ_discrete, dec_lt}
-use mathlib.Core.Path.{◌≡◌, refl, sym, ap, ◌∙◌, subst, fun_ext}
+use mathlib.Core.Path.{◌≡◌, refl, sym, ap, ◌∙◌, subst}
 use mathlib.Core.Logic.{◌≢◌}
 use mathlib.Core.Bool.{Bool, true, false, ◌&&◌, cond}
 use mathlib.Core.Option.{some}
@@ -20,7 +20,7 @@ use Rattle.mesh.specs.Picture.{table}
 use Rattle.mesh.specs.Holding.{holds, leaf_at}
 use Rattle.table.specs.Words.{link_of}
 use Rattle.worked.specs.Worked.{kid_word}
-use Rattle.lookup.specs.LookupRows.{row_find, row_at, row_lookup}
+use Rattle.lookup.specs.LookupRows.{row_find, row_at}
 use Rattle.lookup.proofs.LookupSteps.{find-nil, no-digits}
 use Rattle.place_laws.proofs.Bools.{is-yes}
 use Rattle.place_laws.proofs.Places.{place-path}
@@ -33,7 +33,6 @@ use Rattle.number_laws.proofs.NumberedPlaces.{valid-numbered, place-number, numb
 use Rattle.table_laws.proofs.LinkedRows.{kid-link}
 use Rattle.walk_laws.proofs.Leaves.{leaf-at-place, leaf-number}
 use Rattle.call_laws.proofs.WalkedRows.{leaf-row}
-use Rattle.mesh.specs.Lookup.{beyond, lookup, first_found}
 
 module _ (s : State) (v : Valid s) (x y : ℕ) where
   abbrev g : Grid
@@ -157,8 +156,3 @@ module _ (s : State) (v : Valid s) (x y : ℕ) where
           ∙ find-row (base g + 12) 0 (omega arith) (λ q f. omega arith) (λ z. let k : ◌≡◌ {A = ℕ} 1 0 = sym n ∙ z in omega arith)
       go true false i j = outside (λ (a, b). let t : T (ltb y width) = lt→ltb y width b in let t' : T false = rw j at t in t')
       go false b i j = outside (λ (a, b). let t : T (ltb x width) = lt→ltb x width a in let t' : T false = rw i at t in t')
-
--- the lookup by rows is the lookup, but for points past the last row of a ring
-pub row-lookup : (s : State) → Valid s → (u v : ℕ) → lookup s u v ≡ row_lookup (grid_of s) (table s) (capacity s) (base (grid_of s)) u v
-unfolding lookup
-row-lookup s w u v = ap (λ (there : ℕ → ℕ → ℕ). cond (beyond (grid_of s) v) 0 (first_found there u v)) (fun_ext λ x. fun_ext λ y. sym (row-at s w x y))

@@ -3,7 +3,7 @@
 -- Assumes nothing.
 use Prim.Native.Nat.{ℕ, zero, suc}
 use native.Mathlib.Omega.{arith}
-use mathlib.Core.Path.{◌≡◌, refl, ap, ◌∙◌}
+use mathlib.Core.Path.{◌≡◌, refl, sym, ap, ◌∙◌, fun_ext}
 use mathlib.Core.Bool.{cond}
 use mathlib.Core.List.{List, [], ◌∷◌}
 use lib.Dec.{eqb}
@@ -16,18 +16,23 @@ use Rattle.mesh.specs.State.{State, Value, blank, measured, carried, value_of, e
 use Rattle.mesh.specs.Valid.{Valid}
 use Rattle.mesh.specs.Picture.{table, amounts, Lent}
 use Rattle.mesh.specs.Refusal.{◌if◌, refusal}
-use Rattle.mesh.specs.Lookup.{tries, lookup, lookup_checks}
+use Rattle.mesh.specs.Lookup.{tries, lookup, lookup_checks, first_found, beyond}
 use Rattle.mesh.specs.Decode.{decode}
 use Rattle.mesh.specs.Call.{Found, lent_refusal, unless, lookup_call}
 use Rattle.carried.specs.Carried.{carried_of, carried_for, value_carried}
-use Rattle.lookup.specs.LookupRows.{row_lookup_out}
+use Rattle.lookup.specs.LookupRows.{row_lookup, row_lookup_out}
 use Rattle.table_laws.proofs.Pictured.{carried-there}
 use Rattle.picture_laws.proofs.Soundness.{sound-valid}
 use Rattle.picture_laws.proofs.Accepted.{lent-sound}
 use Rattle.walk_laws.specs.Reach.{reaches}
 use Rattle.walk_laws.proofs.Lookups.{lookup-refused}
-use Rattle.call_laws.proofs.FindingRows.{row-lookup}
+use Rattle.call_laws.proofs.FindingRows.{row-at}
 use Rattle.call_laws.proofs.Called.{checks-after, by-picture}
+
+-- the lookup by rows is the lookup, but for points past the last row of a ring
+pub row-lookup : (s : State) → Valid s → (u v : ℕ) → lookup s u v ≡ row_lookup (grid_of s) (table s) (capacity s) (base (grid_of s)) u v
+unfolding lookup
+row-lookup s w u v = ap (λ (there : ℕ → ℕ → ℕ). cond (beyond (grid_of s) v) 0 (first_found there u v)) (fun_ext λ x. fun_ext λ y. sym (row-at s w x y))
 
 -- a value is its status and its amount
 value-is : (x : Value) → value_carried (carried_for x) ≡ x

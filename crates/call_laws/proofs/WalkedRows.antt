@@ -121,7 +121,7 @@ module _ (s : State) (v : Valid s) where
     -- of each kind the row is exactly if the place is
     pub listed-row : (k : ℕ) → listed_row (table s) (capacity s) (base g) k (number es p) ≡ listed s k p
     unfolding listed_row listed
-    listed-row k = rw (complete-row, leaf-row, wall-row, side-row, depth-of s v (number es p) p is-place)
+    listed-row k = rw (complete-row, KidRows.leaf-row s v (number es p) p is-place, wall-row, side-row, depth-of s v (number es p) p is-place)
 
   -- ---- scans
 
