@@ -1,0 +1,12 @@
+-- `tree::sides::sides_ok` meets its contract: over the seam of a ring, or by the parent.
+use Rattle.tree.proofs.Seaming.{sides-off, sides-on}
+use Rattle.tree.proofs.sides.sides_ok.Goals as goal
+
+pub returns-then-on_seam : goal.returns-then-on_seam
+returns-then-on_seam c =
+    let p = c.requires.0 in
+    sides-on _ _ _ _ _ p.depth p.tall c.on_seam.ensures c.if-on_seam.true c.seam_ok.ensures
+
+pub returns : goal.returns
+returns c =
+    sides-off _ _ _ _ _ c.requires.0.depth c.on_seam.ensures c.if-on_seam.false c.parental_ok.ensures
