@@ -24,7 +24,7 @@ use Rattle.grid.specs.declared.HowMany.{HowMany}
 use base.Logic.{ent}
 use contract.Lifetimes.{Lfts}
 use contract.Monad.{fact, fact_i, fact_use}
-use denote.Ref.{MutBor, at_last}
+use denote.Ref.{Bor, MutBor, at_last}
 use denote.Triple.Spec.{exits}
 use borrow.Fn.World.{World, Pr}
 use Rattle.grid.proofs.check.Reads as check
@@ -96,14 +96,14 @@ count-unique r s a b = let e : count_of r ≡ count_of s = a ∙ sym b in λ i. 
 
 -- ---- the contracts themselves: any two outcomes that one allows are equal
 
-module _ (c : MutBor (List ℕ)) (level status : ℕ) (κs : Lfts 1) where
+module _ (c : Bor (List ℕ)) (level status : ℕ) (κs : Lfts 1) where
   abbrev CountAllows : HowMany → Type 0
   CountAllows r = count.Post κs (c, (level, (status, tt))) r (c, (level, (status, tt)))
 
   pub count-once : (r s : HowMany) → CountAllows r → CountAllows s → r ≡ s
   count-once r s p q = count-unique r s p q
 
-module _ (h : Header) (t : MutBor (List ℤ)) (v : MutBor (List Float)) (c : MutBor (List ℕ)) (cap : ℕ) where
+module _ (h : Header) (t : Bor (List ℤ)) (v : Bor (List Float)) (c : Bor (List ℕ)) (cap : ℕ) where
   module _ (κs : Lfts 3) where
     abbrev CheckAllows : ℕ → Type 0
     CheckAllows r = check.Post κs (h, (t, (v, (c, (cap, tt))))) r (h, (t, (v, (c, (cap, tt)))))
@@ -111,6 +111,8 @@ module _ (h : Header) (t : MutBor (List ℤ)) (v : MutBor (List Float)) (c : Mut
     pub check-once : (r s : ℕ) → CheckAllows r → CheckAllows s → r ≡ s
     check-once r s p q = p ∙ sym q
 
+module _ (h : Header) (t : MutBor (List ℤ)) (v : MutBor (List Float)) (c : MutBor (List ℕ)) (cap : ℕ) where
+  module _ (κs : Lfts 3) where
     module _ (columns rows mode : ℕ) where
       abbrev BuildAllows : BuildOut → List ℤ → List Float → List ℕ → Type 0
       BuildAllows r t' v' c' = build-core.Post κs (h, (t, (v, (c, (cap, (columns, (rows, (mode, tt)))))))) r (h, (at_last t t', (at_last v v', (at_last c c', (cap, (columns, (rows, (mode, tt))))))))
@@ -119,7 +121,7 @@ module _ (h : Header) (t : MutBor (List ℤ)) (v : MutBor (List Float)) (c : Mut
           → (r.answer ≡ s.answer) × (counted_of r.header t₁ v₁ c₁ ≡ counted_of s.header t₂ v₂ c₂)
       build-once r s t₁ t₂ v₁ v₂ c₁ c₂ p q = build-unique (counted_of r.header t₁ v₁ c₁) (counted_of s.header t₂ v₂ c₂) r.answer s.answer p q
 
-  module _ (κs : Lfts 4) (bytes : MutBor (List ℕ)) where
+  module _ (κs : Lfts 4) (bytes : Bor (List ℕ)) where
     abbrev TapeAllows : TapeOut → List ℤ → List Float → List ℕ → Type 0
     TapeAllows r t' v' c' = tape-core.Post κs (h, (t, (v, (c, (cap, (bytes, tt)))))) r (h, (at_last t t', (at_last v v', (at_last c c', (cap, (bytes, tt))))))
 
@@ -127,7 +129,7 @@ module _ (h : Header) (t : MutBor (List ℤ)) (v : MutBor (List Float)) (c : Mut
         → (r.answer ≡ s.answer) × (counted_of r.header t₁ v₁ c₁ ≡ counted_of s.header t₂ v₂ c₂)
     tape-once r s t₁ t₂ v₁ v₂ c₁ c₂ p q = tape-unique (counted_of r.header t₁ v₁ c₁) (counted_of s.header t₂ v₂ c₂) r.answer s.answer p q
 
-module _ (h : Header) (t : MutBor (List ℤ)) (v : MutBor (List Float)) (cap : ℕ) where
+module _ (h : Header) (t : Bor (List ℤ)) (v : Bor (List Float)) (cap : ℕ) where
   module _ (κs : Lfts 2) (x y : ℕ) where
     abbrev LookupAllows : Found → Type 0
     LookupAllows r = lookup.Post κs (h, (t, (v, (cap, (x, (y, tt)))))) r (h, (t, (v, (cap, (x, (y, tt))))))
@@ -171,7 +173,7 @@ module _ (w : World) (h : MutBor Header) (t : MutBor (List ℤ)) (v : MutBor (Li
         → ent w.𝓤 P (fact w.𝓤 ((r ≡ s) × (counted_of h₁ t₁ v₁ c₁ ≡ counted_of h₂ t₂ v₂ c₂)))
     build-entry-once P r s h₁ h₂ t₁ t₂ v₁ v₂ c₁ c₂ p q = both_told w P _ _ (build-unique (counted_of h₁ t₁ v₁ c₁) (counted_of h₂ t₂ v₂ c₂) r s) p q
 
-  module _ (κs : Lfts 5) (bytes : MutBor (List ℕ)) where
+  module _ (κs : Lfts 5) (bytes : Bor (List ℕ)) where
     abbrev TapeSays : Taped → Header → List ℤ → List Float → List ℕ → Pr w
     TapeSays r h' t' v' c' =
         (tape.clauses w.𝓛 w.𝓜.mem w.𝓡.run κs (h, (t, (v, (c, (cap, (bytes, tt))))))).ensures tt r (at_last h h', (at_last t t', (at_last v v', (at_last c c', (cap, (bytes, tt))))))
