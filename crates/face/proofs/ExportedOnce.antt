@@ -9,7 +9,7 @@ use lib.Ieee.{Float}
 use base.Logic.{ent}
 use contract.Lifetimes.{Lfts}
 use contract.Monad.{fact}
-use denote.Ref.{MutBor, at_last}
+use denote.Ref.{Bor, MutBor, at_last}
 use denote.Triple.Spec.{exits}
 use borrow.Fn.World.{World, Pr}
 use Rattle.mesh.specs.Picture.{Lent}
@@ -69,7 +69,7 @@ module _ (w : World) (h : MutBor Header) (t : MutBor (List ℤ)) (v : MutBor (Li
         → ent w.𝓤 P (fact w.𝓤 ((r ≡ s) × (n₁ ≡ n₂) × (counted_of h₁ t₁ v₁ c₁ ≡ counted_of h₂ t₂ v₂ c₂)))
     build-once P r s h₁ h₂ t₁ t₂ v₁ v₂ c₁ c₂ n₁ n₂ p q = both_told w P _ _ (build-unique (counted_of h₁ t₁ v₁ c₁) (counted_of h₂ t₂ v₂ c₂) n₁ n₂ r s) p q
 
-  module _ (κs : Lfts 7) (bytes : MutBor (List ℕ)) (n o : MutBor ℕ) where
+  module _ (κs : Lfts 7) (bytes : Bor (List ℕ)) (n o : MutBor ℕ) where
     abbrev TapeSays : ℕ → Header → List ℤ → List Float → List ℕ → ℕ → ℕ → Pr w
     TapeSays r h' t' v' c' n' o' = (grid-tape.clauses w.𝓛 w.𝓜.mem w.𝓡.run κs (h, (t, (v, (c, (cap, (bytes, (n, (o, tt))))))))).ensures tt r (at_last h h', (at_last t t', (at_last v v', (at_last c c', (cap, (bytes, (at_last n n', (at_last o o', tt))))))))
 
@@ -81,6 +81,7 @@ module _ (w : World) (h : MutBor Header) (t : MutBor (List ℤ)) (v : MutBor (Li
         → ent w.𝓤 P (fact w.𝓤 ((r ≡ s) × (n₁ ≡ n₂) × (o₁ ≡ o₂) × (counted_of h₁ t₁ v₁ c₁ ≡ counted_of h₂ t₂ v₂ c₂)))
     tape-once P r s h₁ h₂ t₁ t₂ v₁ v₂ c₁ c₂ n₁ n₂ o₁ o₂ p q = both_told w P _ _ (tape-unique (counted_of h₁ t₁ v₁ c₁) (counted_of h₂ t₂ v₂ c₂) n₁ n₂ o₁ o₂ r s) p q
 
+module _ (w : World) (h : Bor Header) (t : Bor (List ℤ)) (v : Bor (List Float)) (c : Bor (List ℕ)) (cap : ℕ) where
   module _ (κs : Lfts 4) where
     abbrev CheckSays : ℕ → Pr w
     CheckSays r = (grid-check.clauses w.𝓛 w.𝓜.mem w.𝓡.run κs (h, (t, (v, (c, (cap, tt)))))).ensures tt r (h, (t, (v, (c, (cap, tt)))))
@@ -93,7 +94,7 @@ module _ (w : World) (h : MutBor Header) (t : MutBor (List ℤ)) (v : MutBor (Li
         → ent w.𝓤 P (fact w.𝓤 (r ≡ s))
     check-once P r s p q = both_told w P _ _ (check-unique r s) p q
 
-module _ (w : World) (c : MutBor (List ℕ)) (κs : Lfts 2) (level status : ℕ) (n : MutBor ℕ) where
+module _ (w : World) (c : Bor (List ℕ)) (κs : Lfts 2) (level status : ℕ) (n : MutBor ℕ) where
   abbrev CountSays : ℕ → ℕ → Pr w
   CountSays r n' = (grid-count.clauses w.𝓛 w.𝓜.mem w.𝓡.run κs (c, (level, (status, (n, tt))))).ensures tt r (c, (level, (status, (at_last n n', tt))))
 
@@ -104,8 +105,8 @@ module _ (w : World) (c : MutBor (List ℕ)) (κs : Lfts 2) (level status : ℕ)
   pub count-once : (P : Pr w) (r s : ℕ) (n₁ n₂ : ℕ) → ent w.𝓤 P (CountSays r n₁) → ent w.𝓤 P (CountSays s n₂) → ent w.𝓤 P (fact w.𝓤 ((r ≡ s) × (n₁ ≡ n₂)))
   count-once P r s n₁ n₂ p q = both_told w P _ _ (count-unique n₁ n₂ r s) p q
 
-module _ (w : World) (h : MutBor Header) (t : MutBor (List ℤ)) (v : MutBor (List Float)) (cap : ℕ) where
-  module _ (κs : Lfts 6) (start : ℕ) (order : MutBor (List ℕ)) (kind : ℕ) (from to : ℤ) (out : MutBor (List ℕ)) (n : MutBor ℕ) where
+module _ (w : World) (h : Bor Header) (t : Bor (List ℤ)) (v : Bor (List Float)) (cap : ℕ) where
+  module _ (κs : Lfts 6) (start : ℕ) (order : Bor (List ℕ)) (kind : ℕ) (from to : ℤ) (out : MutBor (List ℕ)) (n : MutBor ℕ) where
     abbrev ScanSays : ℕ → List ℕ → ℕ → Pr w
     ScanSays r out' n' = (grid-scan.clauses w.𝓛 w.𝓜.mem w.𝓡.run κs (h, (t, (v, (cap, (start, (order, (kind, (from, (to, (out, (n, tt)))))))))))).ensures tt r (h, (t, (v, (cap, (start, (order, (kind, (from, (to, (at_last out out', (at_last n n', tt)))))))))))
 

@@ -40,8 +40,7 @@ fn build_core(
 }
 
 // Builds the rectangle of level-0 cells, open or closed to a ring, and says the number in use.
-#[unsafe(no_mangle)]
-pub extern "C" fn grid_build(
+pub fn grid_build(
     header: &mut Header,
     table: &mut [i32],
     values: &mut [f64],
@@ -85,8 +84,7 @@ fn tape_core(
 }
 
 // Runs a tape of requests, up to the first that is refused; says how many are done and where it stopped.
-#[unsafe(no_mangle)]
-pub extern "C" fn grid_tape(
+pub fn grid_tape(
     header: &mut Header,
     table: &mut [i32],
     values: &mut [f64],
@@ -110,8 +108,7 @@ fn check_core(header: Header, table: &[i32], values: &[f64], counts: &[u32], cap
 }
 
 // Whether the table, the values and the header are sound, and the counts are theirs: 0 for yes.
-#[unsafe(no_mangle)]
-pub extern "C" fn grid_check(
+pub fn grid_check(
     header: &Header,
     table: &[i32],
     values: &[f64],
@@ -124,8 +121,7 @@ pub extern "C" fn grid_check(
 }
 
 // How many leaves of a level have a status, by the counts alone.
-#[unsafe(no_mangle)]
-pub extern "C" fn grid_count(counts: &[u32], level: u32, status: u32, count: &mut u32) -> u32
+pub fn grid_count(counts: &[u32], level: u32, status: u32, count: &mut u32) -> u32
     ensures { Counts counts.now level status count.new result }
 {
     let many = grid::count(counts, level, status);
@@ -157,8 +153,7 @@ fn scan_core(
 }
 
 // Writes the numbers of the patches of a kind that a walk from a start meets, and says how many.
-#[unsafe(no_mangle)]
-pub extern "C" fn grid_scan(
+pub fn grid_scan(
     header: &Header,
     table: &[i32],
     values: &[f64],
@@ -200,8 +195,7 @@ fn lookup_core(
 }
 
 // The leaf that holds a point, given in 1/4096 of a level-0 cell; its status and its value.
-#[unsafe(no_mangle)]
-pub extern "C" fn grid_lookup(
+pub fn grid_lookup(
     header: &Header,
     table: &[i32],
     values: &[f64],
@@ -235,8 +229,7 @@ fn page_core(
 }
 
 // Writes the dossier page, and says how many bytes it has.
-#[unsafe(no_mangle)]
-pub extern "C" fn grid_page(
+pub fn grid_page(
     header: &Header,
     table: &[i32],
     values: &[f64],
