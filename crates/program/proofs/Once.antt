@@ -5,12 +5,12 @@ use Prim.Native.Nat.{ℕ}
 use mathlib.Core.Path.{◌≡◌}
 use mathlib.Core.List.{List}
 use contract.Lifetimes.{Lfts}
-use denote.Ref.{MutBor, at_last}
+use denote.Ref.{Bor, MutBor, at_last}
 use Rattle.output.specs.declared.Wrote.{Wrote}
 use Rattle.grid.proofs.Unique.{wrote-unique}
 use Rattle.program.proofs.print.Reads as print
 
-module _ (κs : Lfts 2) (input out : MutBor (List ℕ)) where
+module _ (κs : Lfts 2) (input : Bor (List ℕ)) (out : MutBor (List ℕ)) where
   abbrev PrintAllows : Wrote → List ℕ → Type 0
   PrintAllows r xs = print.Post κs (input, (out, tt)) r (input, (at_last out xs, tt))
 
