@@ -1,6 +1,6 @@
 -- `table::writes::put_row` meets its contract. The invariant: the table is the old one with the first w words of x pasted into the row.
 use mathlib.Core.Path.{refl, ◌∙◌}
-use Prim.Native.Nat.{◌*◌, ◌-◌}
+use Prim.Native.Nat.{◌*◌}
 use borrow.Author.Rules.{rules, sfits_of, scaled_Fits}
 use mir.Syntax.{w32}
 use mir.Facts.{to_z-of_z}
