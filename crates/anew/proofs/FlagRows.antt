@@ -11,7 +11,7 @@ use lib.Bits.{bit_or}
 use lib.IntN.{ℤ}
 use Rattle.mesh.specs.Tools.{digits}
 use Rattle.mesh.specs.Picture.{east_word, flags_word, i_word, j_word, north_word, south_word, west_word}
-use Rattle.mesh.specs.Mesh.{bdy_wall_hbit, bdy_wall_vbit, complete_bit, grn_wall_hbit, grn_wall_vbit, sentenced_bit, wall_hbit, wall_vbit}
+use Rattle.mesh.specs.Mesh.{bdy_wall_h_bit, bdy_wall_v_bit, complete_bit, grn_wall_h_bit, grn_wall_v_bit, sentenced_bit, wall_h_bit, wall_v_bit}
 use Rattle.worked.specs.FlagDigits.{four, pair}
 use Rattle.table.specs.Words.{link_of, flag_of}
 use Rattle.worked.specs.Worked.{boundary_at, boundary_h, boundary_v, green_h, green_v}
@@ -38,8 +38,8 @@ module _ (t : List ℤ) (cap d n : ℕ) where
       a ≡ flag_of t complete_bit south →
       west ≡ link_of t cap n west_word →
       b ≡ flag_of t complete_bit west →
-      h ≡ boundary_at t cap d n (not (beq c a)) j_word bdy_wall_hbit →
-      v ≡ boundary_at t cap d n (not (beq c b)) i_word bdy_wall_vbit →
+      h ≡ boundary_at t cap d n (not (beq c a)) j_word bdy_wall_h_bit →
+      v ≡ boundary_at t cap d n (not (beq c b)) i_word bdy_wall_v_bit →
       p ≡ four c (c || a) (c || b) false →
       q ≡ pair h (not (beq c a) && not h) →
       r ≡ pair v (not (beq c b) && not v) →
@@ -52,19 +52,19 @@ module _ (t : List ℤ) (cap d n : ℕ) where
 
   points-paired :
       let c = flag_of t complete_bit n in
-      let h = flag_of t bdy_wall_hbit n in
-      let v = flag_of t bdy_wall_vbit n in
-      let i = flag_of t grn_wall_hbit n in
-      let j = flag_of t grn_wall_vbit n in
+      let h = flag_of t bdy_wall_h_bit n in
+      let v = flag_of t bdy_wall_v_bit n in
+      let i = flag_of t grn_wall_h_bit n in
+      let j = flag_of t grn_wall_v_bit n in
       let north = link_of t cap n north_word in
       let east = link_of t cap n east_word in
       let south = link_of t cap n south_word in
       let west = link_of t cap n west_word in
-      four c (flag_of t wall_hbit n) (flag_of t wall_vbit n) false
-      + 8 * pair (h || (flag_of t bdy_wall_hbit west || (v || flag_of t bdy_wall_vbit south))) (i || (flag_of t grn_wall_hbit west || (j || flag_of t grn_wall_vbit south)))
+      four c (flag_of t wall_h_bit n) (flag_of t wall_v_bit n) false
+      + 8 * pair (h || (flag_of t bdy_wall_h_bit west || (v || flag_of t bdy_wall_v_bit south))) (i || (flag_of t grn_wall_h_bit west || (j || flag_of t grn_wall_v_bit south)))
       + 16 * pair h i
       + 32 * pair v j
-      + 64 * pair (c && (h || (flag_of t bdy_wall_hbit north || (v || flag_of t bdy_wall_vbit east)))) (c && (i || (flag_of t grn_wall_hbit north || (j || flag_of t grn_wall_vbit east))))
+      + 64 * pair (c && (h || (flag_of t bdy_wall_h_bit north || (v || flag_of t bdy_wall_v_bit east)))) (c && (i || (flag_of t grn_wall_h_bit north || (j || flag_of t grn_wall_v_bit east))))
       + 4096 * cond (flag_of t sentenced_bit n) 1 0
       ≡ digits (points_anew t cap n)
   unfolding four points_anew
@@ -76,25 +76,25 @@ module _ (t : List ℤ) (cap d n : ℕ) where
   far-weighed false x y e h = h ∙ omega arith
 
   pub points-sum : {c south west s : Bool} {h v own a near b far p q u : ℕ} →
-      h ≡ pair (flag_of t bdy_wall_hbit n) (flag_of t grn_wall_hbit n) →
-      v ≡ pair (flag_of t bdy_wall_vbit n) (flag_of t grn_wall_vbit n) →
+      h ≡ pair (flag_of t bdy_wall_h_bit n) (flag_of t grn_wall_h_bit n) →
+      v ≡ pair (flag_of t bdy_wall_v_bit n) (flag_of t grn_wall_v_bit n) →
       own ≡ bit_or h v →
-      a ≡ pair (flag_of t bdy_wall_hbit (link_of t cap n west_word) || flag_of t bdy_wall_vbit (link_of t cap n south_word)) (flag_of t grn_wall_hbit (link_of t cap n west_word) || flag_of t grn_wall_vbit (link_of t cap n south_word)) →
+      a ≡ pair (flag_of t bdy_wall_h_bit (link_of t cap n west_word) || flag_of t bdy_wall_v_bit (link_of t cap n south_word)) (flag_of t grn_wall_h_bit (link_of t cap n west_word) || flag_of t grn_wall_v_bit (link_of t cap n south_word)) →
       near ≡ bit_or own a →
-      b ≡ pair (flag_of t bdy_wall_hbit (link_of t cap n north_word) || flag_of t bdy_wall_vbit (link_of t cap n east_word)) (flag_of t grn_wall_hbit (link_of t cap n north_word) || flag_of t grn_wall_vbit (link_of t cap n east_word)) →
+      b ≡ pair (flag_of t bdy_wall_h_bit (link_of t cap n north_word) || flag_of t bdy_wall_v_bit (link_of t cap n east_word)) (flag_of t grn_wall_h_bit (link_of t cap n north_word) || flag_of t grn_wall_v_bit (link_of t cap n east_word)) →
       far ≡ bit_or own b →
       c ≡ flag_of t complete_bit n →
-      south ≡ flag_of t wall_hbit n →
-      west ≡ flag_of t wall_vbit n →
+      south ≡ flag_of t wall_h_bit n →
+      west ≡ flag_of t wall_v_bit n →
       p ≡ four c south west false →
       q ≡ 64 * far * cond c 1 0 →
       s ≡ flag_of t sentenced_bit n →
       u ≡ 4096 * cond s 1 0 →
       p + 8 * near + 16 * h + 32 * v + q + u ≡ digits (points_anew t cap n)
   points-sum {c} a1 a2 a3 a4 a5 a6 a7 a8 a9 a10 a11 a12 a13 a14 =
-      let e = meet (flag_of t bdy_wall_hbit n) (flag_of t bdy_wall_vbit n) (flag_of t grn_wall_hbit n) (flag_of t grn_wall_vbit n) (flag_of t bdy_wall_hbit (link_of t cap n west_word)) (flag_of t bdy_wall_vbit (link_of t cap n south_word)) (flag_of t grn_wall_hbit (link_of t cap n west_word)) (flag_of t grn_wall_vbit (link_of t cap n south_word)) a1 a2 a3 a4 a5 in
-      let f = meet (flag_of t bdy_wall_hbit n) (flag_of t bdy_wall_vbit n) (flag_of t grn_wall_hbit n) (flag_of t grn_wall_vbit n) (flag_of t bdy_wall_hbit (link_of t cap n north_word)) (flag_of t bdy_wall_vbit (link_of t cap n east_word)) (flag_of t grn_wall_hbit (link_of t cap n north_word)) (flag_of t grn_wall_vbit (link_of t cap n east_word)) a1 a2 a3 a6 a7 in
-      let g = far-weighed c (flag_of t bdy_wall_hbit n || (flag_of t bdy_wall_hbit (link_of t cap n north_word) || (flag_of t bdy_wall_vbit n || flag_of t bdy_wall_vbit (link_of t cap n east_word)))) (flag_of t grn_wall_hbit n || (flag_of t grn_wall_hbit (link_of t cap n north_word) || (flag_of t grn_wall_vbit n || flag_of t grn_wall_vbit (link_of t cap n east_word)))) f a12 in
+      let e = meet (flag_of t bdy_wall_h_bit n) (flag_of t bdy_wall_v_bit n) (flag_of t grn_wall_h_bit n) (flag_of t grn_wall_v_bit n) (flag_of t bdy_wall_h_bit (link_of t cap n west_word)) (flag_of t bdy_wall_v_bit (link_of t cap n south_word)) (flag_of t grn_wall_h_bit (link_of t cap n west_word)) (flag_of t grn_wall_v_bit (link_of t cap n south_word)) a1 a2 a3 a4 a5 in
+      let f = meet (flag_of t bdy_wall_h_bit n) (flag_of t bdy_wall_v_bit n) (flag_of t grn_wall_h_bit n) (flag_of t grn_wall_v_bit n) (flag_of t bdy_wall_h_bit (link_of t cap n north_word)) (flag_of t bdy_wall_v_bit (link_of t cap n east_word)) (flag_of t grn_wall_h_bit (link_of t cap n north_word)) (flag_of t grn_wall_v_bit (link_of t cap n east_word)) a1 a2 a3 a6 a7 in
+      let g = far-weighed c (flag_of t bdy_wall_h_bit n || (flag_of t bdy_wall_h_bit (link_of t cap n north_word) || (flag_of t bdy_wall_v_bit n || flag_of t bdy_wall_v_bit (link_of t cap n east_word)))) (flag_of t grn_wall_h_bit n || (flag_of t grn_wall_h_bit (link_of t cap n north_word) || (flag_of t grn_wall_v_bit n || flag_of t grn_wall_v_bit (link_of t cap n east_word)))) f a12 in
       rw (a11, e, a1, a2, g, a14, a8, a9, a10, a13) points-paired
 
   -- ---- the row

@@ -10,7 +10,7 @@ use lib.Bits.{bit_or}
 use lib.IntN.{ℤ}
 use Rattle.mesh.specs.Tools.{digits}
 use Rattle.mesh.specs.Picture.{north_word, east_word, south_word, west_word, i_word, j_word}
-use Rattle.mesh.specs.Mesh.{complete_bit, bdy_wall_hbit, bdy_wall_vbit, grn_wall_hbit, grn_wall_vbit}
+use Rattle.mesh.specs.Mesh.{complete_bit, bdy_wall_h_bit, bdy_wall_v_bit, grn_wall_h_bit, grn_wall_v_bit}
 use Rattle.worked.specs.FlagDigits.{four, pair}
 use Rattle.table.specs.Words.{link_of, flag_of}
 use Rattle.worked.specs.Worked.{boundary_at, boundary_h, boundary_v, green_h, green_v, flags_from}
@@ -51,8 +51,8 @@ module _ (t : List ℤ) (cap d n : ℕ) where
       flag_of t complete_bit n ≡ true →
       flag_of t complete_bit (link_of t cap n south_word) ≡ true →
       flag_of t complete_bit (link_of t cap n west_word) ≡ true →
-      a ≡ pair (flag_of t bdy_wall_hbit (link_of t cap n west_word) || flag_of t bdy_wall_vbit (link_of t cap n south_word)) (flag_of t grn_wall_hbit (link_of t cap n west_word) || flag_of t grn_wall_vbit (link_of t cap n south_word)) →
-      b ≡ pair (flag_of t bdy_wall_hbit (link_of t cap n north_word) || flag_of t bdy_wall_vbit (link_of t cap n east_word)) (flag_of t grn_wall_hbit (link_of t cap n north_word) || flag_of t grn_wall_vbit (link_of t cap n east_word)) →
+      a ≡ pair (flag_of t bdy_wall_h_bit (link_of t cap n west_word) || flag_of t bdy_wall_v_bit (link_of t cap n south_word)) (flag_of t grn_wall_h_bit (link_of t cap n west_word) || flag_of t grn_wall_v_bit (link_of t cap n south_word)) →
+      b ≡ pair (flag_of t bdy_wall_h_bit (link_of t cap n north_word) || flag_of t bdy_wall_v_bit (link_of t cap n east_word)) (flag_of t grn_wall_h_bit (link_of t cap n north_word) || flag_of t grn_wall_v_bit (link_of t cap n east_word)) →
       u ≡ 4096 * cond sentenced 1 0 →
       7 + 8 * a + 64 * b + u ≡ digits (flags_from t cap d n sentenced)
   unfolding flags_from boundary_h boundary_v green_h green_v
@@ -64,8 +64,8 @@ module _ (t : List ℤ) (cap d n : ℕ) where
       (aside : west ≡ flag_of t complete_bit (link_of t cap n west_word))
       (first : one ≡ not (beq c south))
       (second : two ≡ not (beq c west))
-      (edgeh : h ≡ boundary_at t cap d n one j_word bdy_wall_hbit)
-      (edgev : v ≡ boundary_at t cap d n two i_word bdy_wall_vbit)
+      (edgeh : h ≡ boundary_at t cap d n one j_word bdy_wall_h_bit)
+      (edgev : v ≡ boundary_at t cap d n two i_word bdy_wall_v_bit)
     where
       h-is : h ≡ boundary_h t cap d n
       unfolding boundary_h
@@ -84,10 +84,10 @@ module _ (t : List ℤ) (cap d n : ℕ) where
       j-is = rw (own, ← aside, ← second, v-is)
 
       sum_is : (sentenced : Bool) {bdy_point grn_point bdy_cell grn_cell : Bool} {p q r u : ℕ} →
-          bdy_point ≡ (h || (flag_of t bdy_wall_hbit (link_of t cap n west_word) || (v || flag_of t bdy_wall_vbit (link_of t cap n south_word)))) →
-          grn_point ≡ ((one && not h) || (flag_of t grn_wall_hbit (link_of t cap n west_word) || ((two && not v) || flag_of t grn_wall_vbit (link_of t cap n south_word)))) →
-          bdy_cell ≡ (h || (flag_of t bdy_wall_hbit (link_of t cap n north_word) || (v || flag_of t bdy_wall_vbit (link_of t cap n east_word)))) →
-          grn_cell ≡ ((one && not h) || (flag_of t grn_wall_hbit (link_of t cap n north_word) || ((two && not v) || flag_of t grn_wall_vbit (link_of t cap n east_word)))) →
+          bdy_point ≡ (h || (flag_of t bdy_wall_h_bit (link_of t cap n west_word) || (v || flag_of t bdy_wall_v_bit (link_of t cap n south_word)))) →
+          grn_point ≡ ((one && not h) || (flag_of t grn_wall_h_bit (link_of t cap n west_word) || ((two && not v) || flag_of t grn_wall_v_bit (link_of t cap n south_word)))) →
+          bdy_cell ≡ (h || (flag_of t bdy_wall_h_bit (link_of t cap n north_word) || (v || flag_of t bdy_wall_v_bit (link_of t cap n east_word)))) →
+          grn_cell ≡ ((one && not h) || (flag_of t grn_wall_h_bit (link_of t cap n north_word) || ((two && not v) || flag_of t grn_wall_v_bit (link_of t cap n east_word)))) →
           p ≡ four c (c || south) (c || west) bdy_point →
           q ≡ four h v (c && bdy_cell) grn_point →
           r ≡ four (one && not h) (two && not v) (c && grn_cell) false →
@@ -100,12 +100,12 @@ module _ (t : List ℤ) (cap d n : ℕ) where
       flag_of t complete_bit n ≡ true →
       south ≡ flag_of t complete_bit (link_of t cap n south_word) →
       west ≡ flag_of t complete_bit (link_of t cap n west_word) →
-      h ≡ boundary_at t cap d n (not south) j_word bdy_wall_hbit →
-      v ≡ boundary_at t cap d n (not west) i_word bdy_wall_vbit →
-      bdy_point ≡ (h || (flag_of t bdy_wall_hbit (link_of t cap n west_word) || (v || flag_of t bdy_wall_vbit (link_of t cap n south_word)))) →
-      grn_point ≡ ((not south && not h) || (flag_of t grn_wall_hbit (link_of t cap n west_word) || ((not west && not v) || flag_of t grn_wall_vbit (link_of t cap n south_word)))) →
-      bdy_cell ≡ (h || (flag_of t bdy_wall_hbit (link_of t cap n north_word) || (v || flag_of t bdy_wall_vbit (link_of t cap n east_word)))) →
-      grn_cell ≡ ((not south && not h) || (flag_of t grn_wall_hbit (link_of t cap n north_word) || ((not west && not v) || flag_of t grn_wall_vbit (link_of t cap n east_word)))) →
+      h ≡ boundary_at t cap d n (not south) j_word bdy_wall_h_bit →
+      v ≡ boundary_at t cap d n (not west) i_word bdy_wall_v_bit →
+      bdy_point ≡ (h || (flag_of t bdy_wall_h_bit (link_of t cap n west_word) || (v || flag_of t bdy_wall_v_bit (link_of t cap n south_word)))) →
+      grn_point ≡ ((not south && not h) || (flag_of t grn_wall_h_bit (link_of t cap n west_word) || ((not west && not v) || flag_of t grn_wall_v_bit (link_of t cap n south_word)))) →
+      bdy_cell ≡ (h || (flag_of t bdy_wall_h_bit (link_of t cap n north_word) || (v || flag_of t bdy_wall_v_bit (link_of t cap n east_word)))) →
+      grn_cell ≡ ((not south && not h) || (flag_of t grn_wall_h_bit (link_of t cap n north_word) || ((not west && not v) || flag_of t grn_wall_v_bit (link_of t cap n east_word)))) →
       p ≡ four true true true bdy_point →
       q ≡ four h v bdy_cell grn_point →
       r ≡ four (not south && not h) (not west && not v) grn_cell false →
@@ -118,10 +118,10 @@ module _ (t : List ℤ) (cap d n : ℕ) where
       flag_of t complete_bit n ≡ false →
       south ≡ flag_of t complete_bit (link_of t cap n south_word) →
       west ≡ flag_of t complete_bit (link_of t cap n west_word) →
-      h ≡ boundary_at t cap d n south j_word bdy_wall_hbit →
-      v ≡ boundary_at t cap d n west i_word bdy_wall_vbit →
-      bdy_point ≡ (h || (flag_of t bdy_wall_hbit (link_of t cap n west_word) || (v || flag_of t bdy_wall_vbit (link_of t cap n south_word)))) →
-      grn_point ≡ ((south && not h) || (flag_of t grn_wall_hbit (link_of t cap n west_word) || ((west && not v) || flag_of t grn_wall_vbit (link_of t cap n south_word)))) →
+      h ≡ boundary_at t cap d n south j_word bdy_wall_h_bit →
+      v ≡ boundary_at t cap d n west i_word bdy_wall_v_bit →
+      bdy_point ≡ (h || (flag_of t bdy_wall_h_bit (link_of t cap n west_word) || (v || flag_of t bdy_wall_v_bit (link_of t cap n south_word)))) →
+      grn_point ≡ ((south && not h) || (flag_of t grn_wall_h_bit (link_of t cap n west_word) || ((west && not v) || flag_of t grn_wall_v_bit (link_of t cap n south_word)))) →
       p ≡ four false south west bdy_point →
       q ≡ four h v false grn_point →
       r ≡ four (south && not h) (west && not v) false false →
@@ -133,10 +133,10 @@ module _ (t : List ℤ) (cap d n : ℕ) where
 
   -- the sums that the code makes
   abbrev near_walls : ℕ
-  near_walls = pair (flag_of t bdy_wall_hbit (link_of t cap n west_word) || flag_of t bdy_wall_vbit (link_of t cap n south_word)) (flag_of t grn_wall_hbit (link_of t cap n west_word) || flag_of t grn_wall_vbit (link_of t cap n south_word))
+  near_walls = pair (flag_of t bdy_wall_h_bit (link_of t cap n west_word) || flag_of t bdy_wall_v_bit (link_of t cap n south_word)) (flag_of t grn_wall_h_bit (link_of t cap n west_word) || flag_of t grn_wall_v_bit (link_of t cap n south_word))
 
   abbrev far_walls : ℕ
-  far_walls = pair (flag_of t bdy_wall_hbit (link_of t cap n north_word) || flag_of t bdy_wall_vbit (link_of t cap n east_word)) (flag_of t grn_wall_hbit (link_of t cap n north_word) || flag_of t grn_wall_vbit (link_of t cap n east_word))
+  far_walls = pair (flag_of t bdy_wall_h_bit (link_of t cap n north_word) || flag_of t bdy_wall_v_bit (link_of t cap n east_word)) (flag_of t grn_wall_h_bit (link_of t cap n north_word) || flag_of t grn_wall_v_bit (link_of t cap n east_word))
 
   abbrev own_wall : Bool → ℕ → ℕ → ℕ
   own_wall one w k = pair (boundary_at t cap d n one w k) (one && not (boundary_at t cap d n one w k))
@@ -147,8 +147,8 @@ module _ (t : List ℤ) (cap d n : ℕ) where
       south ≡ flag_of t complete_bit lower →
       left ≡ link_of t cap n west_word →
       west ≡ flag_of t complete_bit left →
-      h ≡ own_wall (not south) j_word bdy_wall_hbit →
-      v ≡ own_wall (not west) i_word bdy_wall_vbit →
+      h ≡ own_wall (not south) j_word bdy_wall_h_bit →
+      v ≡ own_wall (not west) i_word bdy_wall_v_bit →
       x ≡ bit_or h v →
       a ≡ near_walls →
       near ≡ bit_or x a →
@@ -157,16 +157,16 @@ module _ (t : List ℤ) (cap d n : ℕ) where
       u ≡ 4096 * cond sentenced 1 0 →
       7 + 8 * near + 16 * h + 32 * v + 64 * far + u ≡ digits (flags_from t cap d n sentenced)
   bordered-sum {south} {west} sentenced {h = h} {v} {near = near} {far = far} {u = u} o to-south s to-west w hh vv x a y b z q =
-      let i = (not south) && not (boundary_at t cap d n (not south) j_word bdy_wall_hbit) in
-      let j = (not west) && not (boundary_at t cap d n (not west) i_word bdy_wall_vbit) in
-      let e = meet (boundary_at t cap d n (not south) j_word bdy_wall_hbit) (boundary_at t cap d n (not west) i_word bdy_wall_vbit) i j (flag_of t bdy_wall_hbit (link_of t cap n west_word)) (flag_of t bdy_wall_vbit (link_of t cap n south_word)) (flag_of t grn_wall_hbit (link_of t cap n west_word)) (flag_of t grn_wall_vbit (link_of t cap n south_word)) hh vv x a y in
-      let f = meet (boundary_at t cap d n (not south) j_word bdy_wall_hbit) (boundary_at t cap d n (not west) i_word bdy_wall_vbit) i j (flag_of t bdy_wall_hbit (link_of t cap n north_word)) (flag_of t bdy_wall_vbit (link_of t cap n east_word)) (flag_of t grn_wall_hbit (link_of t cap n north_word)) (flag_of t grn_wall_vbit (link_of t cap n east_word)) hh vv x b z in
+      let i = (not south) && not (boundary_at t cap d n (not south) j_word bdy_wall_h_bit) in
+      let j = (not west) && not (boundary_at t cap d n (not west) i_word bdy_wall_v_bit) in
+      let e = meet (boundary_at t cap d n (not south) j_word bdy_wall_h_bit) (boundary_at t cap d n (not west) i_word bdy_wall_v_bit) i j (flag_of t bdy_wall_h_bit (link_of t cap n west_word)) (flag_of t bdy_wall_v_bit (link_of t cap n south_word)) (flag_of t grn_wall_h_bit (link_of t cap n west_word)) (flag_of t grn_wall_v_bit (link_of t cap n south_word)) hh vv x a y in
+      let f = meet (boundary_at t cap d n (not south) j_word bdy_wall_h_bit) (boundary_at t cap d n (not west) i_word bdy_wall_v_bit) i j (flag_of t bdy_wall_h_bit (link_of t cap n north_word)) (flag_of t bdy_wall_v_bit (link_of t cap n east_word)) (flag_of t grn_wall_h_bit (link_of t cap n north_word)) (flag_of t grn_wall_v_bit (link_of t cap n east_word)) hh vv x b z in
       let sum = cell-sum sentenced o (s ∙ ap (flag_of t complete_bit) to-south) (w ∙ ap (flag_of t complete_bit) to-west) refl refl refl refl refl refl refl refl refl q in
-      rw (e, f, hh, vv) (pairs-step true true true (boundary_at t cap d n (not south) j_word bdy_wall_hbit) (boundary_at t cap d n (not west) i_word bdy_wall_vbit) i j
-      ((boundary_at t cap d n (not south) j_word bdy_wall_hbit) || ((flag_of t bdy_wall_hbit (link_of t cap n west_word)) || ((boundary_at t cap d n (not west) i_word bdy_wall_vbit) || (flag_of t bdy_wall_vbit (link_of t cap n south_word)))))
-      (i || ((flag_of t grn_wall_hbit (link_of t cap n north_word)) || (j || (flag_of t grn_wall_vbit (link_of t cap n east_word)))))
-      ((boundary_at t cap d n (not south) j_word bdy_wall_hbit) || ((flag_of t bdy_wall_hbit (link_of t cap n north_word)) || ((boundary_at t cap d n (not west) i_word bdy_wall_vbit) || (flag_of t bdy_wall_vbit (link_of t cap n east_word)))))
-      (i || ((flag_of t grn_wall_hbit (link_of t cap n west_word)) || (j || (flag_of t grn_wall_vbit (link_of t cap n south_word))))) u) ∙ sum
+      rw (e, f, hh, vv) (pairs-step true true true (boundary_at t cap d n (not south) j_word bdy_wall_h_bit) (boundary_at t cap d n (not west) i_word bdy_wall_v_bit) i j
+      ((boundary_at t cap d n (not south) j_word bdy_wall_h_bit) || ((flag_of t bdy_wall_h_bit (link_of t cap n west_word)) || ((boundary_at t cap d n (not west) i_word bdy_wall_v_bit) || (flag_of t bdy_wall_v_bit (link_of t cap n south_word)))))
+      (i || ((flag_of t grn_wall_h_bit (link_of t cap n north_word)) || (j || (flag_of t grn_wall_v_bit (link_of t cap n east_word)))))
+      ((boundary_at t cap d n (not south) j_word bdy_wall_h_bit) || ((flag_of t bdy_wall_h_bit (link_of t cap n north_word)) || ((boundary_at t cap d n (not west) i_word bdy_wall_v_bit) || (flag_of t bdy_wall_v_bit (link_of t cap n east_word)))))
+      (i || ((flag_of t grn_wall_h_bit (link_of t cap n west_word)) || (j || (flag_of t grn_wall_v_bit (link_of t cap n south_word))))) u) ∙ sum
 
   pub bare-walls : {south west : Bool} {lower left h v x a near p q : ℕ} →
       flag_of t complete_bit n ≡ false →
@@ -174,8 +174,8 @@ module _ (t : List ℤ) (cap d n : ℕ) where
       south ≡ flag_of t complete_bit lower →
       left ≡ link_of t cap n west_word →
       west ≡ flag_of t complete_bit left →
-      h ≡ own_wall south j_word bdy_wall_hbit →
-      v ≡ own_wall west i_word bdy_wall_vbit →
+      h ≡ own_wall south j_word bdy_wall_h_bit →
+      v ≡ own_wall west i_word bdy_wall_v_bit →
       x ≡ bit_or h v →
       a ≡ near_walls →
       near ≡ bit_or x a →
@@ -183,10 +183,10 @@ module _ (t : List ℤ) (cap d n : ℕ) where
       q ≡ 4 * cond west 1 0 →
       p + q + 8 * near + 16 * h + 32 * v ≡ digits (flags_from t cap d n false)
   bare-walls {south} {west} o to-south s to-west w hh vv x a y p q =
-      let i = south && not (boundary_at t cap d n south j_word bdy_wall_hbit) in
-      let j = west && not (boundary_at t cap d n west i_word bdy_wall_vbit) in
-      let e = meet (boundary_at t cap d n south j_word bdy_wall_hbit) (boundary_at t cap d n west i_word bdy_wall_vbit) i j (flag_of t bdy_wall_hbit (link_of t cap n west_word)) (flag_of t bdy_wall_vbit (link_of t cap n south_word)) (flag_of t grn_wall_hbit (link_of t cap n west_word)) (flag_of t grn_wall_vbit (link_of t cap n south_word)) hh vv x a y in
+      let i = south && not (boundary_at t cap d n south j_word bdy_wall_h_bit) in
+      let j = west && not (boundary_at t cap d n west i_word bdy_wall_v_bit) in
+      let e = meet (boundary_at t cap d n south j_word bdy_wall_h_bit) (boundary_at t cap d n west i_word bdy_wall_v_bit) i j (flag_of t bdy_wall_h_bit (link_of t cap n west_word)) (flag_of t bdy_wall_v_bit (link_of t cap n south_word)) (flag_of t grn_wall_h_bit (link_of t cap n west_word)) (flag_of t grn_wall_v_bit (link_of t cap n south_word)) hh vv x a y in
       let sum = bare-sum o (s ∙ ap (flag_of t complete_bit) to-south) (w ∙ ap (flag_of t complete_bit) to-west) refl refl refl refl refl refl refl in
-      rw (e, hh, vv, p, q) (pairs-bare south west (boundary_at t cap d n south j_word bdy_wall_hbit) (boundary_at t cap d n west i_word bdy_wall_vbit) i j
-      ((boundary_at t cap d n south j_word bdy_wall_hbit) || ((flag_of t bdy_wall_hbit (link_of t cap n west_word)) || ((boundary_at t cap d n west i_word bdy_wall_vbit) || (flag_of t bdy_wall_vbit (link_of t cap n south_word)))))
-      (i || ((flag_of t grn_wall_hbit (link_of t cap n west_word)) || (j || (flag_of t grn_wall_vbit (link_of t cap n south_word)))))) ∙ sum
+      rw (e, hh, vv, p, q) (pairs-bare south west (boundary_at t cap d n south j_word bdy_wall_h_bit) (boundary_at t cap d n west i_word bdy_wall_v_bit) i j
+      ((boundary_at t cap d n south j_word bdy_wall_h_bit) || ((flag_of t bdy_wall_h_bit (link_of t cap n west_word)) || ((boundary_at t cap d n west i_word bdy_wall_v_bit) || (flag_of t bdy_wall_v_bit (link_of t cap n south_word)))))
+      (i || ((flag_of t grn_wall_h_bit (link_of t cap n west_word)) || (j || (flag_of t grn_wall_v_bit (link_of t cap n south_word)))))) ∙ sum

@@ -16,7 +16,7 @@ use borrow.Author.Tests.{eq-eqb, ne_eqb}
 use Rattle.mesh.specs.Tools.{digits}
 use Rattle.mesh.specs.Place.{Place, Grid, base, step, Wind, N, E, S, W}
 use Rattle.mesh.specs.Winds.{word_of_wind}
-use Rattle.mesh.specs.Mesh.{Wall, absent, is_wall, is_boundary, is_green, on, touched, wall_h, wall_v, ends, sides, derived, flags, complete_bit, bdy_wall_hbit, bdy_wall_vbit, grn_wall_hbit, grn_wall_vbit, sentenced_bit}
+use Rattle.mesh.specs.Mesh.{Wall, absent, is_wall, is_boundary, is_green, on, touched, wall_h, wall_v, ends, sides, derived, flags, complete_bit, bdy_wall_h_bit, bdy_wall_v_bit, grn_wall_h_bit, grn_wall_v_bit, sentenced_bit}
 use Rattle.mesh.specs.State.{Entry, cells, number, number_of}
 use Rattle.mesh.specs.Picture.{parent_word, south_word, west_word, flags_word}
 use Rattle.table.specs.Words.{word_of, link_of, flag_of, depth_of}
@@ -108,35 +108,35 @@ module _ {g : Grid} {cap : ℕ} {t : List ℤ} {v : List Float} {es : List Entry
 
   -- ---- the four flags of walls
 
-  boundary_h-flag : (n : ℕ) → Used cap t n → base g ≤ depth_of t (base g) n → flag_of t bdy_wall_hbit n ≡ boundary_h t cap (base g) n
+  boundary_h-flag : (n : ℕ) → Used cap t n → base g ≤ depth_of t (base g) n → flag_of t bdy_wall_h_bit n ≡ boundary_h t cap (base g) n
   unfolding flags_from
-  boundary_h-flag n u l = point-flag o.tested n u l bdy_wall_hbit (lit< tt)
+  boundary_h-flag n u l = point-flag o.tested n u l bdy_wall_h_bit (lit< tt)
 
-  boundary_v-flag : (n : ℕ) → Used cap t n → base g ≤ depth_of t (base g) n → flag_of t bdy_wall_vbit n ≡ boundary_v t cap (base g) n
+  boundary_v-flag : (n : ℕ) → Used cap t n → base g ≤ depth_of t (base g) n → flag_of t bdy_wall_v_bit n ≡ boundary_v t cap (base g) n
   unfolding flags_from
-  boundary_v-flag n u l = point-flag o.tested n u l bdy_wall_vbit (lit< tt)
+  boundary_v-flag n u l = point-flag o.tested n u l bdy_wall_v_bit (lit< tt)
 
-  green_h-flag : (n : ℕ) → Used cap t n → base g ≤ depth_of t (base g) n → flag_of t grn_wall_hbit n ≡ green_h t cap (base g) n
+  green_h-flag : (n : ℕ) → Used cap t n → base g ≤ depth_of t (base g) n → flag_of t grn_wall_h_bit n ≡ green_h t cap (base g) n
   unfolding flags_from
-  green_h-flag n u l = point-flag o.tested n u l grn_wall_hbit (lit< tt)
+  green_h-flag n u l = point-flag o.tested n u l grn_wall_h_bit (lit< tt)
 
-  green_v-flag : (n : ℕ) → Used cap t n → base g ≤ depth_of t (base g) n → flag_of t grn_wall_vbit n ≡ green_v t cap (base g) n
+  green_v-flag : (n : ℕ) → Used cap t n → base g ≤ depth_of t (base g) n → flag_of t grn_wall_v_bit n ≡ green_v t cap (base g) n
   unfolding flags_from
-  green_v-flag n u l = point-flag o.tested n u l grn_wall_vbit (lit< tt)
+  green_v-flag n u l = point-flag o.tested n u l grn_wall_v_bit (lit< tt)
 
-  boundaries_h : Edge S tt bdy_wall_hbit
+  boundaries_h : Edge S tt bdy_wall_h_bit
   unfolding boundary_h said_place
   boundaries_h n u l = rw (stays-south (said_place g t n)) (boundary_h-flag n u l)
 
-  boundaries_v : Edge W tt bdy_wall_vbit
+  boundaries_v : Edge W tt bdy_wall_v_bit
   unfolding boundary_v said_place
   boundaries_v n u l = rw (stays-west (said_place g t n)) (boundary_v-flag n u l)
 
-  greens_h : (n : ℕ) → Used cap t n → base g ≤ depth_of t (base g) n → flag_of t grn_wall_hbit n ≡ (not (beq (flag_of t complete_bit n) (flag_of t complete_bit (link_of t cap n south_word))) && not (flag_of t bdy_wall_hbit n))
+  greens_h : (n : ℕ) → Used cap t n → base g ≤ depth_of t (base g) n → flag_of t grn_wall_h_bit n ≡ (not (beq (flag_of t complete_bit n) (flag_of t complete_bit (link_of t cap n south_word))) && not (flag_of t bdy_wall_h_bit n))
   unfolding green_h
   greens_h n u l = rw (boundary_h-flag n u l) (green_h-flag n u l)
 
-  greens_v : (n : ℕ) → Used cap t n → base g ≤ depth_of t (base g) n → flag_of t grn_wall_vbit n ≡ (not (beq (flag_of t complete_bit n) (flag_of t complete_bit (link_of t cap n west_word))) && not (flag_of t bdy_wall_vbit n))
+  greens_v : (n : ℕ) → Used cap t n → base g ≤ depth_of t (base g) n → flag_of t grn_wall_v_bit n ≡ (not (beq (flag_of t complete_bit n) (flag_of t complete_bit (link_of t cap n west_word))) && not (flag_of t bdy_wall_v_bit n))
   unfolding green_v
   greens_v n u l = rw (boundary_v-flag n u l) (green_v-flag n u l)
 
@@ -144,21 +144,21 @@ module _ {g : Grid} {cap : ℕ} {t : List ℤ} {v : List Float} {es : List Entry
   abbrev High : Option Place → Type 0
   High x = (q : Place) → x ≡ some q → base g ≤ q.depth
 
-  h-boundary : (x : Option Place) → High x → flag_of t bdy_wall_hbit (number_of es x) ≡ is_boundary (wall_h g c x)
+  h-boundary : (x : Option Place) → High x → flag_of t bdy_wall_h_bit (number_of es x) ≡ is_boundary (wall_h g c x)
   unfolding wall_h
-  h-boundary x h = wall-flag S is_boundary boundary-wall (south-touched g c) bdy_wall_hbit (boundary-at S tt bdy_wall_hbit boundaries_h) x h
+  h-boundary x h = wall-flag S is_boundary boundary-wall (south-touched g c) bdy_wall_h_bit (boundary-at S tt bdy_wall_h_bit boundaries_h) x h
 
-  v-boundary : (x : Option Place) → High x → flag_of t bdy_wall_vbit (number_of es x) ≡ is_boundary (wall_v g c x)
+  v-boundary : (x : Option Place) → High x → flag_of t bdy_wall_v_bit (number_of es x) ≡ is_boundary (wall_v g c x)
   unfolding wall_v
-  v-boundary x h = wall-flag W is_boundary boundary-wall (west-touched g c) bdy_wall_vbit (boundary-at W tt bdy_wall_vbit boundaries_v) x h
+  v-boundary x h = wall-flag W is_boundary boundary-wall (west-touched g c) bdy_wall_v_bit (boundary-at W tt bdy_wall_v_bit boundaries_v) x h
 
-  h-green : (x : Option Place) → High x → flag_of t grn_wall_hbit (number_of es x) ≡ is_green (wall_h g c x)
+  h-green : (x : Option Place) → High x → flag_of t grn_wall_h_bit (number_of es x) ≡ is_green (wall_h g c x)
   unfolding wall_h
-  h-green x h = wall-flag S is_green green-wall (south-touched g c) grn_wall_hbit (green-at S tt bdy_wall_hbit boundaries_h grn_wall_hbit greens_h) x h
+  h-green x h = wall-flag S is_green green-wall (south-touched g c) grn_wall_h_bit (green-at S tt bdy_wall_h_bit boundaries_h grn_wall_h_bit greens_h) x h
 
-  v-green : (x : Option Place) → High x → flag_of t grn_wall_vbit (number_of es x) ≡ is_green (wall_v g c x)
+  v-green : (x : Option Place) → High x → flag_of t grn_wall_v_bit (number_of es x) ≡ is_green (wall_v g c x)
   unfolding wall_v
-  v-green x h = wall-flag W is_green green-wall (west-touched g c) grn_wall_vbit (green-at W tt bdy_wall_vbit boundaries_v grn_wall_vbit greens_v) x h
+  v-green x h = wall-flag W is_green green-wall (west-touched g c) grn_wall_v_bit (green-at W tt bdy_wall_v_bit boundaries_v grn_wall_v_bit greens_v) x h
 
   -- ---- all flags of a row
 
@@ -203,10 +203,10 @@ module _ {g : Grid} {cap : ℕ} {t : List ℤ} {v : List Float} {es : List Entry
         let ev = boundary_v-flag n u l in
         let ih = green_h-flag n u l in
         let iv = green_v-flag n u l in
-        let bdy-point = around is_boundary bdy_wall_hbit bdy_wall_vbit (boundary_h t cap (base g) n) (boundary_v t cap (base g) n) h-boundary v-boundary eh ev W S tt tt in
-        let bdy-cell = around is_boundary bdy_wall_hbit bdy_wall_vbit (boundary_h t cap (base g) n) (boundary_v t cap (base g) n) h-boundary v-boundary eh ev N E tt tt in
-        let grn-point = around is_green grn_wall_hbit grn_wall_vbit (green_h t cap (base g) n) (green_v t cap (base g) n) h-green v-green ih iv W S tt tt in
-        let grn-cell = around is_green grn_wall_hbit grn_wall_vbit (green_h t cap (base g) n) (green_v t cap (base g) n) h-green v-green ih iv N E tt tt in
+        let bdy-point = around is_boundary bdy_wall_h_bit bdy_wall_v_bit (boundary_h t cap (base g) n) (boundary_v t cap (base g) n) h-boundary v-boundary eh ev W S tt tt in
+        let bdy-cell = around is_boundary bdy_wall_h_bit bdy_wall_v_bit (boundary_h t cap (base g) n) (boundary_v t cap (base g) n) h-boundary v-boundary eh ev N E tt tt in
+        let grn-point = around is_green grn_wall_h_bit grn_wall_v_bit (green_h t cap (base g) n) (green_v t cap (base g) n) h-green v-green ih iv W S tt tt in
+        let grn-cell = around is_green grn_wall_h_bit grn_wall_v_bit (green_h t cap (base g) n) (green_v t cap (base g) n) h-green v-green ih iv N E tt tt in
         let wall-h = wall_h-cells g c p ∙ ap₂ ◌||◌ complete (south-link o n u) in
         let wall-v = wall_v-cells g c p ∙ ap₂ ◌||◌ complete (west-link o n u) in
         λ i.
@@ -214,12 +214,12 @@ module _ {g : Grid} {cap : ℕ} {t : List ℤ} {v : List Float} {es : List Entry
         wall-h i ∷
         wall-v i ∷
         bdy-point i ∷
-        (own is_boundary (wall_h g c) bdy_wall_hbit h-boundary ∙ eh) i ∷
-        (own is_boundary (wall_v g c) bdy_wall_vbit v-boundary ∙ ev) i ∷
+        (own is_boundary (wall_h g c) bdy_wall_h_bit h-boundary ∙ eh) i ∷
+        (own is_boundary (wall_v g c) bdy_wall_v_bit v-boundary ∙ ev) i ∷
         (complete i && bdy-cell i) ∷
         grn-point i ∷
-        (own is_green (wall_h g c) grn_wall_hbit h-green ∙ ih) i ∷
-        (own is_green (wall_v g c) grn_wall_vbit v-green ∙ iv) i ∷
+        (own is_green (wall_h g c) grn_wall_h_bit h-green ∙ ih) i ∷
+        (own is_green (wall_v g c) grn_wall_v_bit v-green ∙ iv) i ∷
         (complete i && grn-cell i) ∷
         false ∷
         s ∷

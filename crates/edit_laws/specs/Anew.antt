@@ -4,7 +4,7 @@
 use Rattle.std.specs.Prelude.{ℕ, Bool, cond, ◌||◌, List, eqb, ℤ}
 use Rattle.mesh.specs.Tools.{digits}
 use Rattle.mesh.specs.Picture.{east_word, flags_word, north_word, south_word, west_word}
-use Rattle.mesh.specs.Mesh.{bdy_wall_hbit, bdy_wall_vbit, complete_bit, grn_wall_hbit, grn_wall_vbit, sentenced_bit, wall_hbit, wall_vbit}
+use Rattle.mesh.specs.Mesh.{bdy_wall_h_bit, bdy_wall_v_bit, complete_bit, grn_wall_h_bit, grn_wall_v_bit, sentenced_bit, wall_h_bit, wall_v_bit}
 use Rattle.table.specs.Words.{link_of, flag_of}
 use Rattle.worked.specs.Worked.{cell_in, boundary_h, boundary_v, green_h, green_v, flag_list, points_cell, walls_alone}
 use Rattle.edit_laws.specs.PatchSteps.{put_word}
@@ -24,9 +24,9 @@ points_anew t cap n =
     let east = link_of t cap n east_word in
     let south = link_of t cap n south_word in
     let west = link_of t cap n west_word in
-    flag_list c (flag_of t wall_hbit n) (flag_of t wall_vbit n)
-    (points_cell c (flag_of t bdy_wall_hbit n) (flag_of t bdy_wall_vbit n) (flag_of t bdy_wall_hbit west) (flag_of t bdy_wall_vbit south) (flag_of t bdy_wall_hbit north) (flag_of t bdy_wall_vbit east))
-    (points_cell c (flag_of t grn_wall_hbit n) (flag_of t grn_wall_vbit n) (flag_of t grn_wall_hbit west) (flag_of t grn_wall_vbit south) (flag_of t grn_wall_hbit north) (flag_of t grn_wall_vbit east))
+    flag_list c (flag_of t wall_h_bit n) (flag_of t wall_v_bit n)
+    (points_cell c (flag_of t bdy_wall_h_bit n) (flag_of t bdy_wall_v_bit n) (flag_of t bdy_wall_h_bit west) (flag_of t bdy_wall_v_bit south) (flag_of t bdy_wall_h_bit north) (flag_of t bdy_wall_v_bit east))
+    (points_cell c (flag_of t grn_wall_h_bit n) (flag_of t grn_wall_v_bit n) (flag_of t grn_wall_h_bit west) (flag_of t grn_wall_v_bit south) (flag_of t grn_wall_h_bit north) (flag_of t grn_wall_v_bit east))
     (flag_of t sentenced_bit n)
 
 -- the row with its walls anew, unless it is row 0; its own mark Sentenced stays

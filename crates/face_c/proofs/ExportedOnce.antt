@@ -2,7 +2,7 @@
 -- same header, the same lists and the same numbers behind its pointers.
 -- Assumes nothing.
 use Prim.Native.Nat.{ℕ}
-use mathlib.Core.Path.{◌≡◌, refl, sym, ◌∙◌}
+use mathlib.Core.Path.{◌≡◌, refl}
 use mathlib.Core.List.{List}
 use lib.IntN.{ℤ}
 use lib.Ieee.{Float}
@@ -12,8 +12,6 @@ use contract.Monad.{fact}
 use denote.Ref.{Bor, MutBor, at_last}
 use denote.Triple.Spec.{exits}
 use borrow.Fn.World.{World, Pr}
-use Rattle.mesh.specs.Picture.{Lent}
-use Rattle.mesh.specs.LeafCounts.{Counted}
 use Rattle.header.specs.Headers.{lent_of, counted_of}
 use Rattle.header.specs.declared.Header.{Header}
 use Rattle.grid.proofs.Unique.{both_told}

@@ -11,7 +11,7 @@ use mathlib.Core.Logic.{◌⊎◌, inl, inr}
 use mathlib.Core.Bool.{Bool}
 use mathlib.Core.Option.{some}
 use lib.Dec.{T}
-use Rattle.mesh.specs.Place.{Place, Grid, Wind, N, E, S, W, at, base, lap, home, step, parent}
+use Rattle.mesh.specs.Place.{Place, Grid, Wind, N, E, S, W, base, lap, home, step, parent}
 use Rattle.mesh.specs.Mesh.{Mesh, on, has_kids, leaf}
 use Rattle.mesh.specs.Holding.{side, west_edge, east_edge, south_edge, north_edge, holds}
 use Rattle.place_laws.proofs.Steps.{south-on, south-anew, west-on, step_back}

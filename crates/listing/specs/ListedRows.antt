@@ -3,7 +3,7 @@
 use Rattle.std.specs.Prelude.{ℕ, ◌+◌, ◌*◌, Bool, ◌&&◌, ◌||◌, List, eqb, leb, get_or, ℤ, pos}
 use Rattle.std.specs.Int.Signed.{le_z}
 use Rattle.mesh.specs.Picture.{row_words, level_word}
-use Rattle.mesh.specs.Mesh.{complete_bit, wall_hbit, wall_vbit}
+use Rattle.mesh.specs.Mesh.{complete_bit, wall_h_bit, wall_v_bit}
 use Rattle.table.specs.Words.{flag_of, depth_of}
 use Rattle.walk.specs.WalkRows.{leaf_row}
 
@@ -18,8 +18,8 @@ module _ (t : List ℤ) (cap d : ℕ) where
       eqb k 1 ||
       ((eqb k 2 && flag_of t complete_bit n) ||
       ((eqb k 3 && leaf_row t cap n) ||
-      ((eqb k 4 && flag_of t wall_hbit n) ||
-      ((eqb k 5 && flag_of t wall_vbit n) ||
+      ((eqb k 4 && flag_of t wall_h_bit n) ||
+      ((eqb k 5 && flag_of t wall_v_bit n) ||
       (eqb k 6 && leb d (depth_of t d n))))))
 
   -- what a scan of the kind k lists from the level from on

@@ -8,7 +8,6 @@ use lib.IntN.{pos}
 use lib.Ieee.{Float, fin}
 use Rattle.mesh.specs.Place.{Place, kids}
 use Rattle.mesh.specs.State.{Cell, Value, measured, carried, plus_zero}
-use Rattle.mesh.specs.Deed as Deed
 use Rattle.mesh.specs.Deed.{Deed, Contents, refined, sentenced, removed, killed, set_rule}
 use Rattle.mesh.proofs.References.{rules}
 

@@ -41,20 +41,20 @@ wall_of false true a b = cond a green boundary
 abbrev pub complete_bit : ℕ
 complete_bit = 0
 
-abbrev pub wall_hbit : ℕ
-wall_hbit = 1
+abbrev pub wall_h_bit : ℕ
+wall_h_bit = 1
 
-abbrev pub wall_vbit : ℕ
-wall_vbit = 2
+abbrev pub wall_v_bit : ℕ
+wall_v_bit = 2
 
 abbrev pub bdy_point_bit : ℕ
 bdy_point_bit = 3
 
-abbrev pub bdy_wall_hbit : ℕ
-bdy_wall_hbit = 4
+abbrev pub bdy_wall_h_bit : ℕ
+bdy_wall_h_bit = 4
 
-abbrev pub bdy_wall_vbit : ℕ
-bdy_wall_vbit = 5
+abbrev pub bdy_wall_v_bit : ℕ
+bdy_wall_v_bit = 5
 
 abbrev pub bdy_cell_bit : ℕ
 bdy_cell_bit = 6
@@ -62,11 +62,11 @@ bdy_cell_bit = 6
 abbrev pub grn_point_bit : ℕ
 grn_point_bit = 7
 
-abbrev pub grn_wall_hbit : ℕ
-grn_wall_hbit = 8
+abbrev pub grn_wall_h_bit : ℕ
+grn_wall_h_bit = 8
 
-abbrev pub grn_wall_vbit : ℕ
-grn_wall_vbit = 9
+abbrev pub grn_wall_v_bit : ℕ
+grn_wall_v_bit = 9
 
 abbrev pub grn_cell_bit : ℕ
 grn_cell_bit = 10

@@ -11,7 +11,7 @@ use mathlib.Core.Option.{Option, none, some, some-injective}
 use mathlib.Core.List.{List, [], ◌∷◌}
 use lib.Dec.{T, lit<}
 use lib.ListN.{get_or}
-use Rattle.mesh.specs.Tools.{any, every, digits, or_else}
+use Rattle.mesh.specs.Tools.{any, digits, or_else}
 use Rattle.mesh.specs.Place.{Place, Grid, Wind, N, E, S, W, side_winds, base, then, step, parent}
 use Rattle.mesh.specs.Winds.{word_of_wind, ◌of◌}
 use Rattle.mesh.specs.Mesh.{on, touched, patch, derived, flags, ends, sides, Wall, absent, internal, boundary, green, is_wall, is_boundary, is_green, wall_h, wall_v}

@@ -8,7 +8,7 @@ use Rattle.mesh.specs.Place.{Grid, Wind, at, base, compass, step}
 use Rattle.mesh.specs.Seam.{crosses}
 use Rattle.mesh.specs.Winds.{word_of_wind}
 use Rattle.mesh.specs.Picture.{east_word, i_word, j_word, ne_word, north_word, nw_word, parent_word, se_word, south_word, sw_word, west_word}
-use Rattle.mesh.specs.Mesh.{bdy_wall_hbit, bdy_wall_vbit, complete_bit, grn_wall_hbit, grn_wall_vbit}
+use Rattle.mesh.specs.Mesh.{bdy_wall_h_bit, bdy_wall_v_bit, complete_bit, grn_wall_h_bit, grn_wall_v_bit}
 use Rattle.table.specs.Words.{word_of, link_of, flag_of, depth_of}
 
 -- the word of the kid whose column ends in the digit l and whose row ends in the digit m: NE 1, SE 2, SW 3, NW 4
@@ -80,10 +80,10 @@ module _ (t : List ℤ) (cap d : ℕ) where
 
   -- a wall of the row with one cell that is boundary: below the place, and left of it
   unfoldable pub boundary_h : ℕ → Bool
-  boundary_h n = boundary_at n (not (beq (cell_in n) (cell_in (link_of t cap n south_word)))) j_word bdy_wall_hbit
+  boundary_h n = boundary_at n (not (beq (cell_in n) (cell_in (link_of t cap n south_word)))) j_word bdy_wall_h_bit
 
   unfoldable pub boundary_v : ℕ → Bool
-  boundary_v n = boundary_at n (not (beq (cell_in n) (cell_in (link_of t cap n west_word)))) i_word bdy_wall_vbit
+  boundary_v n = boundary_at n (not (beq (cell_in n) (cell_in (link_of t cap n west_word)))) i_word bdy_wall_v_bit
 
   unfoldable pub green_h : ℕ → Bool
   green_h n = not (beq (cell_in n) (cell_in (link_of t cap n south_word))) && not (boundary_h n)
@@ -100,5 +100,5 @@ module _ (t : List ℤ) (cap d : ℕ) where
       let south = link_of t cap n south_word in
       let west = link_of t cap n west_word in
       flag_list c (c || cell_in south) (c || cell_in west)
-      (points_cell c (boundary_h n) (boundary_v n) (flag_of t bdy_wall_hbit west) (flag_of t bdy_wall_vbit south) (flag_of t bdy_wall_hbit north) (flag_of t bdy_wall_vbit east))
-      (points_cell c (green_h n) (green_v n) (flag_of t grn_wall_hbit west) (flag_of t grn_wall_vbit south) (flag_of t grn_wall_hbit north) (flag_of t grn_wall_vbit east)) sentenced
+      (points_cell c (boundary_h n) (boundary_v n) (flag_of t bdy_wall_h_bit west) (flag_of t bdy_wall_v_bit south) (flag_of t bdy_wall_h_bit north) (flag_of t bdy_wall_v_bit east))
+      (points_cell c (green_h n) (green_v n) (flag_of t grn_wall_h_bit west) (flag_of t grn_wall_v_bit south) (flag_of t grn_wall_h_bit north) (flag_of t grn_wall_v_bit east)) sentenced

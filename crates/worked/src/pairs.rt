@@ -1,7 +1,7 @@
 // Walls of both kinds at once: a boundary wall counts 1 and a green one 16, since their flags stand four bits apart.
 ghost use Rattle.std.specs.Prelude.{◌≡◌, not, ◌&&◌, ◌||◌, ◌+◌, ◌<◌, ◌≤◌};
 ghost use Rattle.std.specs.Int.Bits.{bit_or};
-ghost use Rattle.mesh.specs.Mesh.{bdy_wall_hbit, bdy_wall_vbit, grn_wall_hbit, grn_wall_vbit};
+ghost use Rattle.mesh.specs.Mesh.{bdy_wall_h_bit, bdy_wall_v_bit, grn_wall_h_bit, grn_wall_v_bit};
 ghost use Rattle.worked.specs.FlagDigits.{pair};
 ghost use Rattle.table.specs.Words.{link_of, flag_of};
 ghost use Rattle.table.specs.Plain.{Plain};
@@ -40,7 +40,7 @@ pub fn join(a: u32, b: u32) -> u32
 // The walls that the neighbours at the words a and b have at a corner: an H-wall and a V-wall.
 pub fn corner(t: &[i32], cap: usize, n: usize, a: usize, b: usize) -> u32
     requires { Plain t.now cap × (n ≤ cap) × (a < 9) × (b < 9) }
-    ensures { (result < 32) × (result ≡ pair (flag_of t.now bdy_wall_hbit (link_of t.now cap n a) || flag_of t.now bdy_wall_vbit (link_of t.now cap n b)) (flag_of t.now grn_wall_hbit (link_of t.now cap n a) || flag_of t.now grn_wall_vbit (link_of t.now cap n b))) }
+    ensures { (result < 32) × (result ≡ pair (flag_of t.now bdy_wall_h_bit (link_of t.now cap n a) || flag_of t.now bdy_wall_v_bit (link_of t.now cap n b)) (flag_of t.now grn_wall_h_bit (link_of t.now cap n a) || flag_of t.now grn_wall_v_bit (link_of t.now cap n b))) }
 {
     join(
         wall(t, cap, BDY_WALL_H, link(t, cap, n, a)),

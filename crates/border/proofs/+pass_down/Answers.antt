@@ -4,7 +4,6 @@ use borrow.Author.Rules.{rules}
 use Prim.Native.Nat.{◌-◌}
 use native.Mathlib.Omega.{arith}
 use mathlib.Core.Path.{refl, sym, ◌∙◌}
-use mathlib.Core.Bool.{false}
 use Rattle.place_laws.proofs.Bools.{neither}
 use Rattle.edit_laws.specs.Tables.{each_down}
 use Rattle.border.specs.Borders.{pass_row}

@@ -2,7 +2,7 @@
 use native.Mathlib.Omega.{arith}
 use borrow.Author.Rules.{rules}
 use mathlib.Core.Path.{◌≡◌, refl, ap, ◌∙◌}
-use mathlib.Core.Bool.{false, true}
+use mathlib.Core.Bool.{false}
 use Prim.Native.Nat.{◌-◌}
 use Rattle.place_laws.proofs.Bools.{is-yes}
 use Rattle.tally.specs.TallyRows.{row_counts}

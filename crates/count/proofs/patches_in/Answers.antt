@@ -1,5 +1,4 @@
 -- `count::patches_in` meets its contract. The invariant: the patches of the levels passed are counted.
-use Prim.Native.Nat.{◌-◌}
 use mathlib.Core.Path.{sym}
 use Rattle.header.specs.Headers.{header_of}
 use Rattle.place_laws.proofs.Base.{base-range}

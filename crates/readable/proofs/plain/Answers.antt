@@ -1,10 +1,8 @@
 -- `readable::plain` meets its contract. The invariant: the rows below n pass.
 use mathlib.Core.Path.{refl}
-use mathlib.Core.Bool.{true}
 use Prim.Native.Nat.{◌-◌}
 use borrow.Author.Rules.{rules}
 use native.Mathlib.Omega.{arith}
-use Rattle.readable.specs.Readable.{plain_row}
 use Rattle.readable.proofs.ReadableRows.{not-all, one_more, all-rows}
 use Rattle.readable.proofs.plain.Goals as goal
 

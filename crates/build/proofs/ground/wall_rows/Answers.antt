@@ -1,7 +1,6 @@
 -- `build::ground::wall_rows` meets its contract. The invariant: the rows left make of the table what all make of the one at the start, and it is plain.
 use Prim.Native.Nat.{◌-◌}
 use mathlib.Core.Path.{refl, sym, ◌∙◌}
-use Rattle.edit_laws.specs.Anew.{wall_row}
 use Rattle.build.proofs.RowTurns.{rows_on, rows-done}
 use native.Mathlib.Omega.{arith}
 use Rattle.build.proofs.ground.wall_rows.Goals as goal

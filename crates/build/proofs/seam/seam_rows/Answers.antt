@@ -2,7 +2,6 @@
 use native.Mathlib.Omega.{arith}
 use Prim.Native.Nat.{◌-◌}
 use mathlib.Core.Path.{refl, sym, ◌∙◌}
-use Rattle.edit_laws.specs.Built.{seam_row}
 use Rattle.build.proofs.RowTurns.{rows_on, rows-done}
 use Rattle.build.proofs.seam.seam_rows.Goals as goal
 

@@ -1,7 +1,6 @@
 -- `carried::values::same_bits` meets its contract: of finite floats, by their bits.
 use mathlib.Core.Path.{sym, subst, ◌∙◌}
 use lib.Dec.{T}
-use borrow.Author.Tests.{not-true, not-false}
 use Rattle.carried.proofs.Bits.{finite-no-nan, not-same-left, not-same-right, same_bits}
 use Rattle.carried.proofs.values.same_bits.Goals as goal
 

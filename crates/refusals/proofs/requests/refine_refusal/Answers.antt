@@ -1,12 +1,8 @@
 -- `refusals::requests::refine_refusal` meets its contract: each check where those before it pass.
-use Prim.Native.Nat.{ℕ, ◌≤◌}
 use native.Mathlib.Omega.{arith}
 use mathlib.Core.Path.{sym, ◌∙◌}
-use mathlib.Core.List.{List}
-use lib.ListN.{drop}
-use Rattle.mesh.specs.Refusal.{Check}
 use Rattle.refusals.specs.Decide.{refine_rows, refine_refusal}
-use Rattle.refusals.proofs.Arms.{Refused, first_two, goes_on, past-le, past_two, refused, room, stops}
+use Rattle.refusals.proofs.Arms.{first_two, goes_on, past-le, past_two, refused, room, stops}
 use Rattle.refusals.proofs.requests.refine_refusal.Goals as goal
 
 pub returns-then-r-ne0 : goal.returns-then-r-ne0

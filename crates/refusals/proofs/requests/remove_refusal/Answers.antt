@@ -1,13 +1,8 @@
 -- `refusals::requests::remove_refusal` meets its contract: each check where those before it pass.
-use Prim.Native.Nat.{ℕ, ◌≤◌}
 use native.Mathlib.Omega.{arith}
 use mathlib.Core.Path.{sym, ◌∙◌}
-use mathlib.Core.List.{List}
-use lib.ListN.{drop}
-use borrow.Author.Tests.{not-false}
-use Rattle.mesh.specs.Refusal.{Check}
 use Rattle.refusals.specs.Decide.{remove_rows, remove_refusal}
-use Rattle.refusals.proofs.Arms.{Refused, accepts, first_two, goes_on, goes-on-not, past-le, past_two, refused, stops, stops-not}
+use Rattle.refusals.proofs.Arms.{accepts, first_two, goes_on, goes-on-not, past-le, past_two, refused, stops, stops-not}
 use Rattle.refusals.proofs.requests.remove_refusal.Goals as goal
 
 pub returns-then-r-ne0 : goal.returns-then-r-ne0

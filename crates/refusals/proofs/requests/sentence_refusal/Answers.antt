@@ -1,12 +1,8 @@
 -- `refusals::requests::sentence_refusal` meets its contract: each check where those before it pass.
-use Prim.Native.Nat.{ℕ, ◌≤◌}
 use native.Mathlib.Omega.{arith}
 use mathlib.Core.Path.{sym, ◌∙◌}
-use mathlib.Core.List.{List}
-use lib.ListN.{drop}
-use Rattle.mesh.specs.Refusal.{Check}
 use Rattle.refusals.specs.Decide.{sentence_rows, sentence_refusal}
-use Rattle.refusals.proofs.Arms.{Refused, accepts, first_two, goes_on, past-le, past_two, refused, stops}
+use Rattle.refusals.proofs.Arms.{accepts, first_two, goes_on, past-le, past_two, refused, stops}
 use Rattle.refusals.proofs.requests.sentence_refusal.Goals as goal
 
 pub returns-then-r-ne0 : goal.returns-then-r-ne0

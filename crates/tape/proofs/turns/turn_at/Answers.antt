@@ -1,7 +1,6 @@
 -- `tape::turns::turn_at` meets its contract: an unknown kind, a short body, or the request that the bytes ask for.
 use native.Mathlib.Omega.{arith}
-use mathlib.Core.Path.{refl, sym, ap, ◌∙◌}
-use Rattle.kinds.specs.BodyLengths.{length_in}
+use mathlib.Core.Path.{refl}
 use Rattle.tape.proofs.Turning.{turned-unknown, turned-short, whole-body, turned-request}
 use Rattle.tape.proofs.turns.turn_at.Goals as goal
 
