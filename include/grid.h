@@ -1,4 +1,4 @@
-/* The grid library from C: seven calls, proved (crates/face). Link target/staticlib/libface.a, for x86-64 Linux, which `rt staticlib face` writes.
+/* The grid library from C: seven calls, proved (crates/face, crates/face_c). Link target/staticlib/libface.a, for x86-64 Linux, which `tools/archive` writes.
  *
  * A grid is lent to every call but grid_count: the header, a table of 14 * (capacity + 1) words, capacity + 1 values, and the capacity, 5 to 4,095.
  * Build, tape and check are also lent the counts, 39 numbers beside the table: how many leaves of level l have status s stands at place 3 * l + s. A

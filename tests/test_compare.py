@@ -13,8 +13,8 @@ LOADER.exec_module(compare)
 
 OLD = {
     "crates/a/specs/Shapes.antt": """-- what a shape is
-use mathlib.Core.Path.{_≡_}
-use lib.Old.{size}
+use Rattle.std.specs.Prelude.{◌≡◌}
+use Rattle.std.specs.Old.{size}
 
 pub data Side : Type 0 where
   left right : Side
@@ -34,11 +34,11 @@ pub record Demand3 (n : ℕ) : Type 0 where
   pub tiled : n ≡ 2
   pub gone : n ≡ 3
 """,
-    "crates/a/specs/Gone.antt": """abbrev pub carriedAlong : ℕ
-carriedAlong = 7
+    "crates/a/specs/Gone.antt": """abbrev pub carried_along : ℕ
+carried_along = 7
 """,
-    "crates/a/proofs/Laws.antt": """use Rattle·a·specs.specs.Shapes.{area, twice}
-use Rattle·a·specs.specs.Gone.{carriedAlong}
+    "crates/a/proofs/Laws.antt": """use Rattle.a.specs.Shapes.{area, twice}
+use Rattle.a.specs.Gone.{carried_along}
 
 module _ (n : ℕ) where
   pub law : area n 0 ≡ 0
@@ -48,10 +48,10 @@ module _ (n : ℕ) where
   helper : n ≡ n
   helper = refl
 
-pub kept : carriedAlong ≡ 7
+pub kept : carried_along ≡ 7
 kept = go tt
   where
-    go : Unit → carriedAlong ≡ 7
+    go : Unit → carried_along ≡ 7
     go u = refl
 
 pub goes : twice 1 ≡ 2
@@ -63,13 +63,15 @@ bound = 9
 pub below : twice 1 < bound
 below = lit
 """,
-    "crates/a/proofs/turn/Proof.antt": """use Rattle·a·proofs.proofs.turn.Tie as tie
+    "crates/a/proofs/turn/Answers.antt": """use Rattle.a.proofs.turn.Goals as goal
 
-returns : tie.Need-returns
-returns c = search needs
+returns : goal.returns
+returns c = search rules
 """,
     "crates/grid/src/lib.rt": """// the calls
-ghost use Rattle·a.specs.Shapes.{area};
+#![tactic(auto)]
+
+ghost use Rattle.a.specs.Shapes.{area};
 use a::parts::put;
 
 pub struct Header {
@@ -77,20 +79,20 @@ pub struct Header {
 }
 
 pub fn check(rows: u32) -> u32
-    ensures { λ r. ⌜ r ≡ area rows 1 ⌝ }
+    ensures { result ≡ area rows 1 }
 {
     rows
 }
 
 pub fn build(rows: u32) -> u32
-    requires { ⌜ rows < 5 ⌝ }
-    ensures { λ r. ⌜ r ≡ rows ⌝ }
+    requires { rows < 5 }
+    ensures same { result ≡ rows }
 {
     rows
 }
 
 fn quiet(a: u8) -> u8
-    ensures { λ r. ⌜ r ≡ a ⌝ }
+    ensures { result ≡ a }
 {
     put(a, [1, 2, 3]);
     a
@@ -105,8 +107,8 @@ fn quiet(a: u8) -> u8
 
 NEW = {
     # a changed definition, an import from elsewhere, a field changed, one added, one removed; comments and layout that do not count
-    "crates/a/specs/Shapes.antt": """use mathlib.Core.Path.{_≡_}
-use lib.New.{size}
+    "crates/a/specs/Shapes.antt": """use Rattle.std.specs.Prelude.{◌≡◌}
+use Rattle.std.specs.New.{size}
 
 pub data Side : Type 0 where
   left right : Side
@@ -131,12 +133,12 @@ pub record Demand3 (n : ℕ) : Type 0 where
   pub new : n ≡ 3
 """,
     # a renamed file
-    "crates/a/specs/Kept.antt": """abbrev pub carriedAlong : ℕ
-carriedAlong = 7
+    "crates/a/specs/Kept.antt": """abbrev pub carried_along : ℕ
+carried_along = 7
 """,
     # the module's parameters change what stands in it; a proof that changed alone; a lemma that moved; a definition among the proofs
-    "crates/a/proofs/Laws.antt": """use Rattle·a·specs.specs.Shapes.{area, twice}
-use Rattle·a·specs.specs.Kept.{carriedAlong}
+    "crates/a/proofs/Laws.antt": """use Rattle.a.specs.Shapes.{area, twice}
+use Rattle.a.specs.Kept.{carried_along}
 
 module _ (n m : ℕ) where
   pub law : area n 0 ≡ 0
@@ -146,10 +148,10 @@ module _ (n m : ℕ) where
   helper : n ≡ n
   helper = refl
 
-pub kept : carriedAlong ≡ 7
+pub kept : carried_along ≡ 7
 kept = go tt
   where
-    go : Unit → carriedAlong ≡ 7
+    go : Unit → carried_along ≡ 7
     go u = sym refl
 
 bound : ℕ
@@ -158,19 +160,21 @@ bound = 10
 pub below : twice 1 < bound
 below = lit
 """,
-    "crates/a/proofs/Twice.antt": """use Rattle·a·specs.specs.Shapes.{twice}
+    "crates/a/proofs/Twice.antt": """use Rattle.a.specs.Shapes.{twice}
 
 -- moved here
 pub goes : twice 1 ≡ 2
 goes = refl
 """,
-    "crates/a/proofs/turn/Proof.antt": """use Rattle·a·proofs.proofs.turn.Tie as tie
+    "crates/a/proofs/turn/Answers.antt": """use Rattle.a.proofs.turn.Goals as goal
 
-returns : tie.Need-returns
+returns : goal.returns
 returns c = omega arith
 """,
     # a contract changed, a body changed, a trailing comma that does not count
-    "crates/grid/src/lib.rt": """ghost use Rattle·a.specs.Shapes.{area};
+    "crates/grid/src/lib.rt": """#![tactic(auto)]
+
+ghost use Rattle.a.specs.Shapes.{area};
 use a::parts::put;
 
 pub struct Header {
@@ -179,20 +183,20 @@ pub struct Header {
 }
 
 pub fn check(rows: u32) -> u32
-    ensures { λ r. ⌜ r ≡ area rows 1 ⌝ }
+    ensures { result ≡ area rows 1 }
 {
     rows + 0
 }
 
 pub fn build(rows: u32) -> u32
-    requires { ⌜ rows < 6 ⌝ }
-    ensures { λ r. ⌜ r ≡ rows ⌝ }
+    requires { rows < 6 }
+    ensures same { result ≡ rows }
 {
     rows
 }
 
 fn quiet(a: u8) -> u8
-    ensures { λ r. ⌜ r ≡ a ⌝ }
+    ensures { result ≡ a }
 {
     put(
         a,
@@ -229,7 +233,7 @@ class Compared(unittest.TestCase):
             changed=["area", "sized", "Demand3.linked"],
             added=["Demand3.new"],
             removed=["Demand3.gone"],
-            moved=["carriedAlong"],
+            moved=["carried_along"],
             untouched=["Side", "twice", "Demand3", "Demand3.tiled"],
         )
 
@@ -254,6 +258,36 @@ class Compared(unittest.TestCase):
         one, two = "  pub linked : n ≡ 1\n", "  pub tiled : n ≡ 2\n"
         found = compare.compare(OLD, dict(OLD, **{"crates/a/specs/Shapes.antt": text.replace(one + two, two + one)}))
         self.assertEqual(names(found, "definition", "changed"), ["Demand3"])
+
+    def changed(self, path, *turned):
+        """The contracts and statements that are changed where a text of OLD is another."""
+        text = OLD[path]
+        for one, two in turned:
+            self.assertIn(one, text)
+            text = text.replace(one, two)
+        found = compare.compare(OLD, dict(OLD, **{path: text}))
+        return [names(found, kind, "changed") for kind in ("contract", "statement")]
+
+    def test_clauses(self):
+        code = "crates/grid/src/lib.rt"
+        self.assertEqual(self.changed(code, ("same {", "equal {")), [["build"], []])
+        self.assertEqual(self.changed(code, ("    ensures same { result ≡ rows }\n", "")), [["build"], []])
+        self.assertEqual(self.changed(code, ("a.specs.Shapes", "a.specs.Others")), [["check"], []])
+        self.assertEqual(self.changed(code, ("pub rows: u32,", "pub rows: u64,")), [[], []])
+
+    def test_names_from_elsewhere(self):
+        laws = "crates/a/proofs/Laws.antt"
+        self.assertEqual(self.changed(laws, ("specs.Gone", "specs.Others")), [[], ["kept"]])
+        whole = ("{area, twice}", "{area, twice, kind}"), ("twice 1 ≡ 2", "kind.first ≡ 2")
+        with_kind = dict(OLD, **{laws: OLD[laws].replace(*whole[0]).replace(*whole[1])})
+        other = dict(with_kind, **{laws: with_kind[laws].replace(", kind}", "}\nuse Rattle.a.specs.Others.{kind}")})
+        self.assertEqual(names(compare.compare(with_kind, other), "statement", "changed"), ["goes"])
+        self.assertEqual(names(compare.compare(with_kind, with_kind), "statement", "changed"), [])
+
+    def test_operators(self):
+        shapes = "crates/a/specs/Shapes.antt"
+        other = dict(OLD, **{shapes: OLD[shapes].replace("std.specs.Prelude", "std.specs.Other")})
+        self.assertEqual(names(compare.compare(OLD, other), "definition", "changed"), ["Demand3.gone", "Demand3.linked", "Demand3.tiled"])
 
     def test_report(self):
         text = compare.report(self.found, OLD["docs/PROMISES.md"], NEW["docs/PROMISES.md"], False)

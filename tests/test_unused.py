@@ -12,13 +12,13 @@ unused = importlib.util.module_from_spec(SPEC)
 LOADER.exec_module(unused)
 
 SPECS = """-- A head.
-use Prim.Native.Nat.{ℕ, _+_}
+use Rattle.std.specs.Prelude.{ℕ, ◌+◌}
 
 abbrev pub size : ℕ → ℕ
 size n = n + n
 
-infix 20 _of_
-abbrev pub _of_ : ℕ → ℕ → ℕ
+infix 20 ◌of◌
+abbrev pub ◌of◌ : ℕ → ℕ → ℕ
 n of m = n
 
 pub record Sound (n : ℕ) : Type 0 where
@@ -27,18 +27,20 @@ pub record Sound (n : ℕ) : Type 0 where
 pub data Way (n : ℕ) : Type 0 where
   w-here : Way n
 """
-CODE = """ghost use mathlib.Core.Path.{_≡_};
-ghost use Rattle·a·specs.specs.Size.{size};
+CODE = """#![tactic(auto)]
+
+ghost use Rattle.std.specs.Prelude.{◌≡◌};
+ghost use Rattle.a.specs.Size.{size};
 // `Sound` is named in a comment alone
 pub fn twice(n: u32) -> u32
-    ensures { λ r. ⌜ r ≡ size n ⌝ }
+    ensures { result ≡ size n }
 {
     n + n
 }
 """
-LAWS = """use Prim.Native.Nat.{ℕ}
-use mathlib.Core.Path.{_≡_, refl}
-use Rattle·a·specs.specs.Size.{size}
+LAWS = """use Rattle.std.specs.Prelude.{ℕ, ◌≡◌}
+use mathlib.Core.Path.{refl}
+use Rattle.a.specs.Size.{size}
 
 module _ (n : ℕ) where
   pub size-same : size n ≡ size n
@@ -51,23 +53,33 @@ module _ (n : ℕ) where
   pub size-again : size n ≡ size n
   size-again = size-same
 """
-PROOF = """use Rattle·a·proofs.proofs.Laws.{size-same}
-use Rattle·a·proofs.proofs.twice.Tie as tie
+ANSWERS = """use Rattle.a.proofs.Laws.{size-same}
+use Rattle.a.proofs.twice.Goals as goal
 
-returns : tie.Need-returns
+pub returns-then-small : goal.returns-then-small
+returns-then-small c = search rules
+
+pub returns : goal.returns
 returns c = size-same _
+"""
+INVARIANTS = """use Rattle.a.proofs.Laws.{size-again}
+use Rattle.a.proofs.twice.Given as goal
 
-pub twice-spec : tie.Spec
-twice-spec = tie.close returns
+abbrev half : ℕ → ℕ
+half n = n
+
+abbrev pub decreases-loop-i : goal.decreases-loop-i
+decreases-loop-i l = size-again l.n
 """
 
 
-def tree(changes=(), documents=("",)):
+def tree(changes=(), documents=("",), **more):
     texts = {
         "crates/a/specs/Size.antt": SPECS,
         "crates/a/src/lib.rt": CODE,
         "crates/a/proofs/Laws.antt": LAWS,
-        "crates/a/proofs/twice/Proof.antt": PROOF,
+        "crates/a/proofs/twice/Answers.antt": ANSWERS,
+        **more,
     }
     for path, old, new in changes:
         assert old in texts[path]
@@ -80,33 +92,53 @@ class Unused(unittest.TestCase):
         return [name for _, name in tree(*words, **more).unneeded()]
 
     def test_unneeded(self):
-        self.assertEqual(self.names(), ["size-again", "_of_", "Sound", "Way"])
+        self.assertEqual(self.names(), ["size-again", "◌of◌", "Sound", "Way"])
 
     def test_what_only_an_unneeded_law_uses(self):
-        self.assertEqual(self.names([("crates/a/proofs/twice/Proof.antt", "size-same _", "search needs")]), ["size-same", "size-again", "_of_", "Sound", "Way"])
+        self.assertEqual(self.names([("crates/a/proofs/twice/Answers.antt", "size-same _", "search rules")]), ["size-same", "size-again", "◌of◌", "Sound", "Way"])
+
+    def test_what_answers_a_goal(self):
+        # a measure and what it needs; beside it a definition that nothing needs
+        path = "crates/a/proofs/twice/Invariants.antt"
+        self.assertEqual(self.names(**{path: INVARIANTS}), ["half", "◌of◌", "Sound", "Way"])
+        self.assertEqual(self.names([(path, "size-again l.n", "half l.n")], **{path: INVARIANTS}), ["size-again", "◌of◌", "Sound", "Way"])
+        # a file of laws by the same name
+        self.assertEqual(self.names(**{"crates/a/proofs/Answers.antt": "pub law : goal.law\nlaw = 1\n"}), ["law", "size-again", "◌of◌", "Sound", "Way"])
+
+    def test_handed_to_the_search(self):
+        head = "#[tactic(auto, using(crate::proofs::Laws::{}), unfolding(crate::specs::Size::{}))]\npub fn twice"
+        path = "crates/a/src/lib.rt"
+        laws = [("crates/a/proofs/Laws.antt", "size-again", "size_again")]
+        self.assertEqual(self.names([*laws, (path, "pub fn twice", head.format("size_again", "Way"))]), ["◌of◌", "Sound"])
+
+    def test_clauses(self):
+        path = "crates/a/src/lib.rt"
+        self.assertEqual(self.names([(path, "ensures { result ≡ size n }", "ensures known { Sound n }"), (path, "{size}", "{size, Sound}")]), ["size-again", "◌of◌", "Way"])
+        self.assertEqual(tree([(path, "ensures { result", "ensures { result.0")]).idle_imports(), [])
+        self.assertEqual(tree([(path, "ensures { result ≡ size n }", "ensures { IsOk result }")]).idle_imports(), [(path, "◌≡◌"), (path, "size")])
 
     def test_cited(self):
-        self.assertEqual(self.names(documents=["| a row | `a/specs/Size`: `Sound.low`, `size-again` |", "`_of_`"]), ["Way"])
+        self.assertEqual(self.names(documents=["| a row | `a/specs/Size`: `Sound.low`, `size-again` |", "`◌of◌`"]), ["Way"])
 
     def test_by_a_part(self):
-        change = [("crates/a/proofs/Laws.antt", "go = refl", "go = refl-of (low, w-here, n of n)"), ("crates/a/proofs/Laws.antt", "{size}", "{size, low, w-here, _of_}")]
+        change = [("crates/a/proofs/Laws.antt", "go = refl", "go = refl-of (low, w-here, n of n)"), ("crates/a/proofs/Laws.antt", "{size}", "{size, low, w-here, ◌of◌}")]
         self.assertEqual(self.names(change), ["size-again"])
 
     def test_a_module_imported_whole(self):
-        change = [("crates/a/proofs/twice/Proof.antt", "Laws.{size-same}", "Laws as L"), ("crates/a/proofs/twice/Proof.antt", "size-same _", "L.size-again _")]
-        self.assertEqual(self.names(change), ["_of_", "Sound", "Way"])
+        change = [("crates/a/proofs/twice/Answers.antt", "Laws.{size-same}", "Laws as L"), ("crates/a/proofs/twice/Answers.antt", "size-same _", "L.size-again _")]
+        self.assertEqual(self.names(change), ["◌of◌", "Sound", "Way"])
 
     def test_imports(self):
         self.assertEqual(tree().idle_imports(), [])
-        change = [("crates/a/proofs/Laws.antt", "{_≡_, refl}", "{_≡_, refl, _∙_, sym as back}"), ("crates/a/src/lib.rt", "{size}", "{size, Sound}")]
-        self.assertEqual(sorted(tree(change).idle_imports()), [("crates/a/proofs/Laws.antt", "_∙_"), ("crates/a/proofs/Laws.antt", "back"), ("crates/a/src/lib.rt", "Sound")])
+        change = [("crates/a/proofs/Laws.antt", "{ℕ, ◌≡◌}", "{ℕ, ◌≡◌, ◌∙◌, sym as back}"), ("crates/a/src/lib.rt", "{size}", "{size, Sound}")]
+        self.assertEqual(sorted(tree(change).idle_imports()), [("crates/a/proofs/Laws.antt", "back"), ("crates/a/proofs/Laws.antt", "◌∙◌"), ("crates/a/src/lib.rt", "Sound")])
 
     def test_report(self):
         lines, found = unused.report(tree())
         self.assertTrue(found)
         self.assertEqual(lines[0], "crates/a/proofs/Laws.antt: size-again is not needed")
         self.assertEqual(lines[-1], "8 declarations and 10 imports read, 4 declarations not needed, 0 imports not used")
-        self.assertFalse(unused.report(tree(documents=["`size-again` `_of_` `Sound` `Way`"]))[1])
+        self.assertFalse(unused.report(tree(documents=["`size-again` `◌of◌` `Sound` `Way`"]))[1])
 
 
 if __name__ == "__main__":
