@@ -2,7 +2,7 @@
 // written, it says so on standard error.
 #![tactic(auto)]
 
-ghost use Rattle.std.specs.Prelude.{◌≤◌, length};
+ghost use Rattle.std.specs.Prelude.{◌≡◌, ◌≤◌, length, take};
 
 use std::io::{Read, Write};
 
@@ -15,7 +15,8 @@ struct Input {
 
 // Reads standard input to its end, or as much of it as the list holds.
 fn read_input(input: &mut impl Read, b: &mut [u8]) -> Input
-    ensures { result.bytes ≤ length b.new }
+    ensures within { result.bytes ≤ length b.new }
+    ensures as_many { result.bytes ≡ length (take result.bytes b.new) }
 {
     let mut done = 0;
     while done < b.len() {
