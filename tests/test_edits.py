@@ -23,6 +23,8 @@ FACTS = {
     "./proofs/A.antt:3:4: error: `law`: computed as far as they go, the two types differ only where one has `c.args.n` (expected), right after `… (Rattle.a": "law: two types differ",
     "./proofs/A.antt:3:4: error: `law`: as printed, the two sides differ only where one has `size n` (left), right ": "law: two sides differ",
     "./proofs/A.antt:3:4: error: `law`: expected type `n ≤ 5`, but this has type `n ≤ 6`": "law: two types differ",
+    "./proofs/f/Answers.antt:11:90: error: `returns`: computed as a goal is, one side reads `Prim.Native.Nat.suc (Prim.Native.Nat.◌-◌ (lib.L": "returns: two sides differ",
+    "./proofs/f/Answers.antt:10:85: error: `returns`: `borrow.Table.Row.get 8 (Rattle.grid.proofs.count.Lts.T18).locals (Rattle.grid.proofs.cou": "returns: two sides differ",
     "./proofs/f/Answers.antt:3:4: error: `loop-i-preserved`: `omega`: the goal does not follow from what it read.": "loop-i-preserved: omega: the goal does not follow",
     "./proofs/f/Answers.antt:3:4: error: `overflow_cast-n`: `omega`: the part `.fits` of the goal does not follow from what it read. All of tha": "overflow_cast-n: omega: the goal does not follow",
     "./proofs/f/Answers.antt:5:4: error: `returns`: `search`: no proof of `Post`": "returns: search: no proof",
