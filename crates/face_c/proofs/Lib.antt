@@ -1,1 +1,1 @@
-mod ExportedOnce
+mod SameContracts

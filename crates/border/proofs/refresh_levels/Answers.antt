@@ -1,6 +1,5 @@
 -- `border::refresh_levels` meets its contract. The invariant: the levels left from here make of the table what all make of the one at the start.
 use borrow.Author.Rules.{rules}
-use Prim.Native.Nat.{◌-◌}
 use native.Mathlib.Omega.{arith}
 use mathlib.Core.Path.{refl, sym, ◌∙◌}
 use Rattle.border.proofs.Borders.{levels-on, levels-done, levels-end}

@@ -3,7 +3,6 @@ use native.Mathlib.Omega.{arith}
 use borrow.Author.Rules.{rules}
 use mathlib.Core.Path.{◌≡◌, refl, ap, ◌∙◌}
 use mathlib.Core.Bool.{false}
-use Prim.Native.Nat.{◌-◌}
 use Rattle.place_laws.proofs.Bools.{is-yes}
 use Rattle.tally.specs.TallyRows.{row_counts}
 use Rattle.tally.proofs.RowCounting.{rows-roomy}

@@ -1,5 +1,4 @@
 -- `kinds::high_first` meets its contract: the invariant is that the number is that of the bytes read so far, and the measure how many are left.
-use Prim.Native.Nat.{◌-◌}
 use native.Mathlib.Omega.{arith}
 use mathlib.Core.Path.{◌≡◌, refl}
 use Rattle.kinds.proofs.HighFirst.{read_more, size-more, size_fits}

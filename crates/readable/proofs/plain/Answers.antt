@@ -1,6 +1,5 @@
 -- `readable::plain` meets its contract. The invariant: the rows below n pass.
 use mathlib.Core.Path.{refl}
-use Prim.Native.Nat.{◌-◌}
 use borrow.Author.Rules.{rules}
 use native.Mathlib.Omega.{arith}
 use Rattle.readable.proofs.ReadableRows.{not-all, one_more, all-rows}

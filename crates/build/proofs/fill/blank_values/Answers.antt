@@ -1,5 +1,4 @@
 -- `build::fill::blank_values` meets its contract. The invariant: the first n values are written.
-use Prim.Native.Nat.{◌-◌}
 use mathlib.Core.Path.{ap, ◌∙◌}
 use lib.ListN.{set}
 use Rattle.mesh.specs.State.{plus_zero}

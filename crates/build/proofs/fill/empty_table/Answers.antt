@@ -1,5 +1,4 @@
 -- `build::fill::empty_table` meets its contract. The invariant: the rows up to n are written.
-use Prim.Native.Nat.{◌-◌}
 use mathlib.Core.Path.{◌∙◌}
 use Rattle.build.proofs.Empty.{empty-start, empty-on, empty-done}
 use native.Mathlib.Omega.{arith}

@@ -1,5 +1,4 @@
 -- `build::ground::put_ground` meets its contract. The invariant: the rows left make of the table what all make of the one at the start.
-use Prim.Native.Nat.{◌-◌}
 use mathlib.Core.Path.{refl, sym, ◌∙◌}
 use Rattle.build.proofs.RowTurns.{rows_on, rows-done}
 use native.Mathlib.Omega.{arith}

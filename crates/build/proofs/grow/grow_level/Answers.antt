@@ -1,6 +1,5 @@
 -- `build::grow::grow_level` meets its contract. The invariant: the rows left make of the table what all make of the one at the start, and there is room for their kids.
 use borrow.Author.Rules.{rules}
-use Prim.Native.Nat.{◌-◌}
 use mathlib.Core.Path.{refl, sym, ◌∙◌}
 use Rattle.build.specs.BuildSteps.{growth}
 use Rattle.build.proofs.RowTurns.{rows_on, rows-done}

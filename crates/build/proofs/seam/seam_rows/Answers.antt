@@ -1,6 +1,5 @@
 -- `build::seam::seam_rows` meets its contract. The invariant: the rows left make of the table what all make of the one at the start, and it is plain.
 use native.Mathlib.Omega.{arith}
-use Prim.Native.Nat.{◌-◌}
 use mathlib.Core.Path.{refl, sym, ◌∙◌}
 use Rattle.build.proofs.RowTurns.{rows_on, rows-done}
 use Rattle.build.proofs.seam.seam_rows.Goals as goal

@@ -1,5 +1,5 @@
 -- `checker::checks::words_fit` meets its contract. The invariant: the words below i fit.
-use Prim.Native.Nat.{◌≤◌, ◌-◌}
+use Prim.Native.Nat.{◌≤◌}
 use native.Mathlib.Omega.{arith}
 use borrow.Author.Count.{below_more}
 use lib.ListN.{length}

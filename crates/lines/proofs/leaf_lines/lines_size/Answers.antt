@@ -1,5 +1,5 @@
 -- `lines::leaf_lines::lines_size` meets its contract: as far as the loop came, that many lines are measured.
-use Rattle.std.proofs.Common.{◌-◌, length, refl, ap, ◌∙◌, arith, take_all}
+use Rattle.std.proofs.Common.{length, refl, ap, ◌∙◌, arith, take_all}
 use Rattle.lines.specs.LineRows.{lines_of}
 use Rattle.lines.proofs.Worded.{lines-longer}
 use Rattle.lines.proofs.leaf_lines.lines_size.Goals as goal

@@ -1,5 +1,5 @@
 -- `lines::leaf_lines::lines_sum` meets its contract: as far as the loop came, that many lines are summed.
-use Rattle.std.proofs.Common.{◌+◌, ◌-◌, ◌%◌, ◌^◌, ap, ◌∙◌, arith, take_all}
+use Rattle.std.proofs.Common.{◌+◌, ◌%◌, ◌^◌, ap, ◌∙◌, arith, take_all}
 use Rattle.mesh.specs.Page.{total}
 use Rattle.lines.specs.LineRows.{lines_of}
 use Rattle.lines.proofs.Worded.{lines-total}

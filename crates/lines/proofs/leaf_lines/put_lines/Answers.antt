@@ -1,5 +1,5 @@
 -- `lines::leaf_lines::put_lines` meets its contract: as far as the loop came, that many lines are put.
-use Rattle.std.proofs.Common.{◌-◌, refl, ap, ◌∙◌, arith, take_all}
+use Rattle.std.proofs.Common.{refl, ap, ◌∙◌, arith, take_all}
 use Rattle.lines.specs.LineRows.{lines_of}
 use Rattle.lines.proofs.Puts.{put-none, put-more, put_as, put-length, text-put}
 use Rattle.lines.proofs.Worded.{lines_more, lines-room}

@@ -1,5 +1,5 @@
 -- `lines::leaf_lines::sum_of` meets its contract: as far as the loop came, that much is summed.
-use Rattle.std.proofs.Common.{◌-◌, ◌%◌, ◌^◌, ap, ◌∙◌, arith, take_all}
+use Rattle.std.proofs.Common.{◌%◌, ◌^◌, ap, ◌∙◌, arith, take_all}
 use Rattle.mesh.specs.Page.{total}
 use Rattle.lines.proofs.Puts.{total-more}
 use Rattle.lines.proofs.leaf_lines.sum_of.Goals as goal

@@ -7,7 +7,7 @@ use Rattle.refusals.proofs.requests.kill_refusal.Goals as goal
 
 pub returns-then-r-ne0 : goal.returns-then-r-ne0
 unfolding kill_refusal
-returns-then-r-ne0 c = refused ((kill_rows c.args.t.now c.args.cap c.args.d c.args.n)) _ (first_two _ _ _ _ c.cell_refusal-r.ensures c.if-r-ne0.true)
+returns-then-r-ne0 c = refused (kill_rows c.args.t.now c.args.cap c.args.d c.args.n) _ (first_two _ _ _ _ c.cell_refusal-r.ensures c.if-r-ne0.true)
 
 pub says-requires : goal.says-requires
 says-requires c = omega (arith, past-le _ _ _ _ c.cell_refusal-r.ensures c.if-r-ne0.false)

@@ -1,5 +1,4 @@
 -- `tally::full::agree` meets its contract. The invariant: the first i places agree.
-use Prim.Native.Nat.{◌-◌}
 use native.Mathlib.Omega.{arith}
 use Rattle.tally.proofs.AllPlaces.{alike-none, alike-more, differ, all_alike}
 use Rattle.tally.proofs.full.agree.Goals as goal

@@ -1,5 +1,4 @@
 -- `tally::full::put_built` meets its contract. The invariant: the first i places are 0.
-use Prim.Native.Nat.{◌-◌}
 use native.Mathlib.Omega.{arith}
 use mathlib.Core.Path.{sym, ◌∙◌}
 use lib.ListN.{length-set}

@@ -1,6 +1,5 @@
 -- `tape::turns::run_tape` meets its contract: the invariant is that the rules' run goes on from the state that is pictured now and that the map is of
 -- its free numbers, and the measure how much of the tape is left.
-use Prim.Native.Nat.{◌-◌}
 use native.Mathlib.Omega.{arith}
 use mathlib.Core.Path.{refl}
 use Rattle.apply.proofs.Following.{nil-taken}
