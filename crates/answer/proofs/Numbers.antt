@@ -1,0 +1,73 @@
+-- No refusal has the number 0, and no two have the same.
+-- Assumes nothing.
+use Rattle.std.specs.Prelude.{◌≡◌, ℕ, ◌-◌, ◌<◌, List, [], ◌∷◌, Option, None, Some, slice_get}
+use Rattle.std.proofs.Common.{refl, sym, ap, ◌∙◌, arith}
+use Rattle.answer.specs.declared.Refusal.{Refusal}
+use Rattle.answer.specs.declared.Refusal.TheVariants.{BadLengths, BadHeader, Unsound, CutOff, UnknownKind, NoPatch, NoCell, HasKids, TopLevel, IsSentenced, TooFewFree, WrongLevel, NoKids, KidsNotSentenced, LastCell, NotFinite, BadScan, TooShort, NotFound, TooLong, CoarserBeside, FinerBeside, NoSuchCount}
+use Rattle.answer.specs.Refusals.{number}
+
+-- in the order of the numbers
+all : List Refusal
+all = BadLengths ∷ BadHeader ∷ Unsound ∷ CutOff ∷ UnknownKind ∷ NoPatch ∷ NoCell ∷ HasKids ∷ TopLevel ∷ IsSentenced ∷ TooFewFree ∷ WrongLevel ∷ NoKids ∷ KidsNotSentenced ∷ LastCell ∷ NotFinite ∷ BadScan ∷ TooShort ∷ NotFound ∷ TooLong ∷ CoarserBeside ∷ FinerBeside ∷ NoSuchCount ∷ []
+
+numbered : ℕ → Option Refusal
+numbered n = slice_get all (n - 1)
+
+back : (r : Refusal) → numbered (number r) ≡ Some r
+unfolding numbered all
+back BadLengths = refl
+back BadHeader = refl
+back Unsound = refl
+back CutOff = refl
+back UnknownKind = refl
+back NoPatch = refl
+back NoCell = refl
+back HasKids = refl
+back TopLevel = refl
+back IsSentenced = refl
+back TooFewFree = refl
+back WrongLevel = refl
+back NoKids = refl
+back KidsNotSentenced = refl
+back LastCell = refl
+back NotFinite = refl
+back BadScan = refl
+back TooShort = refl
+back NotFound = refl
+back TooLong = refl
+back CoarserBeside = refl
+back FinerBeside = refl
+back NoSuchCount = refl
+
+held : Refusal → Option Refusal → Refusal
+held x (Some y) = y
+held x None = x
+
+pub same-number : (r s : Refusal) → number r ≡ number s → r ≡ s
+unfolding held
+same-number r s e = ap (held r) (sym (back r) ∙ ap numbered e ∙ back s)
+
+pub above-zero : (r : Refusal) → 0 < number r
+above-zero BadLengths = omega arith
+above-zero BadHeader = omega arith
+above-zero Unsound = omega arith
+above-zero CutOff = omega arith
+above-zero UnknownKind = omega arith
+above-zero NoPatch = omega arith
+above-zero NoCell = omega arith
+above-zero HasKids = omega arith
+above-zero TopLevel = omega arith
+above-zero IsSentenced = omega arith
+above-zero TooFewFree = omega arith
+above-zero WrongLevel = omega arith
+above-zero NoKids = omega arith
+above-zero KidsNotSentenced = omega arith
+above-zero LastCell = omega arith
+above-zero NotFinite = omega arith
+above-zero BadScan = omega arith
+above-zero TooShort = omega arith
+above-zero NotFound = omega arith
+above-zero TooLong = omega arith
+above-zero CoarserBeside = omega arith
+above-zero FinerBeside = omega arith
+above-zero NoSuchCount = omega arith
