@@ -11,6 +11,9 @@ use Rattle.answer.proofs.Numbers.{above-zero}
 pub record Decided {A : Type 0} (cs : List Check) (out : Result A Refusal) : Type 0 where
   pub is : refusal_of out ≡ refusal cs
 
+pub decided : {A : Type 0} (cs : List Check) {out : Result A Refusal} → Decided cs out → refusal_of out ≡ refusal cs
+decided cs d = d.is
+
 pub accepts : {A : Type 0} {x : A} {out : Result A Refusal} → out ≡ Ok x → Decided [] out
 unfolding refusal
 accepts o = record { is = ap refusal_of o }
@@ -34,21 +37,22 @@ ends-step : (b : Bool) (k : Refusal) → refusal_of (step_of b k) ≡ cond b (nu
 ends-step true k = refl
 ends-step false k = refl
 
-module _ (b : Bool) (k : Refusal) {step : Result (Unit {0}) Refusal} (is : step ≡ step_of b k) where
-  pub passed : {x : Unit {0}} → step ≡ Ok x → b ≡ false
-  passed e = passes-step b k (sym is ∙ e)
+-- one check by a test of the code, b, that is the condition c
+module _ {b c : Bool} (k : Refusal) (test : b ≡ c) where
+  pub passed : {x : Unit {0}} → Ok x ≡ step_of b k → c ≡ false
+  passed is = sym test ∙ passes-step b k (sym is)
 
   -- the step refuses, and so do the checks
-  pub stops : {A : Type 0} {cs : List Check} {e : Refusal} {out : Result A Refusal} → step ≡ Err e → out ≡ Err e → Decided ((number k if b) ∷ cs) out
+  pub stops : {A : Type 0} {cs : List Check} {e : Refusal} {out : Result A Refusal} → Err e ≡ step_of b k → refusal_of out ≡ number e → Decided ((number k if c) ∷ cs) out
   unfolding refusal
-  stops {cs = cs} s o = record { is = ap refusal_of o ∙ stops-step b k (sym is ∙ s) (refusal cs) }
+  stops {cs = cs} is o = record { is = rw (sym test) (o ∙ stops-step b k (sym is) (refusal cs)) }
 
   -- the step passes, and the checks after it decide
-  pub goes_on : {A : Type 0} {cs : List Check} {x : Unit {0}} {out : Result A Refusal} → step ≡ Ok x → Decided cs out → Decided ((number k if b) ∷ cs) out
+  pub goes_on : {A : Type 0} {cs : List Check} {x : Unit {0}} {out : Result A Refusal} → Ok x ≡ step_of b k → Decided cs out → Decided ((number k if c) ∷ cs) out
   unfolding refusal
-  goes_on s o = record { is = rw (passed s) o.is }
+  goes_on is o = record { is = rw (passed is) o.is }
 
   -- the last step is the answer
-  pub ends : Decided ((number k if b) ∷ []) step
+  pub ends : {step : Result (Unit {0}) Refusal} → step ≡ step_of b k → Decided ((number k if c) ∷ []) step
   unfolding refusal
-  ends = record { is = ap refusal_of is ∙ ends-step b k }
+  ends is = record { is = rw (sym test) (ap refusal_of is ∙ ends-step b k) }

@@ -1,18 +1,16 @@
 -- `refusals::requests::cell_refusal` meets its contract: each check where those before it pass.
-use native.Mathlib.Omega.{arith}
-use mathlib.Core.Path.{sym, ◌∙◌}
+use Rattle.std.proofs.Common.{rules, ap, arith, not}
+use borrow.Author.Tests.{not-false}
 use Rattle.table.proofs.Taken.{taken-within}
-use Rattle.refusals.proofs.Arms.{refused, accepts, stops-not, goes-on-not}
+use Rattle.answer.specs.declared.Refusal.TheVariants.{NoPatch, NoCell}
+use Rattle.answer.proofs.InOrder.{decided, passed, stops, goes_on, ends}
 use Rattle.refusals.proofs.requests.cell_refusal.Goals as goal
 
-pub returns-then-not-is_taken : goal.returns-then-not-is_taken
-returns-then-not-is_taken c = refused _ 6 (stops-not (sym c.is_taken.ensures ∙ c.if-not-is_taken.true))
+pub returns-in_err-refuse_if : goal.returns-in_err-refuse_if
+returns-in_err-refuse_if c = decided _ (stops NoPatch (ap not c.is_taken.ensures) c.in_err-refuse_if.ensures (search rules))
 
 pub flag-requires : goal.flag-requires
-flag-requires c = omega (arith, taken-within _ _ _ (sym c.is_taken.ensures ∙ c.if-not-is_taken.false))
+flag-requires c = omega (arith, taken-within _ _ _ (not-false _ (passed NoPatch (ap not c.is_taken.ensures) c.in_ok-refuse_if.ensures)))
 
-pub returns-then-flag : goal.returns-then-flag
-returns-then-flag c = refused _ 0 (goes-on-not (sym c.is_taken.ensures ∙ c.if-not-is_taken.false) (goes-on-not (sym c.flag.ensures ∙ c.if-flag.true) accepts))
-
-pub returns-else-flag : goal.returns-else-flag
-returns-else-flag c = refused _ 7 (goes-on-not (sym c.is_taken.ensures ∙ c.if-not-is_taken.false) (stops-not (sym c.flag.ensures ∙ c.if-flag.false)))
+pub returns : goal.returns
+returns c = decided _ (goes_on NoPatch (ap not c.is_taken.ensures) c.in_ok-refuse_if.ensures (ends NoCell (ap not c.flag.ensures) c.refuse_if-2.ensures))

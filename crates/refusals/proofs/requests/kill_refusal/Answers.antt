@@ -1,32 +1,32 @@
 -- `refusals::requests::kill_refusal` meets its contract: each check where those before it pass.
-use native.Mathlib.Omega.{arith}
-use mathlib.Core.Path.{sym, ◌∙◌}
+use Rattle.std.proofs.Common.{rules, ap, arith, not}
+use Rattle.answer.specs.declared.Refusal.TheVariants.{HasKids, LastCell, WrongLevel}
+use Rattle.answer.proofs.InOrder.{decided, stops, goes_on, ends}
 use Rattle.refusals.specs.Decide.{kill_rows, kill_refusal}
-use Rattle.refusals.proofs.Arms.{accepts, first_two, goes_on, goes-on-not, past-le, past_two, refused, stops, stops-not}
+use Rattle.refusals.proofs.Arms.{first_two, past_two, past-le}
 use Rattle.refusals.proofs.requests.kill_refusal.Goals as goal
 
-pub returns-then-r-ne0 : goal.returns-then-r-ne0
+pub returns-in_err-cell_refusal : goal.returns-in_err-cell_refusal
 unfolding kill_refusal
-returns-then-r-ne0 c = refused (kill_rows c.args.t.now c.args.cap c.args.d c.args.n) _ (first_two _ _ _ _ c.cell_refusal-r.ensures c.if-r-ne0.true)
+returns-in_err-cell_refusal c = decided (kill_rows c.args.t.now c.args.cap c.args.d c.args.n) (first_two _ _ _ _ c.in_err-cell_refusal.ensures (search rules))
 
 pub says-requires : goal.says-requires
-says-requires c = omega (arith, past-le _ _ _ _ c.cell_refusal-r.ensures c.if-r-ne0.false)
+says-requires c = let w = past-le _ _ _ c.in_ok-cell_refusal.ensures in omega (arith, w)
 
-pub returns-then-not-says : goal.returns-then-not-says
+pub returns-in_err-refuse_if : goal.returns-in_err-refuse_if
 unfolding kill_refusal
-returns-then-not-says c = refused _ 12 (past_two _ _ _ _ c.cell_refusal-r.ensures c.if-r-ne0.false (stops-not (sym c.says.ensures ∙ c.if-not-says.true)))
+returns-in_err-refuse_if c = decided (kill_rows c.args.t.now c.args.cap c.args.d c.args.n) (past_two _ _ _ c.in_ok-cell_refusal.ensures (stops WrongLevel (ap not c.says.ensures) c.in_err-refuse_if.ensures (search rules)))
 
 pub has_kids-requires : goal.has_kids-requires
-has_kids-requires c = omega (arith, past-le _ _ _ _ c.cell_refusal-r.ensures c.if-r-ne0.false)
+has_kids-requires c = let w = past-le _ _ _ c.in_ok-cell_refusal.ensures in omega (arith, w)
 
-pub returns-then-has_kids : goal.returns-then-has_kids
+pub returns-in_err-refuse_if-2 : goal.returns-in_err-refuse_if-2
 unfolding kill_refusal
-returns-then-has_kids c = refused _ 8 (past_two _ _ _ _ c.cell_refusal-r.ensures c.if-r-ne0.false (goes-on-not (sym c.says.ensures ∙ c.if-not-says.false) (stops (sym c.has_kids.ensures ∙ c.if-has_kids.true))))
+returns-in_err-refuse_if-2 c = decided (kill_rows c.args.t.now c.args.cap c.args.d c.args.n) (past_two _ _ _ c.in_ok-cell_refusal.ensures (goes_on WrongLevel (ap not c.says.ensures) c.in_ok-refuse_if.ensures (stops HasKids c.has_kids.ensures c.in_err-refuse_if-2.ensures (search rules))))
 
-pub returns-then-other_under : goal.returns-then-other_under
-unfolding kill_refusal
-returns-then-other_under c = refused _ 0 (past_two _ _ _ _ c.cell_refusal-r.ensures c.if-r-ne0.false (goes-on-not (sym c.says.ensures ∙ c.if-not-says.false) (goes_on (sym c.has_kids.ensures ∙ c.if-has_kids.false) (goes-on-not (sym c.other_under.ensures ∙ c.if-other_under.true) accepts))))
+pub other_under-requires : goal.other_under-requires
+other_under-requires c = let w = past-le _ _ _ c.in_ok-cell_refusal.ensures in omega (arith, w)
 
-pub returns-else-other_under : goal.returns-else-other_under
+pub returns : goal.returns
 unfolding kill_refusal
-returns-else-other_under c = refused _ 15 (past_two _ _ _ _ c.cell_refusal-r.ensures c.if-r-ne0.false (goes-on-not (sym c.says.ensures ∙ c.if-not-says.false) (goes_on (sym c.has_kids.ensures ∙ c.if-has_kids.false) (stops-not (sym c.other_under.ensures ∙ c.if-other_under.false)))))
+returns c = decided (kill_rows c.args.t.now c.args.cap c.args.d c.args.n) (past_two _ _ _ c.in_ok-cell_refusal.ensures (goes_on WrongLevel (ap not c.says.ensures) c.in_ok-refuse_if.ensures (goes_on HasKids c.has_kids.ensures c.in_ok-refuse_if-2.ensures (ends LastCell (ap not c.other_under.ensures) c.refuse_if-3.ensures))))

@@ -1,35 +1,32 @@
 -- `refusals::requests::remove_refusal` meets its contract: each check where those before it pass.
-use native.Mathlib.Omega.{arith}
-use mathlib.Core.Path.{sym, ◌∙◌}
+use Rattle.std.proofs.Common.{rules, ap, arith, not}
+use Rattle.answer.specs.declared.Refusal.TheVariants.{FinerBeside, KidsNotSentenced, NoKids}
+use Rattle.answer.proofs.InOrder.{decided, stops, goes_on, ends}
 use Rattle.refusals.specs.Decide.{remove_rows, remove_refusal}
-use Rattle.refusals.proofs.Arms.{accepts, first_two, goes_on, goes-on-not, past-le, past_two, refused, stops, stops-not}
+use Rattle.refusals.proofs.Arms.{first_two, past_two, past-le}
 use Rattle.refusals.proofs.requests.remove_refusal.Goals as goal
 
-pub returns-then-r-ne0 : goal.returns-then-r-ne0
+pub returns-in_err-cell_refusal : goal.returns-in_err-cell_refusal
 unfolding remove_refusal
-returns-then-r-ne0 c = refused (remove_rows c.args.t.now c.args.cap c.args.n) _ (first_two _ _ _ _ c.cell_refusal-r.ensures c.if-r-ne0.true)
+returns-in_err-cell_refusal c = decided (remove_rows c.args.t.now c.args.cap c.args.n) (first_two _ _ _ _ c.in_err-cell_refusal.ensures (search rules))
 
 pub has_kids-requires : goal.has_kids-requires
-has_kids-requires c = omega (arith, past-le _ _ _ _ c.cell_refusal-r.ensures c.if-r-ne0.false)
+has_kids-requires c = let w = past-le _ _ _ c.in_ok-cell_refusal.ensures in omega (arith, w)
 
-pub returns-then-not-has_kids : goal.returns-then-not-has_kids
+pub returns-in_err-refuse_if : goal.returns-in_err-refuse_if
 unfolding remove_refusal
-returns-then-not-has_kids c = refused _ 13 (past_two _ _ _ _ c.cell_refusal-r.ensures c.if-r-ne0.false (stops-not (sym c.has_kids.ensures ∙ c.if-not-has_kids.true)))
+returns-in_err-refuse_if c = decided (remove_rows c.args.t.now c.args.cap c.args.n) (past_two _ _ _ c.in_ok-cell_refusal.ensures (stops NoKids (ap not c.has_kids.ensures) c.in_err-refuse_if.ensures (search rules)))
 
 pub kids_sentenced-requires : goal.kids_sentenced-requires
-kids_sentenced-requires c = omega (arith, past-le _ _ _ _ c.cell_refusal-r.ensures c.if-r-ne0.false)
+kids_sentenced-requires c = let w = past-le _ _ _ c.in_ok-cell_refusal.ensures in omega (arith, w)
 
-pub returns-then-not-kids_sentenced : goal.returns-then-not-kids_sentenced
+pub returns-in_err-refuse_if-2 : goal.returns-in_err-refuse_if-2
 unfolding remove_refusal
-returns-then-not-kids_sentenced c = refused _ 14 (past_two _ _ _ _ c.cell_refusal-r.ensures c.if-r-ne0.false (goes-on-not (sym c.has_kids.ensures ∙ c.if-not-has_kids.false) (stops-not (sym c.kids_sentenced.ensures ∙ c.if-not-kids_sentenced.true))))
+returns-in_err-refuse_if-2 c = decided (remove_rows c.args.t.now c.args.cap c.args.n) (past_two _ _ _ c.in_ok-cell_refusal.ensures (goes_on NoKids (ap not c.has_kids.ensures) c.in_ok-refuse_if.ensures (stops KidsNotSentenced (ap not c.kids_sentenced.ensures) c.in_err-refuse_if-2.ensures (search rules))))
 
 pub finer_round-requires : goal.finer_round-requires
-finer_round-requires c = let w = past-le _ _ _ _ c.cell_refusal-r.ensures c.if-r-ne0.false in (c.requires, omega arith)
+finer_round-requires c = let w = past-le _ _ _ c.in_ok-cell_refusal.ensures in (c.requires, w)
 
-pub returns-then-finer_round : goal.returns-then-finer_round
+pub returns : goal.returns
 unfolding remove_refusal
-returns-then-finer_round c = refused _ 22 (past_two _ _ _ _ c.cell_refusal-r.ensures c.if-r-ne0.false (goes-on-not (sym c.has_kids.ensures ∙ c.if-not-has_kids.false) (goes-on-not (sym c.kids_sentenced.ensures ∙ c.if-not-kids_sentenced.false) (stops (sym c.finer_round.ensures ∙ c.if-finer_round.true)))))
-
-pub returns-else-finer_round : goal.returns-else-finer_round
-unfolding remove_refusal
-returns-else-finer_round c = refused _ 0 (past_two _ _ _ _ c.cell_refusal-r.ensures c.if-r-ne0.false (goes-on-not (sym c.has_kids.ensures ∙ c.if-not-has_kids.false) (goes-on-not (sym c.kids_sentenced.ensures ∙ c.if-not-kids_sentenced.false) (goes_on (sym c.finer_round.ensures ∙ c.if-finer_round.false) accepts))))
+returns c = decided (remove_rows c.args.t.now c.args.cap c.args.n) (past_two _ _ _ c.in_ok-cell_refusal.ensures (goes_on NoKids (ap not c.has_kids.ensures) c.in_ok-refuse_if.ensures (goes_on KidsNotSentenced (ap not c.kids_sentenced.ensures) c.in_ok-refuse_if-2.ensures (ends FinerBeside c.finer_round.ensures c.refuse_if-3.ensures))))
