@@ -5,7 +5,7 @@ use Rattle.std.proofs.Common.{refl, sym, ap, ◌∙◌, arith}
 use Rattle.mesh.specs.Refusal.{Check, ◌if◌, refusal}
 use Rattle.answer.specs.declared.Refusal.{Refusal}
 use Rattle.answer.specs.Refusals.{number, refusal_of}
-use Rattle.answer.proofs.Numbers.{above-zero}
+use Rattle.answer.proofs.Numbers.{above-zero, same-number}
 
 -- the answer is refused as the checks say
 pub record Decided {A : Type 0} (cs : List Check) (out : Result A Refusal) : Type 0 where
@@ -33,9 +33,21 @@ stops-step : (b : Bool) (k : Refusal) {e : Refusal} → step_of b k ≡ Err e �
 stops-step true k f n = sym (ap refusal_of f)
 stops-step false k f n = absurd (not-both f)
 
+refuses-step : (b : Bool) (k : Refusal) {e : Refusal} → step_of b k ≡ Err e → (b ≡ true) × (e ≡ k)
+refuses-step true k {e} f = (refl, same-number e k (sym (ap refusal_of f)))
+refuses-step false k f = absurd (not-both f)
+
 ends-step : (b : Bool) (k : Refusal) → refusal_of (step_of b k) ≡ cond b (number k) 0
 ends-step true k = refl
 ends-step false k = refl
+
+-- where a step refuses, its condition holds
+pub refuses : (b : Bool) (k : Refusal) {e : Refusal} → Err e ≡ step_of b k → (b ≡ true) × (e ≡ k)
+refuses b k is = refuses-step b k (sym is)
+
+-- where it does not, it does not
+pub passes : (b : Bool) (k : Refusal) {x : Unit {0}} → Ok x ≡ step_of b k → b ≡ false
+passes b k is = passes-step b k (sym is)
 
 -- one check by a test of the code, b, that is the condition c
 module _ {b c : Bool} (k : Refusal) (test : b ≡ c) where

@@ -13,6 +13,7 @@ ghost use Rattle.lookup.specs.LookupRows.{row_at, row_found, row_lookup, value_o
 ghost use Rattle.table.specs.Plain.{Plain};
 ghost use Rattle.walk.specs.Walkable.{Walkable};
 
+use answer::{Refusal, refuse_if};
 use carried::{Carried, carried_at, is_blank, is_measured};
 use header::{Header, is_ring};
 use table::plain;
@@ -111,11 +112,10 @@ pub enum Reading {
     Blank,
 }
 
-// What came of a lookup: a refusal or 0, the leaf's number, and its value.
+// The leaf that a lookup finds: its number, and its value.
 #[derive(Clone, Copy)]
-pub struct Found {
-    pub refusal: u32,
-    pub leaf: u32,
+pub struct Leaf {
+    pub number: u32,
     pub reading: Reading,
 }
 
@@ -155,22 +155,22 @@ pub fn amount_of(reading: Reading) -> f64
 }
 
 // The leaf that a lookup finds, and its value.
-pub fn lookup_out(header: Header, t: &[i32], v: &[f64], cap: usize, d: u32, x: u32, y: u32) -> Found
+pub fn lookup_out(
+    header: Header,
+    t: &[i32],
+    v: &[f64],
+    cap: usize,
+    d: u32,
+    x: u32,
+    y: u32,
+) -> Result<Leaf, Refusal>
     requires { Walkable t.now cap d × (cap < length v.now) × (1 ≤ cap) × (d ≤ 19) }
     ensures { found_of result ≡ row_lookup_out (header_of header).grid t.now v.now cap d x y }
 {
     let n = lookup_row(header, t, cap, d, x, y);
-    if n == 0 {
-        return Found {
-            refusal: 19,
-            leaf: 0,
-            reading: Reading::Blank,
-        };
-    }
-    let reading = value_of(carried_at(t, v, n));
-    Found {
-        refusal: 0,
-        leaf: n as u32,
-        reading,
-    }
+    refuse_if(n == 0, Refusal::NotFound)?;
+    Ok(Leaf {
+        number: n as u32,
+        reading: value_of(carried_at(t, v, n)),
+    })
 }
