@@ -1,7 +1,7 @@
 -- Checks in their order, each a step that may refuse.
 -- Assumes nothing.
 use Rattle.std.specs.Prelude.{◌≡◌, ℕ, Bool, true, false, cond, List, [], ◌∷◌, Result, Ok, Err}
-use Rattle.std.proofs.Common.{refl, sym, ap, ◌∙◌, arith}
+use Rattle.std.proofs.Common.{refl, sym, ap, ◌∙◌, arith, subst}
 use Rattle.mesh.specs.Refusal.{Check, ◌if◌, refusal}
 use Rattle.answer.specs.declared.Refusal.{Refusal}
 use Rattle.answer.specs.Refusals.{number, refusal_of}
@@ -48,6 +48,29 @@ refuses b k is = refuses-step b k (sym is)
 -- where it does not, it does not
 pub passes : (b : Bool) (k : Refusal) {x : Unit {0}} → Ok x ≡ step_of b k → b ≡ false
 passes b k is = passes-step b k (sym is)
+
+-- what holds of the number that a step refuses with, if it does
+pub refused_as : {A : Type 0} (P : ℕ → Type 0) (b : Bool) (k : Refusal) {e : Refusal} (out : Result A Refusal)
+    → Err e ≡ step_of b k → refusal_of out ≡ number e → (b ≡ true → P (number k)) → P (refusal_of out)
+refused_as P b k out is o f = let (h, same) = refuses b k is in subst P (sym (o ∙ ap number same)) (f h)
+
+-- and of the last step, whether it refuses or not
+pub answered_as : (P : ℕ → Type 0) (b : Bool) (k : Refusal) {step : Result (Unit {0}) Refusal}
+    → step ≡ step_of b k → (b ≡ true → P (number k)) → (b ≡ false → P 0) → P (refusal_of step)
+answered_as P b k {step} is f g = subst (λ (r : Result (Unit {0}) Refusal). P (refusal_of r)) (sym is) (go b f g)
+  where
+    go : (b : Bool) → (b ≡ true → P (number k)) → (b ≡ false → P 0) → P (refusal_of (step_of b k))
+    go true f g = f refl
+    go false f g = g refl
+
+-- the same of what the number is to be
+pub refused_is : {A : Type 0} {n : ℕ} (b : Bool) (k : Refusal) {e : Refusal} (out : Result A Refusal)
+    → Err e ≡ step_of b k → refusal_of out ≡ number e → (b ≡ true → number k ≡ n) → refusal_of out ≡ n
+refused_is {n = n} b k out is o f = refused_as (λ (m : ℕ). m ≡ n) b k out is o f
+
+pub answered_is : {n : ℕ} (b : Bool) (k : Refusal) (step : Result (Unit {0}) Refusal)
+    → step ≡ step_of b k → (b ≡ true → number k ≡ n) → (b ≡ false → 0 ≡ n) → refusal_of step ≡ n
+answered_is {n} b k step is f g = answered_as (λ (m : ℕ). m ≡ n) b k is f g
 
 -- one check by a test of the code, b, that is the condition c
 module _ {b c : Bool} (k : Refusal) (test : b ≡ c) where

@@ -1,6 +1,6 @@
 -- No refusal has the number 0, and no two have the same.
 -- Assumes nothing.
-use Rattle.std.specs.Prelude.{◌≡◌, ℕ, ◌-◌, ◌<◌, List, [], ◌∷◌, Option, None, Some, slice_get}
+use Rattle.std.specs.Prelude.{◌≡◌, ◌≢◌, ℕ, ◌-◌, ◌<◌, List, [], ◌∷◌, Option, None, Some, slice_get}
 use Rattle.std.proofs.Common.{refl, sym, ap, ◌∙◌, arith}
 use Rattle.answer.specs.declared.Refusal.{Refusal}
 use Rattle.answer.specs.declared.Refusal.TheVariants.{BadLengths, BadHeader, Unsound, CutOff, UnknownKind, NoPatch, NoCell, HasKids, TopLevel, IsSentenced, TooFewFree, WrongLevel, NoKids, KidsNotSentenced, LastCell, NotFinite, BadScan, TooShort, NotFound, TooLong, CoarserBeside, FinerBeside, NoSuchCount}
@@ -71,3 +71,6 @@ above-zero TooLong = omega arith
 above-zero CoarserBeside = omega arith
 above-zero FinerBeside = omega arith
 above-zero NoSuchCount = omega arith
+
+pub not-zero : (r : Refusal) → number r ≢ 0
+not-zero r z = let a = above-zero r in omega (arith, z)

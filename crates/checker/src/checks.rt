@@ -1,6 +1,7 @@
 // The checker of lent lists: yes, or refusal 1, 2 or 3.
-ghost use Rattle.std.specs.Prelude.{◌≡◌, ◌<◌, length, replicate};
+ghost use Rattle.std.specs.Prelude.{◌≡◌, ◌<◌, length, replicate, IfOk};
 ghost use Rattle.mesh.specs.LeafCounts.{count_places};
+ghost use Rattle.answer.specs.Refusals.{refusal_of};
 ghost use Rattle.mesh.specs.Call.{lent_refusal, check_call};
 ghost use Rattle.header.specs.Headers.{lent_of, counted_of};
 ghost use Rattle.table.specs.Words.{Fits, FitsAt};
@@ -8,6 +9,7 @@ ghost use Rattle.tally.specs.TallyRows.{row_counts};
 
 use crate::first_checks::first_refusal;
 use crate::rowwise;
+use answer::{Refusal, refuse_if};
 use header::Header;
 use readable::plain;
 use tally::COUNT_PLACES;
@@ -31,47 +33,48 @@ fn sound_word(t: &[i32], i: usize) -> i32
     t[i]
 }
 
-// 0 for yes, or the refusal: of any lists of any length, any capacity and any header. The mark plays no part. With 0 come the leaf counts of the table.
-fn sound_refusal(header: Header, t: &[i32], v: &[f64], c: &mut [u32], capacity: u32) -> u32
-    requires { c.old ≡ replicate count_places 0 }
-    ensures { (result ≡ lent_refusal capacity (lent_of header t.now v.now)) × (result ≡ 0 → c.new ≡ row_counts t.now v.now capacity capacity) }
+// The leaf counts of a sound table, or its refusal: of any lists of any length, any capacity and any header. The mark plays no part.
+fn sound_counts(
+    header: Header,
+    t: &[i32],
+    v: &[f64],
+    capacity: u32,
+) -> Result<[u32; COUNT_PLACES], Refusal>
+    ensures refused { refusal_of result ≡ lent_refusal capacity (lent_of header t.now v.now) }
+    ensures counted { IfOk result (λ c. c ≡ row_counts t.now v.now capacity capacity) }
 {
-    let early = first_refusal(header, t, v, capacity);
-    if early != 0 {
-        return early;
-    }
+    first_refusal(header, t, v, capacity)?;
     let cap = capacity as usize;
     words_fit(t);
     let d = header::ground_depth(header);
-    if !plain(t, cap, d) {
-        return 3;
-    }
-    if rowwise(t, v, c, cap, header, d) {
-        0
-    } else {
-        3
-    }
+    refuse_if(!plain(t, cap, d), Refusal::Unsound)?;
+    let mut counts = [0u32; COUNT_PLACES];
+    refuse_if(
+        !rowwise(t, v, &mut counts, cap, header, d),
+        Refusal::Unsound,
+    )?;
+    Ok(counts)
 }
 
 // What scan, lookup and page begin with: they are lent no counts, so those taken on the way are not asked for.
-pub fn check(header: Header, t: &[i32], v: &[f64], capacity: u32) -> u32
-    ensures { result ≡ lent_refusal capacity (lent_of header t.now v.now) }
+pub fn check(header: Header, t: &[i32], v: &[f64], capacity: u32) -> Result<(), Refusal>
+    ensures { refusal_of result ≡ lent_refusal capacity (lent_of header t.now v.now) }
 {
-    let mut own = [0u32; COUNT_PLACES];
-    sound_refusal(header, t, v, &mut own, capacity)
+    sound_counts(header, t, v, capacity)?;
+    Ok(())
 }
 
 // The checker, and what a tape begins with: the lent counts are those of the table too.
-pub fn check_counted(header: Header, t: &[i32], v: &[f64], c: &[u32], capacity: u32) -> u32
-    ensures { result ≡ check_call capacity (counted_of header t.now v.now c.now) }
+pub fn check_counted(
+    header: Header,
+    t: &[i32],
+    v: &[f64],
+    c: &[u32],
+    capacity: u32,
+) -> Result<(), Refusal>
+    ensures { refusal_of result ≡ check_call capacity (counted_of header t.now v.now c.now) }
 {
-    if c.len() != COUNT_PLACES {
-        return 1;
-    }
-    let mut own = [0u32; COUNT_PLACES];
-    let sound = sound_refusal(header, t, v, &mut own, capacity);
-    if sound != 0 {
-        return sound;
-    }
-    if agree(c, &own) { 0 } else { 3 }
+    refuse_if(c.len() != COUNT_PLACES, Refusal::BadLengths)?;
+    let own = sound_counts(header, t, v, capacity)?;
+    refuse_if(!agree(c, &own), Refusal::Unsound)
 }

@@ -1,19 +1,27 @@
 -- `checker::checks::check_counted` meets its contract: the length of the lent counts comes first, and on a sound table they are compared with those of the rows.
-use native.Mathlib.Omega.{arith}
+use Rattle.std.proofs.Common.{rules, ◌≡◌, ◌∙◌, refl}
+use Rattle.std.proofs.lemmas.Bool.{eqb-true, eqb-false, not-true, not-false}
+use Rattle.answer.specs.Refusals.{number, refusal_of}
+use Rattle.answer.specs.declared.Refusal.TheVariants.{BadLengths, Unsound}
+use Rattle.answer.proofs.Numbers.{not-zero}
+use Rattle.answer.proofs.InOrder.{refused_is, answered_is, passes}
 use Rattle.tally_laws.proofs.CountedChecks.{miscounted, lent-refused}
 use Rattle.checker.proofs.CountedRows.{counts_same, counts-differ}
 use Rattle.checker.proofs.checks.check_counted.Goals as goal
 
-pub returns-then-c-ne-COUNT_PLACES : goal.returns-then-c-ne-COUNT_PLACES
-returns-then-c-ne-COUNT_PLACES c = miscounted _ _ (λ e. omega arith)
+pub returns-in_err-refuse_if : goal.returns-in_err-refuse_if
+returns-in_err-refuse_if c = refused_is _ BadLengths _ c.in_err-refuse_if.ensures (search rules) (λ h. miscounted _ _ (eqb-false _ _ (not-true _ h)))
 
-pub returns-then-sound-ne0 : goal.returns-then-sound-ne0
-returns-then-sound-ne0 c = lent-refused _ _ (omega arith) c.sound_refusal-sound.ensures.0 c.if-sound-ne0.true
+pub returns-in_err-own : goal.returns-in_err-own
+returns-in_err-own c =
+    let e = c.in_err-own.field-0.0 in
+    let o : refusal_of c.from_residual-in_err-own.result ≡ number e = search rules in
+    o ∙ lent-refused _ _ (eqb-true _ _ (not-false _ (passes _ BadLengths c.in_ok-refuse_if.ensures))) c.in_err-own.ensures.refused (not-zero e)
 
-pub returns-then-agree : goal.returns-then-agree
-returns-then-agree c =
-    counts_same _ _ (omega arith) c.sound_refusal-sound.ensures.0 (omega arith) (c.sound_refusal-sound.ensures.1 (omega arith)) c.agree.ensures c.if-agree.true
-
-pub returns-else-agree : goal.returns-else-agree
-returns-else-agree c =
-    counts-differ _ _ (omega arith) c.sound_refusal-sound.ensures.0 (omega arith) (c.sound_refusal-sound.ensures.1 (omega arith)) c.agree.ensures c.if-agree.false
+pub returns : goal.returns
+returns c =
+    let long = eqb-true _ _ (not-false _ (passes _ BadLengths c.in_ok-refuse_if.ensures)) in
+    let own = c.in_ok-own.ensures in
+    answered_is _ Unsound _ c.refuse_if-2.ensures
+    (λ h. counts-differ _ _ long own.refused refl own.counted c.agree.ensures (not-true _ h))
+    (λ h. counts_same _ _ long own.refused refl own.counted c.agree.ensures (not-false _ h))
