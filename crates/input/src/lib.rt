@@ -3,26 +3,20 @@
 
 ghost use Rattle.std.specs.Prelude.{◌≡◌};
 ghost use Rattle.mesh.specs.Refusal.{refusal};
+ghost use Rattle.answer.specs.Refusals.{refusal_of};
 ghost use Rattle.mesh.specs.Program.{input_checks};
+
+use answer::{Refusal, refuse_if};
 
 // The longest input that is accepted.
 const LONGEST: usize = 60000;
 
-// The refusal of the input before the build, or 0.
-pub fn head_refusal(input: &[u8]) -> u32
-    ensures { result ≡ refusal (input_checks input.now) }
+// What the input is refused for before the build.
+pub fn head_refusal(input: &[u8]) -> Result<(), Refusal>
+    ensures { refusal_of result ≡ refusal (input_checks input.now) }
 {
-    if LONGEST < input.len() {
-        return 20;
-    }
-    if input.len() == 0 {
-        return 4;
-    }
-    if input[0] != 7 {
-        return 5;
-    }
-    if input.len() < 3 {
-        return 4;
-    }
-    0
+    refuse_if(LONGEST < input.len(), Refusal::TooLong)?;
+    refuse_if(input.len() == 0, Refusal::CutOff)?;
+    refuse_if(input[0] != 7, Refusal::UnknownKind)?;
+    refuse_if(input.len() < 3, Refusal::CutOff)
 }

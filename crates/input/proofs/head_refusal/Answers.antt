@@ -1,19 +1,22 @@
--- `input::head_refusal` meets its contract: each return is a law of the checks before the build.
-use native.Mathlib.Omega.{arith}
-use Rattle.input.proofs.Head.{too_long, empty, another-first, too_short, head-there}
+-- `input::head_refusal` meets its contract: one check after the other.
+use Rattle.std.proofs.Common.{rules, refl}
+use Rattle.mesh.specs.Program.{input_checks}
+use Rattle.answer.specs.declared.Refusal.TheVariants.{TooLong, CutOff, UnknownKind}
+use Rattle.answer.proofs.InOrder.{decided, stops, goes_on, ends}
 use Rattle.input.proofs.head_refusal.Goals as goal
 
-pub returns-then-input-gt-LONGEST : goal.returns-then-input-gt-LONGEST
-returns-then-input-gt-LONGEST c = too_long _ (omega arith)
+pub returns-in_err-refuse_if : goal.returns-in_err-refuse_if
+unfolding input_checks
+returns-in_err-refuse_if c = decided (input_checks c.args.input.now) (stops TooLong refl c.in_err-refuse_if.ensures (search rules))
 
-pub returns-then-input-eq0 : goal.returns-then-input-eq0
-returns-then-input-eq0 c = empty _ (omega arith) c.if-input-eq0.true
+pub returns-in_err-refuse_if-2 : goal.returns-in_err-refuse_if-2
+unfolding input_checks
+returns-in_err-refuse_if-2 c = decided (input_checks c.args.input.now) (goes_on TooLong refl c.in_ok-refuse_if.ensures (stops CutOff refl c.in_err-refuse_if-2.ensures (search rules)))
 
-pub returns-then-input-ne7 : goal.returns-then-input-ne7
-returns-then-input-ne7 c = another-first _ (omega arith) (λ z. omega arith) c.if-input-ne7.true
-
-pub returns-then-input-lt3 : goal.returns-then-input-lt3
-returns-then-input-lt3 c = too_short _ (omega arith) (λ z. omega arith) c.if-input-ne7.false c.if-input-lt3.true
+pub returns-in_err-refuse_if-3 : goal.returns-in_err-refuse_if-3
+unfolding input_checks
+returns-in_err-refuse_if-3 c = decided (input_checks c.args.input.now) (goes_on TooLong refl c.in_ok-refuse_if.ensures (goes_on CutOff refl c.in_ok-refuse_if-2.ensures (stops UnknownKind refl c.in_err-refuse_if-3.ensures (search rules))))
 
 pub returns : goal.returns
-returns c = head-there _ (omega arith) (λ z. omega arith) c.if-input-ne7.false c.if-input-lt3.false
+unfolding input_checks
+returns c = decided (input_checks c.args.input.now) (goes_on TooLong refl c.in_ok-refuse_if.ensures (goes_on CutOff refl c.in_ok-refuse_if-2.ensures (goes_on UnknownKind refl c.in_ok-refuse_if-3.ensures (ends CutOff refl c.refuse_if-4.ensures))))
