@@ -38,12 +38,7 @@ pub fn fresh(columns: u32, rows: u32, mode: u32) -> Header
 pub fn with_mark(header: Header, mark: u16) -> Header
     ensures { result ≡ with_mark header mark }
 {
-    Header {
-        columns: header.columns,
-        rows: header.rows,
-        mode: header.mode,
-        mark,
-    }
+    Header { mark, ..header }
 }
 
 pub fn is_ring(header: Header) -> bool
@@ -56,7 +51,7 @@ pub fn is_ring(header: Header) -> bool
 fn outside(n: u32) -> bool
     ensures { result ≡ Call.outside 1 32 n }
 {
-    !((1 <= n) & (n <= 32))
+    !(1..=32).contains(&n)
 }
 
 // Whether the header is refused 2.
@@ -89,16 +84,12 @@ pub fn last_j(header: Header) -> u32
 pub fn ground_depth(header: Header) -> u32
     ensures { result ≡ base (header_of header).grid }
 {
-    if header.columns <= header.rows {
-        32 - u32::leading_zeros(header.rows)
-    } else {
-        32 - u32::leading_zeros(header.columns)
-    }
+    32 - header.columns.max(header.rows).leading_zeros()
 }
 
 // "each accepted request adds 1 to the mark, and 65,535 is followed by 0"
 pub fn next_mark(mark: u16) -> u16
     ensures { result ≡ (mark + 1) % 65536 }
 {
-    std::num::wrapping_add_u16(mark, 1)
+    mark.wrapping_add(1)
 }
