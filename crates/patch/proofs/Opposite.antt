@@ -9,11 +9,11 @@ use Rattle.winds.specs.WindTable.{compass_of, compass_at}
 use Rattle.winds.specs.declared.Compass.{Compass}
 use Rattle.mesh.proofs.Winds.{rule}
 use Rattle.worked.proofs.Offsets.{at}
-use Rattle.table.proofs.PutRows.{get_d_any}
+use Rattle.std.proofs.lemmas.List.{get_or_default}
 use mathlib.Core.List.{map}
 
 compass-at : (i : ℕ) → i < 8 → compass_at i ≡ compass_of (get_or winds i NE)
-compass-at i h = get_d_any (map compass_of winds) i _ (compass_of NE) h ∙ get_or-map compass_of winds i NE
+compass-at i h = get_or_default (map compass_of winds) i _ (compass_of NE) h ∙ get_or-map compass_of winds i NE
 
 pub own-word : (i : ℕ) → i < 8 → i + 1 ≡ word_of_wind (get_or winds i NE)
 own-word i h = (at i h).word

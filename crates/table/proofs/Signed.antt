@@ -85,24 +85,13 @@ same-is k h {z} f = go z f
         let s : n < 2147483648 = f.sfits in
         ne_eqb (4294967296 - suc n) k (λ e. omega arith) ∙ sym (ne_eqb (2147483648 + n) k (λ e. omega arith))
 
--- the row that a word names, in each arm of the tests
-module _ (m : ℕ) (h : m ≤ 4095) {z : ℤ} where
-  pub link-kept : Plus z → le_z z (to_z w32 m) ≡ true → (nat_abs z ≤ m) × (nat_abs z ≡ cond (leb (code z) m) (code z) 0)
-  link-kept p e = rw p.is (kept (rw (p.is, most m (omega arith)) at e))
-    where
-      kept : le_z (pos p.size) (pos m) ≡ true → (p.size ≤ m) × (p.size ≡ cond (leb p.size m) p.size 0)
-      kept q = (leb-true p.size m q, rw q)
+-- the row that a word names, in each arm of the test
+pub link-kept : (m : ℕ) → m ≤ 4095 → (z : ℤ) → leb (code z) m ≡ true → (nat_abs z ≤ m) × (nat_abs z ≡ cond (leb (code z) m) (code z) 0)
+link-kept m h (pos n) e = (leb-true n m e, rw e)
+link-kept m h (negsuc n) e = absurd (omega (arith, leb-true (2147483648 + n) m e))
 
-  pub link-past : Plus z → le_z z (to_z w32 m) ≡ false → (0 ≤ m) × (0 ≡ cond (leb (code z) m) (code z) 0)
-  link-past p e = rw p.is (past (rw (p.is, most m (omega arith)) at e))
-    where
-      past : le_z (pos p.size) (pos m) ≡ false → (0 ≤ m) × (0 ≡ cond (leb p.size m) p.size 0)
-      past q = (omega arith, rw q)
-
-  pub link-none : Minus z → (0 ≤ m) × (0 ≡ cond (leb (code z) m) (code z) 0)
-  link-none n =
-      let l : m < 2147483648 + n.size = omega arith in
-      (omega arith, rw (n.is, lt-leb (2147483648 + n.size) m l))
+pub link-none : (m : ℕ) (z : ℤ) → leb (code z) m ≡ false → (0 ≤ m) × (0 ≡ cond (leb (code z) m) (code z) 0)
+link-none m z e = (omega arith, rw e)
 
 -- the depth that a level from that of depth 0 on says, as a sum
 pub depth-sum : (d : ℕ) {z : ℤ} → SFits w32 z → d ≤ 32 → code z < 2147483648 + d → to_z w32 (of_z w32 z) +ℤ to_z w32 d ≡ pos (depth_from d (code z))

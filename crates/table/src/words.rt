@@ -46,9 +46,7 @@ pub fn coded(x: i32) -> u32
     if x >= 0 {
         x as u32
     } else {
-        let y = !x;
-        let n = y as u32;
-        n + 2147483648
+        !x as u32 + 2147483648
     }
 }
 
@@ -75,12 +73,7 @@ pub fn link(t: &[i32], cap: usize, n: usize, w: usize) -> usize
     // A capacity that is seen to fit 16 bits makes the two tests one.
     let top = cap as u16 as i32;
     let x = raw(t, n, w);
-    if x >= 0 {
-        if x <= top {
-            return x as usize;
-        }
-    }
-    0
+    if (0 <= x) & (x <= top) { x as usize } else { 0 }
 }
 
 // Whether the word w of the row n is the number of a row, or 0.
@@ -90,7 +83,7 @@ pub fn named(t: &[i32], cap: usize, n: usize, w: usize) -> bool
 {
     let top = cap as u16 as i32;
     let x = raw(t, n, w);
-    (x >= 0) & (x <= top)
+    (0 <= x) & (x <= top)
 }
 
 // Whether the word w of the row n is the number k.
@@ -122,11 +115,5 @@ pub fn is_taken(t: &[i32], cap: usize, n: usize) -> bool
     requires { Sized t.now cap }
     ensures { result ≡ taken t.now cap n }
 {
-    if n == 0 {
-        return false;
-    }
-    if cap < n {
-        return false;
-    }
-    !is_free(t, n)
+    (1 <= n) & (n <= cap) && !is_free(t, n)
 }

@@ -21,8 +21,7 @@ pub fn level(depth: u32, d: u32) -> i32
     ensures { result ≡ sub_ℕ depth d }
 {
     if depth < d {
-        let y = (d - 1 - depth) as i32;
-        return !y;
+        return !((d - 1 - depth) as i32);
     }
     (depth - d) as i32
 }
@@ -40,12 +39,8 @@ pub fn put_row(t: &mut [i32], n: usize, x: [i32; ROW_WORDS])
     requires { n * row_words + row_words ≤ length t.old }
     ensures { t.new ≡ put_row t.old n x }
 {
-    let b = n * ROW_WORDS;
-    let mut w = 0;
-    while w < ROW_WORDS {
-        t[b + w] = x[w];
-        w += 1;
-    }
+    let start = n * ROW_WORDS;
+    t[start..start + ROW_WORDS].copy_from_slice(&x);
 }
 
 // Writes a free row.

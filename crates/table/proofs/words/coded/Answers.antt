@@ -9,8 +9,8 @@ overflow_cast-result c =
     let p = plus c.ranges.x c.if-x-ge0.true in
     rw (to_z-of_z c.ranges.x, p.is) (tt, omega (arith, p.small))
 
-pub overflow_cast-n : goal.overflow_cast-n
-overflow_cast-n c =
+pub overflow_cast-result-else-x-ge0 : goal.overflow_cast-result-else-x-ge0
+overflow_cast-result-else-x-ge0 c =
     let m = minus c.ranges.x c.if-x-ge0.false in
     rw (flipped m) (tt, omega (arith, m.small))
 
