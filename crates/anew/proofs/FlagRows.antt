@@ -6,7 +6,7 @@ use mathlib.Core.Bool.{Bool, true, false, not, cond, ◌&&◌, ◌||◌, beq}
 use mathlib.Core.List.{List}
 use Prim.Native.Nat.{ℕ, ◌+◌, ◌*◌}
 use native.Mathlib.Omega.{arith}
-use borrow.Author.Tests.{eq-eqb, ne_eqb}
+use borrow.Author.Tests.{ne_eqb}
 use lib.Bits.{bit_or}
 use lib.IntN.{ℤ}
 use Rattle.mesh.specs.Tools.{digits}
@@ -111,11 +111,3 @@ module _ (t : List ℤ) (cap d n : ℕ) where
   pub row-pointed : {u : List ℤ} {x : ℕ} → n ≢ 0 → x ≡ digits (points_anew t cap n) → u ≡ put_word t n flags_word x → u ≡ point_row cap t n
   unfolding point_row
   row-pointed z b e = rw (ne_eqb n 0 z, e, b)
-
-  pub nil-walled : n ≡ 0 → t ≡ wall_row cap d t n
-  unfolding wall_row
-  nil-walled z = rw (eq-eqb n 0 z)
-
-  pub nil-pointed : n ≡ 0 → t ≡ point_row cap t n
-  unfolding point_row
-  nil-pointed z = rw (eq-eqb n 0 z)

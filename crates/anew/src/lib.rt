@@ -2,6 +2,8 @@
 // its cell from the walls around it.
 #![tactic(auto)]
 
+pub mod pass;
+
 ghost use Rattle.std.specs.Prelude.{◌≡◌, ◌<◌, ◌≤◌};
 ghost use Rattle.mesh.specs.Tools.{digits};
 ghost use Rattle.mesh.specs.Picture.{row_words};

@@ -13,6 +13,8 @@ use Rattle.carried.specs.declared.Carried.{Carried}
 use Rattle.edit_laws.specs.PatchSteps.{put_word}
 use Rattle.edit_laws.specs.Anew.{wall_row, point_row}
 use Rattle.edit_laws.specs.Tables.{Spot, kid_at, kid_spots, wanted_spots, outside_spots, over_spots, at_kid, each_at, refresh_near, put_cell, put_cell_amount, put_amounts}
+use Rattle.near.specs.declared.around.Around.{Around}
+use Rattle.near.specs.Around.{IsAround}
 use Rattle.near.specs.NearSpots.{corner_spots, side_spots}
 
 -- ---- a cell
@@ -65,20 +67,19 @@ module _ (t : List ℤ) (cap n : ℕ) where
   unfolding wanted_spots
   wanted-is a b e = rw (e, a, b)
 
-  pub outside-is : {south west : ℕ} → south ≡ link_of t cap n 7 → west ≡ link_of t cap n 8 → outside_spots t cap n ≡ side_spots south west
-  unfolding outside_spots
-  outside-is a b = rw (a, b)
+  module _ {a : Around} (i : IsAround t cap n a) where
+    abbrev wanted : List Spot
+    wanted = kid_spots t cap n ++ corner_spots a.north a.east a.both
 
-  pub near-refreshed : (d : ℕ) {a b r : List ℤ} {north east both south west : ℕ} →
-      north ≡ link_of t cap n 5 →
-      east ≡ link_of t cap n 6 →
-      both ≡ link_of t cap east 5 →
-      south ≡ link_of t cap n 7 →
-      west ≡ link_of t cap n 8 →
-      a ≡ each_at (wall_row cap d) cap (kid_spots t cap n ++ corner_spots north east both) t →
-      b ≡ each_at (point_row cap) cap (kid_spots t cap n ++ corner_spots north east both) a →
-      r ≡ each_at (point_row cap) cap (side_spots south west) b →
-      r ≡ refresh_near t cap d n
-  unfolding refresh_near
-  near-refreshed d {a} {north = north} {east} {both} {south} {west} h1 h2 h3 h4 h5 e f g =
-      rw (g, f, wanted-is h1 h2 h3, outside-is h4 h5, ← e) (sym (over-append (at_kid (point_row cap) cap) (kid_spots t cap n ++ corner_spots north east both) (side_spots south west) a))
+    outside-is : outside_spots t cap n ≡ side_spots a.south a.west
+    unfolding outside_spots
+    outside-is = rw (i.south, i.west)
+
+    pub near-refreshed : (d : ℕ) {u v r : List ℤ} →
+        u ≡ each_at (wall_row cap d) cap wanted t →
+        v ≡ each_at (point_row cap) cap wanted u →
+        r ≡ each_at (point_row cap) cap (side_spots a.south a.west) v →
+        r ≡ refresh_near t cap d n
+    unfolding refresh_near
+    near-refreshed d {u} e f g =
+        rw (g, f, wanted-is i.north i.east i.both, outside-is, ← e) (sym (over-append (at_kid (point_row cap) cap) wanted (side_spots a.south a.west) u))

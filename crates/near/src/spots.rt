@@ -1,14 +1,15 @@
 // Steps at the kids near a cell: its own four; the corners north, east and north-east; the sides south and west.
 ghost use Rattle.std.specs.Prelude.{◌≡◌, ◌++◌, ◌<◌, ◌≤◌, length};
-ghost use Rattle.edit_laws.specs.Anew.{wall_row, point_row};
 ghost use Rattle.edit_laws.specs.Tables.{kid_at, kid_spots, each_at, refresh_near, put_cell, put_cell_amount, put_cells, put_amounts};
+ghost use Rattle.near.specs.Around.{Within};
 ghost use Rattle.near.specs.NearSpots.{kid_spot, corner_spots, side_spots};
 ghost use Rattle.table.specs.Plain.{Plain};
 
-use anew::{point_row, wall_row};
+use crate::around::{Around, rows_around};
+use anew::pass::{Pass, Points, Walls};
 use carried::{Carried, put_carried};
 use table::plain;
-use table::words::{EAST, FLAGS, NORTH, SOUTH, WEST};
+use table::words::FLAGS;
 use table::writes::put;
 use winds::{NE, NW, SE, SW};
 
@@ -20,107 +21,64 @@ pub fn kid(t: &[i32], cap: usize, p: usize, w: usize) -> usize
     plain::link(t, cap, p, w + 1)
 }
 
-// Walls anew, of that kid.
-fn wall_kid(t: &mut [i32], cap: usize, d: u32, p: usize, w: usize)
-    requires { Plain t.old cap × (p ≤ cap) × (w < 4) × (d ≤ 32) }
-    ensures { (t.new ≡ wall_row cap d t.old (kid_at t.old cap (kid_spot p w))) × Plain t.new cap }
-{
-    let k = kid(t, cap, p, w);
-    wall_row(t, cap, d, k);
-}
-
-fn wall_kids(t: &mut [i32], cap: usize, d: u32, n: usize)
-    requires { Plain t.old cap × (n ≤ cap) × (d ≤ 32) }
-    ensures { (t.new ≡ each_at (wall_row cap d) cap (kid_spots t.old cap n) t.old) × Plain t.new cap }
-{
-    wall_kid(t, cap, d, n, SW);
-    wall_kid(t, cap, d, n, SE);
-    wall_kid(t, cap, d, n, NW);
-    wall_kid(t, cap, d, n, NE);
-}
-
-fn wall_corners(t: &mut [i32], cap: usize, d: u32, north: usize, east: usize, both: usize)
-    requires { Plain t.old cap × (north ≤ cap) × (east ≤ cap) × (both ≤ cap) × (d ≤ 32) }
-    ensures { (t.new ≡ each_at (wall_row cap d) cap (corner_spots north east both) t.old) × Plain t.new cap }
-{
-    wall_kid(t, cap, d, north, SW);
-    wall_kid(t, cap, d, north, SE);
-    wall_kid(t, cap, d, east, NW);
-    wall_kid(t, cap, d, east, SW);
-    wall_kid(t, cap, d, both, SW);
-}
-
-// Points and its cell anew.
-fn point_kid(t: &mut [i32], cap: usize, p: usize, w: usize)
+// What a pass works out anew of that kid.
+fn pass_kid<P: Pass>(t: &mut [i32], cap: usize, pass: P, p: usize, w: usize)
     requires { Plain t.old cap × (p ≤ cap) × (w < 4) }
-    ensures { (t.new ≡ point_row cap t.old (kid_at t.old cap (kid_spot p w))) × Plain t.new cap }
+    ensures { (t.new ≡ P.step pass cap t.old (kid_at t.old cap (kid_spot p w))) × Plain t.new cap }
 {
     let k = kid(t, cap, p, w);
-    point_row(t, cap, k);
+    pass.row(t, cap, k);
 }
 
-fn point_kids(t: &mut [i32], cap: usize, n: usize)
+fn pass_kids<P: Pass>(t: &mut [i32], cap: usize, pass: P, n: usize)
     requires { Plain t.old cap × (n ≤ cap) }
-    ensures { (t.new ≡ each_at (point_row cap) cap (kid_spots t.old cap n) t.old) × Plain t.new cap }
+    ensures { (t.new ≡ each_at (P.step pass cap) cap (kid_spots t.old cap n) t.old) × Plain t.new cap }
 {
-    point_kid(t, cap, n, SW);
-    point_kid(t, cap, n, SE);
-    point_kid(t, cap, n, NW);
-    point_kid(t, cap, n, NE);
+    pass_kid(t, cap, pass, n, SW);
+    pass_kid(t, cap, pass, n, SE);
+    pass_kid(t, cap, pass, n, NW);
+    pass_kid(t, cap, pass, n, NE);
 }
 
-fn point_corners(t: &mut [i32], cap: usize, north: usize, east: usize, both: usize)
-    requires { Plain t.old cap × (north ≤ cap) × (east ≤ cap) × (both ≤ cap) }
-    ensures { (t.new ≡ each_at (point_row cap) cap (corner_spots north east both) t.old) × Plain t.new cap }
+fn pass_corners<P: Pass>(t: &mut [i32], cap: usize, pass: P, a: Around)
+    requires { Plain t.old cap × Within cap a }
+    ensures { (t.new ≡ each_at (P.step pass cap) cap (corner_spots a.north a.east a.both) t.old) × Plain t.new cap }
 {
-    point_kid(t, cap, north, SW);
-    point_kid(t, cap, north, SE);
-    point_kid(t, cap, east, NW);
-    point_kid(t, cap, east, SW);
-    point_kid(t, cap, both, SW);
+    pass_kid(t, cap, pass, a.north, SW);
+    pass_kid(t, cap, pass, a.north, SE);
+    pass_kid(t, cap, pass, a.east, NW);
+    pass_kid(t, cap, pass, a.east, SW);
+    pass_kid(t, cap, pass, a.both, SW);
 }
 
-fn point_sides(t: &mut [i32], cap: usize, south: usize, west: usize)
-    requires { Plain t.old cap × (south ≤ cap) × (west ≤ cap) }
-    ensures { (t.new ≡ each_at (point_row cap) cap (side_spots south west) t.old) × Plain t.new cap }
+fn pass_sides<P: Pass>(t: &mut [i32], cap: usize, pass: P, a: Around)
+    requires { Plain t.old cap × Within cap a }
+    ensures { (t.new ≡ each_at (P.step pass cap) cap (side_spots a.south a.west) t.old) × Plain t.new cap }
 {
-    point_kid(t, cap, south, NW);
-    point_kid(t, cap, south, NE);
-    point_kid(t, cap, west, SE);
-    point_kid(t, cap, west, NE);
+    pass_kid(t, cap, pass, a.south, NW);
+    pass_kid(t, cap, pass, a.south, NE);
+    pass_kid(t, cap, pass, a.west, SE);
+    pass_kid(t, cap, pass, a.west, NE);
 }
 
-// Of the nine rows that the kids of the row n want, the walls.
-fn wall_near(t: &mut [i32], cap: usize, d: u32, n: usize, north: usize, east: usize, both: usize)
-    requires { Plain t.old cap × (n ≤ cap) × (north ≤ cap) × (east ≤ cap) × (both ≤ cap) × (d ≤ 32) }
-    ensures { (t.new ≡ each_at (wall_row cap d) cap (kid_spots t.old cap n ++ corner_spots north east both) t.old) × Plain t.new cap }
+// The nine rows that the kids of the row n want.
+fn pass_wanted<P: Pass>(t: &mut [i32], cap: usize, pass: P, n: usize, a: Around)
+    requires { Plain t.old cap × (n ≤ cap) × Within cap a }
+    ensures { (t.new ≡ each_at (P.step pass cap) cap (kid_spots t.old cap n ++ corner_spots a.north a.east a.both) t.old) × Plain t.new cap }
 {
-    wall_kids(t, cap, d, n);
-    wall_corners(t, cap, d, north, east, both);
+    pass_kids(t, cap, pass, n);
+    pass_corners(t, cap, pass, a);
 }
 
-// The points and cells.
-fn point_near(t: &mut [i32], cap: usize, n: usize, north: usize, east: usize, both: usize)
-    requires { Plain t.old cap × (n ≤ cap) × (north ≤ cap) × (east ≤ cap) × (both ≤ cap) }
-    ensures { (t.new ≡ each_at (point_row cap) cap (kid_spots t.old cap n ++ corner_spots north east both) t.old) × Plain t.new cap }
-{
-    point_kids(t, cap, n);
-    point_corners(t, cap, north, east, both);
-}
-
-// The flags of the thirteen rows whose flags a refinement or a removal can change.
+// The flags of the thirteen rows whose flags a refinement or a removal can change: walls first, since points and cells are worked out from walls.
 pub fn refresh_near(t: &mut [i32], cap: usize, d: u32, n: usize)
     requires { Plain t.old cap × (n ≤ cap) × (d ≤ 32) }
     ensures { (t.new ≡ refresh_near t.old cap d n) × Plain t.new cap }
 {
-    let north = plain::link(t, cap, n, NORTH);
-    let east = plain::link(t, cap, n, EAST);
-    let both = plain::link(t, cap, east, NORTH);
-    let south = plain::link(t, cap, n, SOUTH);
-    let west = plain::link(t, cap, n, WEST);
-    wall_near(t, cap, d, n, north, east, both);
-    point_near(t, cap, n, north, east, both);
-    point_sides(t, cap, south, west);
+    let a = rows_around(t, cap, n);
+    pass_wanted(t, cap, Walls { d }, n, a);
+    pass_wanted(t, cap, Points, n, a);
+    pass_sides(t, cap, Points, a);
 }
 
 // The flags of a kid and what it carries.

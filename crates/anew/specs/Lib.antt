@@ -1,0 +1,2 @@
+-- What the laws of a pass rest on.
+pub mod NilRow
