@@ -1,21 +1,15 @@
 -- The rows along the border of a level-0 cell, as the code goes through them, and that none stands there.
 -- Assumes nothing.
-use Rattle.std.specs.Prelude.{ℕ, zero, suc, ◌≤◌, Bool, true, false, ◌||◌, List, [], ◌∷◌, T, eqb, ltb, ℤ}
+use Rattle.std.specs.Prelude.{ℕ, zero, suc, ◌≤◌, Bool, ◌||◌, List, [], ◌∷◌, T, eqb, ltb, ℤ}
 use Rattle.mesh.specs.Tools.{all}
 use Rattle.mesh.specs.Picture.{link_words, ne_word, se_word, sw_word, nw_word}
 use Rattle.table.specs.Words.{link_of}
-use Rattle.edit_laws.specs.Anew.{wall_row, point_row}
 use Rattle.edit_laws.specs.Tables as Tables
 use Rattle.border.specs.declared.Border.{Border}
 
 -- a word of a row that is a link
 abbrev pub is_link : ℕ → Bool
 is_link w = ltb w link_words
-
--- the row with its walls anew, or with its points and its cell
-abbrev pub pass_row : Bool → ℕ → ℕ → List ℤ → ℕ → List ℤ
-pass_row true cap d t n = wall_row cap d t n
-pass_row false cap d t n = point_row cap t n
 
 -- ---- where no row stands
 

@@ -1,66 +1,33 @@
 // Flags along the border of a level-0 cell worked out anew, down by kids and level by level.
 #![tactic(auto)]
 
-ghost use Rattle.std.specs.Prelude.{◌≡◌, false, ◌<◌, ◌≤◌, T, length, get_or};
+ghost use Rattle.std.specs.Prelude.{◌≡◌, false, ◌≤◌, T};
 ghost use Rattle.mesh.specs.Tools.{all};
-ghost use Rattle.table.specs.Words.{link_of};
 ghost use Rattle.table.specs.Plain.{Plain};
 ghost use Rattle.edit_laws.specs.Tables.{each_down, along_corners, refresh_level, refresh_levels};
-ghost use Rattle.border.specs.Borders.{is_link, pass_row, bare_down, BareCorners, BareBorder, Within, border_of};
+ghost use Rattle.border.specs.Borders.{is_link, bare_down, BareCorners, BareBorder, Within, border_of};
 
-use anew::{point_row, wall_row};
+use anew::pass::{Pass, Points, Walls};
 use table::plain::link;
 use table::words::{NE_KID, NW_KID, SE_KID, SW_KID};
 
-// The words of the kids in a byte each.
-const NE: u8 = NE_KID as u8;
-
-const SE: u8 = SE_KID as u8;
-
-const SW: u8 = SW_KID as u8;
-
-const NW: u8 = NW_KID as u8;
-
-// The row n with its walls anew, or with its points and its cell.
-fn pass_row(t: &mut [i32], cap: usize, d: u32, walls: bool, n: usize)
-    requires { Plain t.old cap × (n ≤ cap) × (d ≤ 32) }
-    ensures { (t.new ≡ pass_row walls cap d t.old n) × Plain t.new cap }
-{
-    if walls {
-        wall_row(t, cap, d, n);
-        return;
-    }
-    point_row(t, cap, n);
-}
-
-// The row that the word at place q of ws names.
-fn kid_at(t: &[i32], cap: usize, n: usize, ws: &[u8], q: usize) -> usize
-    requires { Plain t.now cap × (n ≤ cap) × T (all is_link ws.now) × (q < length ws.now) }
-    ensures { (result ≤ cap) × (result ≡ link_of t.now cap n (get_or ws.now q 0)) }
-{
-    let w = ws[q] as usize;
-    link(t, cap, n, w)
-}
-
 // A pass through the rows so many levels down from n, by kids that the words of ws name; whether there is one.
-fn pass_down(t: &mut [i32], cap: usize, d: u32, walls: bool, ws: &[u8], e: u32, n: usize) -> bool
-    requires { Plain t.old cap × (n ≤ cap) × (d ≤ 32) × T (all is_link ws.now) }
-    ensures { (t.new ≡ each_down (pass_row walls cap d) cap ws.now e t.old n) × Plain t.new cap × (result ≡ false → T (bare_down t.old cap ws.now e n)) }
+fn pass_down<P: Pass>(t: &mut [i32], cap: usize, pass: P, ws: &[usize], e: u32, n: usize) -> bool
+    requires { Plain t.old cap × (n ≤ cap) × T (all is_link ws.now) }
+    ensures { (t.new ≡ each_down (P.step pass cap) cap ws.now e t.old n) × Plain t.new cap × (result ≡ false → T (bare_down t.old cap ws.now e n)) }
 {
     if n == 0 {
         return false;
     }
     if e == 0 {
-        pass_row(t, cap, d, walls, n);
+        pass.row(t, cap, n);
         return true;
     }
     let mut met = false;
-    let mut q = 0;
-    while q < ws.len() {
-        let k = kid_at(t, cap, n, ws, q);
-        let one = pass_down(t, cap, d, walls, ws, e - 1, k);
+    for w in ws {
+        let k = link(t, cap, n, *w);
+        let one = pass_down(t, cap, pass, ws, e - 1, k);
         met = one | met;
-        q += 1;
     }
     met
 }
@@ -77,18 +44,14 @@ pub struct Border {
 }
 
 // On one level, a pass through the rows along the border whose walls the cell can be a side of; whether there is one.
-fn pass_corners(t: &mut [i32], cap: usize, d: u32, walls: bool, b: Border, e: u32) -> bool
-    requires { Plain t.old cap × (d ≤ 32) × Within cap b }
-    ensures { (t.new ≡ along_corners (pass_row walls cap d) cap (border_of b) e t.old) × Plain t.new cap × (result ≡ false → BareCorners t.old cap (border_of b) e) }
+fn pass_corners<P: Pass>(t: &mut [i32], cap: usize, pass: P, b: Border, e: u32) -> bool
+    requires { Plain t.old cap × Within cap b }
+    ensures { (t.new ≡ along_corners (P.step pass cap) cap (border_of b) e t.old) × Plain t.new cap × (result ≡ false → BareCorners t.old cap (border_of b) e) }
 {
-    let all = [SW, SE, NW, NE];
-    let own = pass_down(t, cap, d, walls, &all, e, b.own);
-    let southern = [SW, SE];
-    let north = pass_down(t, cap, d, walls, &southern, e, b.north);
-    let western = [SW, NW];
-    let east = pass_down(t, cap, d, walls, &western, e, b.east);
-    let inmost = [SW];
-    let both = pass_down(t, cap, d, walls, &inmost, e, b.both);
+    let own = pass_down(t, cap, pass, &[SW_KID, SE_KID, NW_KID, NE_KID], e, b.own);
+    let north = pass_down(t, cap, pass, &[SW_KID, SE_KID], e, b.north);
+    let east = pass_down(t, cap, pass, &[SW_KID, NW_KID], e, b.east);
+    let both = pass_down(t, cap, pass, &[SW_KID], e, b.both);
     own | (north | (east | both))
 }
 
@@ -97,12 +60,10 @@ fn refresh_level(t: &mut [i32], cap: usize, d: u32, b: Border, e: u32) -> bool
     requires { Plain t.old cap × (d ≤ 32) × Within cap b }
     ensures { (t.new ≡ refresh_level (border_of b) e t.old cap d) × Plain t.new cap × (result ≡ false → BareBorder t.new cap (border_of b) e) }
 {
-    pass_corners(t, cap, d, true, b, e);
-    let corners = pass_corners(t, cap, d, false, b, e);
-    let northern = [NW, NE];
-    let south = pass_down(t, cap, d, false, &northern, e, b.south);
-    let eastern = [SE, NE];
-    let west = pass_down(t, cap, d, false, &eastern, e, b.west);
+    pass_corners(t, cap, Walls { d }, b, e);
+    let corners = pass_corners(t, cap, Points, b, e);
+    let south = pass_down(t, cap, Points, &[NW_KID, NE_KID], e, b.south);
+    let west = pass_down(t, cap, Points, &[SE_KID, NE_KID], e, b.west);
     corners | (south | west)
 }
 
@@ -111,11 +72,9 @@ pub fn refresh_levels(t: &mut [i32], cap: usize, d: u32, b: Border)
     requires { Plain t.old cap × (d ≤ 32) × Within cap b }
     ensures { t.new ≡ refresh_levels 13 (border_of b) 0 t.old cap d }
 {
-    let mut e = 0;
-    while e < 13 {
+    for e in 0..13 {
         if !refresh_level(t, cap, d, b, e) {
             return;
         }
-        e += 1;
     }
 }

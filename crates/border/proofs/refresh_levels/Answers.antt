@@ -1,31 +1,25 @@
--- `border::refresh_levels` meets its contract. The invariant: the levels left from here make of the table what all make of the one at the start.
-use borrow.Author.Rules.{rules}
-use native.Mathlib.Omega.{arith}
-use mathlib.Core.Path.{refl, sym, ◌∙◌}
+-- `border::refresh_levels` meets its contract.
+use Rattle.std.proofs.Common.{arith, refl, sym, ◌∙◌}
 use Rattle.border.proofs.Borders.{levels-on, levels-done, levels-end}
 use Rattle.border.proofs.refresh_levels.Goals as goal
 
 pub loop-e-init : goal.loop-e-init
-loop-e-init c = (omega arith, refl, refl, search rules)
+loop-e-init c = record { left = refl; plain = c.requires.0 }
 
 pub refresh_level-requires : goal.refresh_level-requires
-refresh_level-requires c = (c.loop-e.invariant.3, omega arith, c.requires.2)
-
-pub shape_of-t-then-not-refresh_level : goal.shape_of-t-then-not-refresh_level
-shape_of-t-then-not-refresh_level c = c.refresh_level.auto.t ∙ c.loop-e.invariant.1
+refresh_level-requires c = (c.loop-e.invariant.plain, omega arith, c.requires.2)
 
 pub returns-then-not-refresh_level : goal.returns-then-not-refresh_level
 returns-then-not-refresh_level c =
+    let l = c.loop-e in
     let (h, p, k) = c.refresh_level.ensures in
-    sym (c.loop-e.invariant.2 ∙ levels-on _ c.loop-e.t _ _ c.loop-e.e (omega arith) h ∙ levels-end _ _ _ _ _ c.loop-e.e (k (c.if-not-refresh_level.true)))
+    sym (l.invariant.left ∙ levels-on _ l.t _ _ l.e (omega arith) h ∙ levels-end _ _ _ _ _ l.e (k c.if-not-refresh_level.true))
 
 pub loop-e-preserved : goal.loop-e-preserved
 loop-e-preserved c =
+    let l = c.loop-e in
     let (h, p, k) = c.refresh_level.ensures in
-    (omega arith, c.refresh_level.auto.t ∙ c.loop-e.invariant.1, c.loop-e.invariant.2 ∙ levels-on _ c.loop-e.t _ _ c.loop-e.e (omega arith) h, p)
-
-pub shape_of-t : goal.shape_of-t
-shape_of-t c = c.loop-e.invariant.1
+    record { left = l.invariant.left ∙ levels-on _ l.t _ _ l.e (omega arith) h; plain = p }
 
 pub returns : goal.returns
-returns c = sym (c.loop-e.invariant.2 ∙ levels-done _ c.loop-e.t _ _ c.loop-e.e (omega arith))
+returns c = sym (c.loop-e.invariant.left ∙ levels-done _ c.loop-e.t _ _ c.loop-e.e (omega arith))
