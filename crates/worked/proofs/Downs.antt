@@ -8,19 +8,8 @@ use mathlib.Core.Bool.{cond}
 use mathlib.Core.List.{List}
 use lib.Dec.{eqb}
 use lib.IntN.{ℤ}
-use borrow.Author.Tests.{eq-eqb, ne_eqb}
 use Rattle.table.specs.Words.{link_of}
 use Rattle.worked.specs.Worked.{kid_word, down_to}
-
--- the root alone has no digit
-pub not-root-east : (i j : ℕ) → (i ≡ 0 → ⊥) → ◌≡◌ {A = ℕ} 0 (cond (eqb (i + j) 0) 1 0)
-not-root-east i j h = rw (ne_eqb (i + j) 0 (λ z. h (omega arith)))
-
-pub not-root-north : (i j : ℕ) → (j ≡ 0 → ⊥) → ◌≡◌ {A = ℕ} 0 (cond (eqb (i + j) 0) 1 0)
-not-root-north i j h = rw (ne_eqb (i + j) 0 (λ z. h (omega arith)))
-
-pub is-root : (i j : ℕ) → i ≡ 0 → j ≡ 0 → ◌≡◌ {A = ℕ} 1 (cond (eqb (i + j) 0) 1 0)
-is-root i j a b = rw (eq-eqb (i + j) 0 (omega arith))
 
 -- the digits past the place e, halved once more
 halved : (i e : ℕ) → i / 2 ^ e / 2 ≡ i / 2 ^ suc e
@@ -35,10 +24,6 @@ module _ (t : List ℤ) (cap d i j : ℕ) where
   pub down-start : (n : ℕ) → n ≡ cond (eqb (i / 2 ^ d + j / 2 ^ d) 0) 1 0 → n ≡ sofar d
   unfolding down_to
   down-start n h = let z : d - d ≡ 0 = omega arith in rw z h
-
-  -- all of them
-  pub down-end : sofar 0 ≡ down_to t cap d i j
-  down-end = let a : i / 2 ^ 0 ≡ i = omega arith in let b : j / 2 ^ 0 ≡ j = omega arith in let z : d - 0 ≡ d = omega arith in rw (a, b, z)
 
   pub one_down : (e : ℕ) → e < d → let n = sofar (suc e) in cond (eqb n 0) 0 (link_of t cap n (kid_word (i / 2 ^ e % 2) (j / 2 ^ e % 2))) ≡ sofar e
   unfolding down_to

@@ -1,32 +1,16 @@
 -- Walls of both kinds at once: a boundary wall counts 1 and a green one 16.
 -- Assumes nothing.
 use mathlib.Core.Path.{◌≡◌, refl, ◌∙◌}
-use mathlib.Core.Bool.{Bool, true, false, not, ◌&&◌, ◌||◌, cond}
+use mathlib.Core.Bool.{Bool, true, false, ◌||◌, cond}
 use mathlib.Core.List.{List}
 use Prim.Native.Nat.{ℕ, ◌+◌, ◌*◌, ◌%◌, ◌<◌}
 use native.Mathlib.Omega.{arith}
-use lib.Bits.{bit_or, or_lt}
+use lib.Bits.{bit_or}
 use lib.Dec.{eqb}
 use borrow.Author.Tests.{eqb-true, eqb-false}
 use lib.IntN.{ℤ}
 use Rattle.worked.specs.FlagDigits.{pair}
 use Rattle.table.specs.Words.{link_of, flag_of}
-
--- ---- a wall with one cell
-
-pub one-cell-boundary : (one : Bool) {e : Bool} → e ≡ true → (1 < 32) × (1 ≡ pair e (one && not e))
-one-cell-boundary one h = (omega arith, rw h (go one))
-  where
-    go : (x : Bool) → 1 ≡ pair true (x && false)
-    go true = refl
-    go false = refl
-
-pub one-cell-green : (one : Bool) {e : Bool} {r : ℕ} → e ≡ false → r ≡ 16 * cond one 1 0 → (r < 32) × (r ≡ pair e (one && not e))
-one-cell-green one {r = r} h i = rw h (go one i)
-  where
-    go : (x : Bool) → r ≡ 16 * cond x 1 0 → (r < 32) × (r ≡ pair false (x && true))
-    go true i = (omega arith, omega arith)
-    go false i = (omega arith, omega arith)
 
 -- ---- a wall as it is read, and walls that meet
 
@@ -57,9 +41,6 @@ or-pair false false true true = refl
 or-pair false false true false = refl
 or-pair false false false true = refl
 or-pair false false false false = refl
-
-pub join-small : (a b : ℕ) → a < 32 → b < 32 → bit_or a b < 32
-join-small a b h k = or_lt 5 a b h k
 
 pub corner-is : (t : List ℤ) (cap n a b : ℕ) {x y i j r : ℕ} →
     x ≡ link_of t cap n a →

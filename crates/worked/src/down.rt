@@ -5,19 +5,13 @@ ghost use Rattle.table.specs.Words.{link_of};
 ghost use Rattle.worked.specs.Worked.{down_to};
 
 use crate::kid_word;
-use table::plain;
+use table::plain::link;
 
 // The root, if these are its indices.
 fn root_at(i: u32, j: u32) -> usize
     ensures { (result ≤ 1) × (result ≡ cond (eqb (i + j) 0) 1 0) }
 {
-    if i != 0 {
-        return 0;
-    }
-    if j != 0 {
-        return 0;
-    }
-    1
+    if i == 0 && j == 0 { 1 } else { 0 }
 }
 
 // The row that the word w of the row n names; row 0 names none.
@@ -25,10 +19,7 @@ fn named_by(t: &[i32], cap: usize, n: usize, w: usize) -> usize
     requires { Plain t.now cap × (n ≤ cap) × (w < 9) }
     ensures { (result ≤ cap) × (result ≡ cond (eqb n 0) 0 (link_of t.now cap n w)) }
 {
-    if n == 0 {
-        return 0;
-    }
-    plain::link(t, cap, n, w)
+    if n == 0 { 0 } else { link(t, cap, n, w) }
 }
 
 // The row of the place with the indices i and j, d kids down from the root, or 0.
@@ -37,9 +28,7 @@ pub fn down_to(t: &[i32], cap: usize, d: u32, i: u32, j: u32) -> usize
     ensures { (result ≤ cap) × (result ≡ down_to t.now cap d i j) }
 {
     let mut n = root_at(i >> d, j >> d);
-    let mut e = d;
-    while e > 0 {
-        e -= 1;
+    for e in (0..d).rev() {
         n = named_by(t, cap, n, kid_word((i >> e) % 2, (j >> e) % 2));
     }
     n

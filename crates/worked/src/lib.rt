@@ -64,6 +64,7 @@ pub fn kidless(t: &[i32], cap: usize, n: usize) -> bool
 }
 
 // Whether a cell touches the patch of the row n.
+#[tactic(auto, unfolding(crate::specs::Worked::touched_in))]
 pub fn touched(t: &[i32], cap: usize, n: usize) -> bool
     requires { Plain t.now cap × (n ≤ cap) }
     ensures { result ≡ touched_in t.now cap n }
@@ -77,6 +78,7 @@ pub fn touched(t: &[i32], cap: usize, n: usize) -> bool
 }
 
 // The number whose four binary digits these are, lowest first.
+#[tactic(auto, unfolding(crate::specs::FlagDigits::four))]
 pub fn digits_of_four(a: bool, b: bool, c: bool, e: bool) -> u32
     ensures { (result < 16) × (result ≡ four a b c e) }
 {

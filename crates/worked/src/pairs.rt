@@ -14,10 +14,7 @@ use table::plain::{flags, link};
 pub fn boundary_or_green(one: bool, boundary: bool) -> u32
     ensures { (result < 32) × (result ≡ pair boundary (one && not boundary)) }
 {
-    if boundary {
-        return 1;
-    }
-    weigh(one, 16)
+    if boundary { 1 } else { weigh(one, 16) }
 }
 
 // The wall of bit k of the row n, boundary or green.
