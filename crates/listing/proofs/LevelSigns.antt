@@ -14,8 +14,9 @@ use mir.Syntax.{w32}
 use mir.Val.{SFits, to_z, of_z}
 use mir.Facts.{to_z-of_z}
 use borrow.Author.Tests.{le-leb, lt-leb, lt-ltb, le-ltb}
-use Rattle.mesh.specs.Picture.{row_words}
+use Rattle.mesh.specs.Picture.{row_words, level_word}
 use Rattle.table.specs.Words.{code, word_of, depth_from, depth_of}
+use Rattle.listing.specs.ListedRows.{from_level}
 
 -- a level of the table is not below 0 exactly if its depth is not below that of level 0
 level-sign : (d : ℕ) (z : ℤ) → SFits w32 z → depth_from d (code z) ≤ d + 12 → le_z (pos 0) z ≡ leb d (depth_from d (code z))
@@ -35,3 +36,7 @@ pub grounded-is : (t : List ℤ) (d n : ℕ) {z : ℤ} → SFits w32 z → z ≡
     → le_z (pos 0) (to_z w32 (of_z w32 z)) ≡ leb d (depth_of t d n)
 unfolding depth_of word_of
 grounded-is t d n {z} f e l = rw (to_z-of_z f, ← e) (level-sign d z f (rw (← e) at l))
+
+pub level-test : (t : List ℤ) (n : ℕ) {a z x : ℤ} → a ≡ z → x ≡ get_or t (n * row_words + level_word) (pos 0) → le_z a x ≡ from_level t z n
+unfolding from_level
+level-test t n h e = rw (h, e)

@@ -1,3 +1,7 @@
--- The rows that a scan lists, and a list written as far as it fits.
+-- The rows that a scan lists, and where their numbers go.
 pub mod ListedRows
 pub mod Written
+pub mod Kinds
+pub mod Scans
+pub mod Sinks
+pub mod SinkLaws

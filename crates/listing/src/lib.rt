@@ -1,232 +1,130 @@
-// The rows that a scan lists: counted, and their numbers written as far as they fit.
+// The rows that a scan lists: their numbers go into a sink, which writes or counts them as far as they fit.
 #![tactic(auto)]
 
-ghost use Rattle.std.specs.Prelude.{◌≡◌, cond, [], ◌∷◌, ◌+◌, ◌<◌, ◌≤◌, min, ◌*◌, T, eqb, leb, length, get_or};
-ghost use Rattle.mesh.specs.Tools.{all};
-ghost use Rattle.table.specs.Words.{link_of, depth_of};
-ghost use Rattle.walk.specs.WalkRows.{kids_word, is_end, row_walk, rows_below};
-ghost use Rattle.listing.specs.ListedRows.{listed_row, from_level, scans};
+ghost use Rattle.std.specs.Prelude.{◌≡◌, cond, [], ◌∷◌, ◌+◌, ◌≤◌, min, ◌*◌, leb, length};
 ghost use Rattle.mesh.specs.Picture.{row_words};
-ghost use Rattle.table.specs.Plain.{Plain};
-ghost use Rattle.walk.specs.Walkable.{Walkable};
+ghost use Rattle.table.specs.Words.{depth_of};
+ghost use Rattle.walk.specs.WalkRows.{is_end};
+ghost use Rattle.listing.specs.ListedRows.{listed_row, from_level};
+ghost use Rattle.listing.specs.Kinds.{number_of};
+ghost use Rattle.listing.specs.Scans.{lists, rows_from, rows_under};
 ghost use Rattle.listing.specs.Written.{WroteWhatFits};
 
+pub mod kinds;
+pub mod scans;
+pub mod sinks;
+
+use kinds::Kind;
+use scans::Scan;
+use sinks::{Count, Sheet, Sink};
 use table::flag_bits::{COMPLETE, WALL_H, WALL_V};
 use table::plain::{flag, link};
 use table::words::{LEVEL, raw};
 use walk::{is_bare, leaf};
-
-// Whether the level of the row n is 0 or above.
-fn grounded(t: &[i32], cap: usize, d: u32, n: usize) -> bool
-    requires { Walkable t.now cap d × (n ≤ cap) }
-    ensures { result ≡ leb d (depth_of t.now d n) }
-{
-    raw(t, n, LEVEL) >= 0
-}
-
-// Whether the row n is of the kind of a scan; leaves is whether that is 3. Leaves are asked for most, so their test stands apart.
-fn listed_row(t: &[i32], cap: usize, d: u32, kind: u8, leaves: bool, n: usize) -> bool
-    requires { Walkable t.now cap d × (n ≤ cap) × (leaves ≡ eqb kind 3) }
-    ensures { result ≡ listed_row t.now cap d kind n }
-{
-    if leaves {
-        return leaf(t, cap, n);
-    }
-    if kind == 1 {
-        return true;
-    }
-    if kind == 2 {
-        return flag(t, cap, COMPLETE, n);
-    }
-    if kind == 4 {
-        return flag(t, cap, WALL_H, n);
-    }
-    if kind == 5 {
-        return flag(t, cap, WALL_V, n);
-    }
-    if kind == 6 {
-        return grounded(t, cap, d, n);
-    }
-    false
-}
-
-// Whether the level of the row n is not below from.
-fn from_level(t: &[i32], from: i32, n: usize) -> bool
-    requires { n * row_words + row_words ≤ length t.now }
-    ensures { result ≡ from_level t.now from n }
-{
-    from <= raw(t, n, LEVEL)
-}
-
-// Whether a scan of the kind from the level from on lists the row n.
-fn scanned(t: &[i32], cap: usize, d: u32, from: i32, kind: u8, leaves: bool, n: usize) -> bool
-    requires { Walkable t.now cap d × (n ≤ cap) × (leaves ≡ eqb kind 3) }
-    ensures { result ≡ scans t.now cap d from kind n }
-{
-    if !from_level(t, from, n) {
-        return false;
-    }
-    listed_row(t, cap, d, kind, leaves, n)
-}
-
-// The kid of the row n that stands at place q of the order.
-fn kid(t: &[i32], cap: usize, n: usize, order: &[u8; 4], q: usize) -> usize
-    requires { Plain t.now cap × (n ≤ cap) × (length order.now ≡ 4) × T (all kids_word order.now) × (q < 4) }
-    ensures { (result ≤ cap) × (result ≡ link_of t.now cap n (get_or order.now q 0)) }
-{
-    let w = order[q] as usize;
-    link(t, cap, n, w)
-}
 
 // Whether nothing hangs under the row n: no level is left, or it has no kids.
 fn is_end(t: &[i32], left: u32, n: usize) -> bool
     requires { n * row_words + row_words ≤ length t.now }
     ensures { result ≡ is_end t.now left n }
 {
-    if left == 0 {
-        return true;
-    }
-    is_bare(t, n)
+    left == 0 || is_bare(t, n)
 }
 
-// Writes x at the place at, if it is asked for and fits.
-fn push(out: &mut [u16], at: usize, x: u16, asked: bool) -> usize
-    requires { at ≤ length out.old }
-    ensures { WroteWhatFits out.old at (cond asked (x ∷ []) []) out.new result }
-{
-    if !asked {
-        return at;
+impl Scan<'_> {
+    // Whether the level of the row n is not below that from which rows are listed.
+    fn from_level(&self, n: usize) -> bool
+        requires { n ≤ self.now.cap }
+        ensures { result ≡ from_level self.now.t.now self.now.from n }
+    {
+        self.from <= raw(self.t, n, LEVEL)
     }
-    if at < out.len() {
-        out[at] = x;
-        return at + 1;
-    }
-    at
-}
 
-// One more than at, if it is asked for, up to room.
-fn tally(at: usize, room: usize, asked: bool) -> usize
-    requires { at ≤ room }
-    ensures { (result ≤ room) × (result ≡ min (at + cond asked 1 0) room) }
-{
-    if !asked {
-        return at;
+    // Whether the level of the row n is 0 or above.
+    fn grounded(&self, n: usize) -> bool
+        requires { n ≤ self.now.cap }
+        ensures { result ≡ leb self.now.d (depth_of self.now.t.now self.now.d n) }
+    {
+        raw(self.t, n, LEVEL) >= 0
     }
-    if at < room { at + 1 } else { at }
-}
 
-// The numbers that a scan lists below the row n, so many levels down, written into out from the place at on as far as they fit; the next place.
-fn scan_below(
-    t: &[i32],
-    cap: usize,
-    d: u32,
-    n: usize,
-    left: u32,
-    order: &[u8; 4],
-    kind: u8,
-    leaves: bool,
-    from: i32,
-    out: &mut [u16],
-    at: usize,
-) -> usize
-    requires { Walkable t.now cap d × (n ≤ cap) × (1 ≤ left) × (leaves ≡ eqb kind 3) × (length order.now ≡ 4) × T (all kids_word order.now) × (at ≤ length out.old) }
-    ensures { WroteWhatFits out.old at (rows_below t.now cap (scans t.now cap d from kind) order.now left n) out.new result }
-{
-    let l = left - 1;
-    let mut m = at;
-    let mut q = 0;
-    while q < 4 {
-        let k = kid(t, cap, n, order, q);
-        q += 1;
-        if k != 0 {
-            let asked = scanned(t, cap, d, from, kind, leaves, k);
-            m = push(out, m, k as u16, asked);
-            if !is_end(t, l, k) {
-                m = scan_below(t, cap, d, k, l, order, kind, leaves, from, out, m);
+    // Whether the row n is of the kind of the scan. Leaves are asked for most, so their test stands first.
+    #[tactic(auto, unfolding(crate::specs::ListedRows::listed_row))]
+    fn is_of_kind(&self, n: usize) -> bool
+        requires { n ≤ self.now.cap }
+        ensures { result ≡ listed_row self.now.t.now self.now.cap self.now.d (number_of self.now.kind) n }
+    {
+        match self.kind {
+            Kind::Leaf => leaf(self.t, self.cap, n),
+            Kind::Patch => true,
+            Kind::Cell => flag(self.t, self.cap, COMPLETE, n),
+            Kind::HWall => flag(self.t, self.cap, WALL_H, n),
+            Kind::VWall => flag(self.t, self.cap, WALL_V, n),
+            Kind::Point => self.grounded(n),
+        }
+    }
+
+    fn lists(&self, n: usize) -> bool
+        requires { n ≤ self.now.cap }
+        ensures { result ≡ lists self.now n }
+    {
+        self.from_level(n) && self.is_of_kind(n)
+    }
+
+    // Takes the row n alone, if the scan lists it.
+    fn walk_one<S: Sink>(&self, n: usize, sink: &mut S)
+        requires { n ≤ self.now.cap }
+        ensures { S.Took sink.old (cond (lists self.now n) (n ∷ []) []) sink.new }
+    {
+        if self.lists(n) {
+            sink.take(n as u16);
+        }
+    }
+
+    // Takes the rows below the row n, so many levels down.
+    fn walk_below<S: Sink>(&self, n: usize, left: u32, sink: &mut S)
+        requires { (n ≤ self.now.cap) × (1 ≤ left) }
+        ensures { S.Took sink.old (rows_under self.now left n) sink.new }
+    {
+        let left = left - 1;
+        for w in &self.order {
+            let kid = link(self.t, self.cap, n, *w as usize);
+            if kid != 0 {
+                self.walk_one(kid, sink);
+                if !is_end(self.t, left, kid) {
+                    self.walk_below(kid, left, sink);
+                }
             }
         }
     }
-    m
-}
 
-// The numbers that a scan lists from the row n on.
-pub fn scan_rows(
-    t: &[i32],
-    cap: usize,
-    d: u32,
-    n: usize,
-    left: u32,
-    order: &[u8; 4],
-    kind: u8,
-    from: i32,
-    out: &mut [u16],
-) -> usize
-    requires { Walkable t.now cap d × (n ≤ cap) × (1 ≤ n) × (length order.now ≡ 4) × T (all kids_word order.now) }
-    ensures { WroteWhatFits out.old 0 (row_walk t.now cap (scans t.now cap d from kind) order.now left n) out.new result }
-{
-    let leaves = kind == 3;
-    let asked = scanned(t, cap, d, from, kind, leaves, n);
-    let m = push(out, 0, n as u16, asked);
-    if left == 0 {
-        return m;
-    }
-    scan_below(t, cap, d, n, left, order, kind, leaves, from, out, m)
-}
-
-// How far such a scan comes below the row n from the place at on, up to room.
-fn count_below(
-    t: &[i32],
-    cap: usize,
-    d: u32,
-    n: usize,
-    left: u32,
-    order: &[u8; 4],
-    kind: u8,
-    leaves: bool,
-    from: i32,
-    room: usize,
-    at: usize,
-) -> usize
-    requires { Walkable t.now cap d × (n ≤ cap) × (1 ≤ left) × (leaves ≡ eqb kind 3) × (length order.now ≡ 4) × T (all kids_word order.now) × (at ≤ room) }
-    ensures { result ≡ min (at + length (rows_below t.now cap (scans t.now cap d from kind) order.now left n)) room }
-{
-    let l = left - 1;
-    let mut m = at;
-    let mut q = 0;
-    while q < 4 {
-        let k = kid(t, cap, n, order, q);
-        q += 1;
-        if k != 0 {
-            let asked = scanned(t, cap, d, from, kind, leaves, k);
-            m = tally(m, room, asked);
-            if !is_end(t, l, k) {
-                m = count_below(t, cap, d, k, l, order, kind, leaves, from, room, m);
-            }
+    // Takes the rows from the row n on.
+    fn walk<S: Sink>(&self, n: usize, left: u32, sink: &mut S)
+        requires { (n ≤ self.now.cap) × (1 ≤ n) }
+        ensures { S.Took sink.old (rows_from self.now left n) sink.new }
+    {
+        self.walk_one(n, sink);
+        if left != 0 {
+            self.walk_below(n, left, sink);
         }
     }
-    m
-}
 
-// How many numbers a scan lists from the row n on, up to room.
-pub fn count_rows(
-    t: &[i32],
-    cap: usize,
-    d: u32,
-    n: usize,
-    left: u32,
-    order: &[u8; 4],
-    kind: u8,
-    from: i32,
-    room: usize,
-) -> usize
-    requires { Walkable t.now cap d × (n ≤ cap) × (1 ≤ n) × (length order.now ≡ 4) × T (all kids_word order.now) }
-    ensures { result ≡ min (0 + length (row_walk t.now cap (scans t.now cap d from kind) order.now left n)) room }
-{
-    let leaves = kind == 3;
-    let asked = scanned(t, cap, d, from, kind, leaves, n);
-    let m = tally(0, room, asked);
-    if left == 0 {
-        return m;
+    /// Writes the numbers that the scan lists from the row n on, as far as they fit; how many that are.
+    pub fn write(&self, n: usize, left: u32, out: &mut [u16]) -> usize
+        requires { (n ≤ self.now.cap) × (1 ≤ n) }
+        ensures { WroteWhatFits out.old 0 (rows_from self.now left n) out.new result }
+    {
+        let mut sheet = Sheet { out, at: 0 };
+        self.walk(n, left, &mut sheet);
+        sheet.at
     }
-    count_below(t, cap, d, n, left, order, kind, leaves, from, room, m)
+
+    /// How many numbers the scan lists from the row n on, up to the bound.
+    pub fn count(&self, n: usize, left: u32, bound: usize) -> usize
+        requires { (n ≤ self.now.cap) × (1 ≤ n) }
+        ensures { result ≡ min (length (rows_from self.now left n)) bound }
+    {
+        let mut count = Count { at: 0, bound };
+        self.walk(n, left, &mut count);
+        count.at
+    }
 }

@@ -17,7 +17,7 @@ use Rattle.mesh.specs.Scan.{permutation, no18}
 use Rattle.mesh.specs.Call.{unless, wrote}
 use Rattle.table.specs.Words.{taken}
 use Rattle.table.proofs.Taken.{taken-within}
-use Rattle.place_laws.proofs.Bools.{is-yes, and_right, neither}
+use Rattle.place_laws.proofs.Bools.{is-yes, and_left, and_right, neither}
 use Rattle.number_laws.proofs.Checks.{passes, kept}
 use Rattle.walk.specs.WalkRows.{kids_word, row_walk}
 use Rattle.listing.specs.ListedRows.{scans}
@@ -36,7 +36,8 @@ pub record Open (t : List ℤ) (cap n : ℕ) (o : List ℕ) (k : ℕ) (to : ℤ)
   pub within : n ≤ cap
   pub four : length o ≡ 4
   pub words : T (all kids_word o)
-  pub small : k ≤ 6
+  pub least : 1 ≤ k
+  pub most : k ≤ 6
   pub low : T (le_z (level_of t n) to)
 
 module _ (t : List ℤ) (cap n : ℕ) (o : List ℕ) (k : ℕ) (from to : ℤ) where
@@ -70,6 +71,7 @@ module _ (t : List ℤ) (cap n : ℕ) (o : List ℕ) (k : ℕ) (from to : ℤ) w
         let (q, h') = neither (not (leb 1 k && leb k 6)) _ h in
         let (u, w) = neither (lt_z from (level_of t n)) (lt_z to from) h' in
         let order = is-yes (permutation o) (not-false (permutation o) p) in
+        let known = is-yes (leb 1 k && leb k 6) (not-false (leb 1 k && leb k 6) q) in
         record {
           used = passed.0;
           order = order;
@@ -77,7 +79,8 @@ module _ (t : List ℤ) (cap n : ℕ) (o : List ℕ) (k : ℕ) (from to : ℤ) w
           within = (taken-within t cap n passed.0).1;
           four = permutation-length o order;
           words = permutation-words o order;
-          small = leb→le k 6 (and_right (leb 1 k) (leb k 6) (is-yes (leb 1 k && leb k 6) (not-false (leb 1 k && leb k 6) q)));
+          least = leb→le 1 k (and_left (leb 1 k) (leb k 6) known);
+          most = leb→le k 6 (and_right (leb 1 k) (leb k 6) known);
           low = level-trans (level_of t n) from to (not-below from (level_of t n) u) (not-below to from w);
         }
 
@@ -111,7 +114,7 @@ module _ (t : List ℤ) (cap n : ℕ) (o : List ℕ) (k : ℕ) (from to : ℤ) w
           rw (x, y, le-ltb (length out) (length xs) l, i, j)
 
   -- the rows that the code walks
-  pub scan-rows-are : (d left : ℕ) {level from' to' : ℤ} → level ≡ level_of t n → from' ≡ from → to' ≡ to → left ≡ nat_abs (to' -ℤ level)
-      → row_walk t cap (scans t cap d from' k) o left n ≡ row_scan t cap d n o k from to
+  pub scan-rows-are : (d left : ℕ) {k' : ℕ} {level from' to' : ℤ} → k' ≡ k → level ≡ level_of t n → from' ≡ from → to' ≡ to → left ≡ nat_abs (to' -ℤ level)
+      → row_walk t cap (scans t cap d from' k') o left n ≡ row_scan t cap d n o k from to
   unfolding row_scan
-  scan-rows-are d left l f g e = rw (e, l, f, g)
+  scan-rows-are d left h l f g e = rw (e, h, l, f, g)

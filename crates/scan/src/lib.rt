@@ -7,14 +7,14 @@ ghost use Rattle.mesh.specs.Tools.{any, all};
 ghost use Rattle.mesh.specs.Refusal.{refusal};
 ghost use Rattle.mesh.specs.Scan.{permutation};
 ghost use Rattle.table.specs.Plain.{Sized};
-ghost use Rattle.walk.specs.WalkRows.{kids_word, row_walk};
 ghost use Rattle.output.specs.OutputLists.{wrote_of};
-ghost use Rattle.listing.specs.ListedRows.{scans};
+ghost use Rattle.listing.specs.Scans.{rows_from};
 ghost use Rattle.scan.specs.FourBytes.{four_of};
 ghost use Rattle.scan.specs.ScanRows.{start_checks, Few, row_scan_out};
 ghost use Rattle.walk.specs.Walkable.{Walkable};
 
-use listing::{count_rows, scan_rows};
+use listing::kinds::Kind;
+use listing::scans::Scan;
 use output::Wrote;
 use table::words::{LEVEL, coded, is_taken, raw};
 
@@ -83,26 +83,13 @@ fn scan_refusal(
     0
 }
 
-// Whether the output is long enough for what a scan lists from the row n on. That is no longer than the table, so it is counted only where the
+// Whether the output is long enough for what the scan lists from the row n on. That is no longer than the table, so it is counted only where the
 // output is shorter.
-fn has_room(
-    t: &[i32],
-    cap: usize,
-    d: u32,
-    n: usize,
-    left: u32,
-    order: &[u8; 4],
-    kind: u8,
-    from: i32,
-    size: usize,
-) -> bool
-    requires { Walkable t.now cap d × (n ≤ cap) × (1 ≤ n) × (length order.now ≡ 4) × T (all kids_word order.now) × (length (row_walk t.now cap (scans t.now cap d from kind) order.now left n) ≤ cap + 1) }
-    ensures { result ≡ leb (length (row_walk t.now cap (scans t.now cap d from kind) order.now left n)) size }
+fn has_room(scan: &Scan, n: usize, left: u32, size: usize) -> bool
+    requires { (n ≤ scan.now.cap) × (1 ≤ n) × (length (rows_from scan.now left n) ≤ scan.now.cap + 1) }
+    ensures { result ≡ leb (length (rows_from scan.now left n)) size }
 {
-    if cap < size {
-        return true;
-    }
-    count_rows(t, cap, d, n, left, order, kind, from, size + 1) <= size
+    scan.cap < size || scan.count(n, left, size + 1) <= size
 }
 
 // Writes the numbers of the rows that a scan lists, if the output is long enough: that is known before the first is written.
@@ -126,13 +113,21 @@ pub fn scan_out(
         return Wrote { refusal, count: 0 };
     }
     let left = levels(raw(t, n, LEVEL), to);
-    let k = kind as u8;
-    if !has_room(t, cap, d, n, left, &order, k, from, out.len()) {
+    let kind = Kind::of(kind).unwrap();
+    let scan = Scan {
+        t,
+        cap,
+        d,
+        order,
+        kind,
+        from,
+    };
+    if !has_room(&scan, n, left, out.len()) {
         return Wrote {
             refusal: 18,
             count: 0,
         };
     }
-    let count = scan_rows(t, cap, d, n, left, &order, k, from, out);
+    let count = scan.write(n, left, out);
     Wrote { refusal: 0, count }
 }

@@ -12,7 +12,11 @@ use mir.Val.{SFits, to_z, of_z}
 use mir.Facts.{to_z-of_z}
 use borrow.Author.Rules.{sfits_of}
 use Rattle.mesh.specs.Refusal.{refusal}
+use Rattle.std.proofs.Common.{Option, Some}
 use Rattle.listing.specs.ListedRows.{scans}
+use Rattle.listing.specs.Kinds.{number_of, kind_of}
+use Rattle.listing.specs.declared.kinds.Kind.{Kind}
+use Rattle.listing.proofs.KindNumbers.{number_known, kind_known}
 use Rattle.scan.specs.ScanRows.{level_of, start_checks, row_scan}
 use Rattle.walk.specs.WalkRows.{row_walk}
 use Rattle.scan.proofs.ScanBranches.{Open, same-checks, opened, refused-scan, short-scan, whole-scan, scan-rows-are}
@@ -37,9 +41,11 @@ module _ (t : List ℤ) (cap n : ℕ) (o : List ℕ) (k : ℕ) (from to : ℤ) w
   open_at f g e z = opened t cap n o k from to (clear f g e z)
 
   -- the rows that are walked are those of the scan, and so is their count
-  walk_is : (d left : ℕ) → SFits w32 from → SFits w32 to → {level : ℤ} → SFits w32 level → level ≡ level_of t n → left ≡ nat_abs (passed to -ℤ passed level)
-      → row_walk t cap (scans t cap d (passed from) k) o left n ≡ row_scan t cap d n o k from to
-  walk_is d left f g l e h = scan-rows-are t cap n o k from to d left (to_z-of_z l ∙ e) (to_z-of_z f) (to_z-of_z g) h
+  walk_is : (d left : ℕ) (kind : Kind) → SFits w32 from → SFits w32 to → Open t cap n o k to → {known : Option Kind} → known ≡ kind_of k → known ≡ Some kind
+      → {level : ℤ} → SFits w32 level → level ≡ level_of t n → left ≡ nat_abs (passed to -ℤ passed level)
+      → row_walk t cap (scans t cap d (passed from) (number_of kind)) o left n ≡ row_scan t cap d n o k from to
+  walk_is d left kind f g h q p l e i =
+      scan-rows-are t cap n o k from to d left (number_known k h.least h.most kind (sym q ∙ p)) (to_z-of_z l ∙ e) (to_z-of_z f) (to_z-of_z g) i
 
 -- ---- what is needed
 
@@ -61,42 +67,49 @@ levels-left-requires c =
     let o = open_at a.t.now a.cap a.start a.order a.kind a.from a.to c.ranges.from c.ranges.to c.scan_refusal-refusal.ensures c.if-refusal-ne0.false in
     level-as (to_z-of_z {w = w32} (sfits_of c.raw.type_inv) ∙ c.raw.ensures) (to_z-of_z c.ranges.to) o.low
 
-pub overflow_cast-k : goal.overflow_cast-k
-overflow_cast-k c =
+pub unwrap-kind-requires : goal.unwrap-kind-requires
+unwrap-kind-requires c =
     let a = c.args in
     let o = open_at a.t.now a.cap a.start a.order a.kind a.from a.to c.ranges.from c.ranges.to c.scan_refusal-refusal.ensures c.if-refusal-ne0.false in
-    omega (arith, o.small)
+    rw c.of.ensures (kind_known a.kind o.least o.most)
+
+pub invariant_of-scan : goal.invariant_of-scan
+invariant_of-scan c =
+    let a = c.args in
+    let o = open_at a.t.now a.cap a.start a.order a.kind a.from a.to c.ranges.from c.ranges.to c.scan_refusal-refusal.ensures c.if-refusal-ne0.false in
+    record { walkable = c.requires.0; kids = o.words }
 
 pub has_room-requires : goal.has_room-requires
 has_room-requires c =
     let a = c.args in
     let f = c.ranges in
-    let e = c.scan_refusal-refusal.ensures in
-    let z = c.if-refusal-ne0.false in
-    let o = open_at a.t.now a.cap a.start a.order a.kind a.from a.to f.from f.to e z in
-    let w = walk_is a.t.now a.cap a.start a.order a.kind a.from a.to a.d c.levels-left.result f.from f.to (sfits_of {w = w32} c.raw.type_inv) c.raw.ensures c.levels-left.ensures in
-    (c.requires.0, o.within, o.first, o.four, o.words, omega (arith, c.requires.1 (clear a.t.now a.cap a.start a.order a.kind a.from a.to f.from f.to e z), ap length w))
+    let z = clear a.t.now a.cap a.start a.order a.kind a.from a.to f.from f.to c.scan_refusal-refusal.ensures c.if-refusal-ne0.false in
+    let o = opened a.t.now a.cap a.start a.order a.kind a.from a.to z in
+    let w = walk_is a.t.now a.cap a.start a.order a.kind a.from a.to a.d c.levels-left.result c.unwrap-kind.result f.from f.to o c.of.ensures c.unwrap-kind.ensures (sfits_of {w = w32} c.raw.type_inv) c.raw.ensures c.levels-left.ensures in
+    (o.within, o.first, omega (arith, c.requires.1 z, ap length w))
 
 pub returns-then-not-has_room : goal.returns-then-not-has_room
 returns-then-not-has_room c =
     let a = c.args in
     let f = c.ranges in
     let z = clear a.t.now a.cap a.start a.order a.kind a.from a.to f.from f.to c.scan_refusal-refusal.ensures c.if-refusal-ne0.false in
-    let w = walk_is a.t.now a.cap a.start a.order a.kind a.from a.to a.d c.levels-left.result f.from f.to (sfits_of {w = w32} c.raw.type_inv) c.raw.ensures c.levels-left.ensures in
+    let o = opened a.t.now a.cap a.start a.order a.kind a.from a.to z in
+    let w = walk_is a.t.now a.cap a.start a.order a.kind a.from a.to a.d c.levels-left.result c.unwrap-kind.result f.from f.to o c.of.ensures c.unwrap-kind.ensures (sfits_of {w = w32} c.raw.type_inv) c.raw.ensures c.levels-left.ensures in
     let room = c.has_room.ensures ∙ ap (λ (xs : List ℕ). leb (length xs) (length a.out.now)) w in
     short-scan a.t.now a.cap a.start a.order a.kind a.from a.to a.d a.out.now z (sym room ∙ c.if-not-has_room.true)
 
-pub scan_rows-count-requires : goal.scan_rows-count-requires
-scan_rows-count-requires c =
+pub write-count-requires : goal.write-count-requires
+write-count-requires c =
     let a = c.args in
     let o = open_at a.t.now a.cap a.start a.order a.kind a.from a.to c.ranges.from c.ranges.to c.scan_refusal-refusal.ensures c.if-refusal-ne0.false in
-    (c.requires.0, o.within, o.first, o.four, o.words)
+    (o.within, o.first)
 
 pub returns : goal.returns
 returns c =
     let a = c.args in
     let f = c.ranges in
     let z = clear a.t.now a.cap a.start a.order a.kind a.from a.to f.from f.to c.scan_refusal-refusal.ensures c.if-refusal-ne0.false in
-    let w = walk_is a.t.now a.cap a.start a.order a.kind a.from a.to a.d c.levels-left.result f.from f.to (sfits_of {w = w32} c.raw.type_inv) c.raw.ensures c.levels-left.ensures in
+    let o = opened a.t.now a.cap a.start a.order a.kind a.from a.to z in
+    let w = walk_is a.t.now a.cap a.start a.order a.kind a.from a.to a.d c.levels-left.result c.unwrap-kind.result f.from f.to o c.of.ensures c.unwrap-kind.ensures (sfits_of {w = w32} c.raw.type_inv) c.raw.ensures c.levels-left.ensures in
     let room = c.has_room.ensures ∙ ap (λ (xs : List ℕ). leb (length xs) (length a.out.now)) w in
-    whole-scan a.t.now a.cap a.start a.order a.kind a.from a.to a.d a.out.now z (sym room ∙ c.if-not-has_room.false) _ _ (wrote_as w c.scan_rows-count.ensures)
+    whole-scan a.t.now a.cap a.start a.order a.kind a.from a.to a.d a.out.now z (sym room ∙ c.if-not-has_room.false) _ _ (wrote_as w c.write-count.ensures)
