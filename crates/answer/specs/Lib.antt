@@ -1,2 +1,3 @@
--- The refusals by their numbers.
+-- The refusals by their numbers, and what a call that writes leaves.
 pub mod Refusals
+pub mod OutputLists

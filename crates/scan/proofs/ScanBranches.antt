@@ -4,7 +4,7 @@ use Prim.Native.Nat.{ℕ, zero, suc, ◌≤◌}
 use native.Mathlib.Omega.{arith}
 use mathlib.Core.Path.{◌≡◌, refl, sym, ◌∙◌}
 use mathlib.Core.Logic.{◌≢◌}
-use mathlib.Core.Bool.{Bool, true, false, not, ◌&&◌, ◌||◌, cond}
+use mathlib.Core.Bool.{Bool, true, false, not, ◌&&◌, ◌||◌}
 use mathlib.Core.List.{List, [], ◌∷◌, ◌++◌}
 use lib.Dec.{T, leb, leb→le}
 use lib.ListN.{length}
@@ -22,7 +22,6 @@ use Rattle.number_laws.proofs.Checks.{passes, kept}
 use Rattle.walk.specs.WalkRows.{kids_word, row_walk}
 use Rattle.listing.specs.ListedRows.{scans}
 use Rattle.scan.specs.ScanRows.{level_of, start_checks, row_scan, row_scan_out}
-use Rattle.output.specs.OutputLists.{wrote_of}
 use Rattle.listing.specs.Written.{WroteWhatFits}
 use Rattle.scan.proofs.OrderWords.{permutation-length, permutation-words}
 use Rattle.scan.proofs.LevelsBetween.{not-below, level-trans}
@@ -48,15 +47,10 @@ module _ (t : List ℤ) (cap n : ℕ) (o : List ℕ) (k : ℕ) (from to : ℤ) w
   pub same-checks : {from' to' : ℤ} → from' ≡ from → to' ≡ to → {r : ℕ} → r ≡ refusal (start_checks t cap n o k from' to') → r ≡ refusal start
   same-checks f g e = rw (f, g) at e
 
-  pub refused-number : {a : Bool} → a ≡ taken t cap n → not a ≡ true → 6 ≡ refusal start
-  unfolding refusal
-  refused-number e h = rw (← e, h)
-
-  -- x is how the code decides 17
-  pub decided-scan : {a b : Bool} {level from' to' : ℤ} → a ≡ taken t cap n → not a ≡ false → b ≡ permutation o → level ≡ level_of t n → from' ≡ from → to' ≡ to
-      → (x : Bool) → (not b || (not (leb 1 k && leb k 6) || (lt_z from' level || lt_z to' from'))) ≡ x → cond x 17 0 ≡ refusal start
-  unfolding refusal
-  decided-scan e h p l f g x c = rw (← e, h, ← p, ← l, ← f, ← g, c)
+  -- 17 as the code decides it
+  pub unfit : {b : Bool} {level from' to' : ℤ} → b ≡ permutation o → level ≡ level_of t n → from' ≡ from → to' ≡ to
+      → (not b || (not (leb 1 k && leb k 6) || (lt_z from' level || lt_z to' from'))) ≡ (not (permutation o) || (not (leb 1 k && leb k 6) || (lt_z from (level_of t n) || lt_z to from)))
+  unfit p l f g = rw (← p, ← l, ← f, ← g)
 
   module _ (e : refusal start ≡ 0) where
     passed : (taken t cap n ≡ true) × ((not (permutation o) || (not (leb 1 k && leb k 6) || (lt_z from (level_of t n) || lt_z to from))) ≡ false)
@@ -88,24 +82,24 @@ module _ (t : List ℤ) (cap n : ℕ) (o : List ℕ) (k : ℕ) (from to : ℤ) w
     abbrev xs : List ℕ
     xs = row_scan t cap d n o k from to
 
-    pub refused-scan : (r : ℕ) → r ≡ refusal start → r ≢ 0 → wrote_of (record { refusal = r; count = 0 }) out ≡ row_scan_out t cap d n o k from to out
+    pub refused-scan : (r : ℕ) → r ≡ refusal start → r ≢ 0 → record { refusal = r; count = 0; out = out } ≡ row_scan_out t cap d n o k from to out
     unfolding row_scan_out unless
     refused-scan r e z =
         let s : refusal (start ++ (no18 (length out) xs ∷ [])) ≡ r = kept start (no18 (length out) xs ∷ []) (λ h. z (e ∙ h)) ∙ sym e in
         rw s (go r z)
       where
-        go : (r : ℕ) → r ≢ 0 → wrote_of (record { refusal = r; count = 0 }) out ≡ wrote r xs out
+        go : (r : ℕ) → r ≢ 0 → record { refusal = r; count = 0; out = out } ≡ wrote r xs out
         go zero z = absurd (z refl)
         go (suc r) z = refl
 
     module _ (e : refusal start ≡ 0) where
-      pub short-scan : leb (length xs) (length out) ≡ false → wrote_of (record { refusal = 18; count = 0 }) out ≡ row_scan_out t cap d n o k from to out
+      pub short-scan : leb (length xs) (length out) ≡ false → record { refusal = 18; count = 0; out = out } ≡ row_scan_out t cap d n o k from to out
       unfolding row_scan_out refusal unless
       short-scan h =
           let (x, y) = passed e in
           rw (x, y, lt-ltb (length out) (length xs) (leb-false (length xs) (length out) h))
 
-      pub whole-scan : leb (length xs) (length out) ≡ true → (g : List ℕ) (q : ℕ) → WroteWhatFits out 0 xs g q → wrote_of (record { refusal = 0; count = q }) g ≡ row_scan_out t cap d n o k from to out
+      pub whole-scan : leb (length xs) (length out) ≡ true → (g : List ℕ) (q : ℕ) → WroteWhatFits out 0 xs g q → record { refusal = 0; count = q; out = g } ≡ row_scan_out t cap d n o k from to out
       unfolding row_scan_out refusal unless
       whole-scan h g q w =
           let (x, y) = passed e in

@@ -7,15 +7,16 @@ ghost use Rattle.mesh.specs.Tools.{any, all};
 ghost use Rattle.mesh.specs.Refusal.{refusal};
 ghost use Rattle.mesh.specs.Scan.{permutation};
 ghost use Rattle.table.specs.Plain.{Sized};
-ghost use Rattle.output.specs.OutputLists.{wrote_of};
+ghost use Rattle.answer.specs.Refusals.{refusal_of};
+ghost use Rattle.answer.specs.OutputLists.{wrote_of};
 ghost use Rattle.listing.specs.Scans.{rows_from};
 ghost use Rattle.scan.specs.FourBytes.{four_of};
 ghost use Rattle.scan.specs.ScanRows.{start_checks, Few, row_scan_out};
 ghost use Rattle.walk.specs.Walkable.{Walkable};
 
+use answer::{Refusal, refuse_if};
 use listing::kinds::Kind;
 use listing::scans::Scan;
-use output::Wrote;
 use table::words::{LEVEL, coded, is_taken, raw};
 
 // The order as four bytes; a list of another length is no permutation, and neither are four zeros.
@@ -67,20 +68,16 @@ fn scan_refusal(
     kind: u32,
     from: i32,
     to: i32,
-) -> u32
+) -> Result<(), Refusal>
     requires { Sized t.now cap }
-    ensures { result ≡ refusal (start_checks t.now cap n order kind from to) }
+    ensures { refusal_of result ≡ refusal (start_checks t.now cap n order kind from to) }
 {
-    if !is_taken(t, cap, n) {
-        return 6;
-    }
+    refuse_if(!is_taken(t, cap, n), Refusal::NoPatch)?;
     let level = raw(t, n, LEVEL);
     let ordered = is_order(order);
     let known = (1 <= kind) & (kind <= 6);
-    if !ordered | (!known | ((from < level) | (to < from))) {
-        return 17;
-    }
-    0
+    let unfit = !ordered | (!known | ((from < level) | (to < from)));
+    refuse_if(unfit, Refusal::BadScan)
 }
 
 // Whether the output is long enough for what the scan lists from the row n on. That is no longer than the table, so it is counted only where the
@@ -103,15 +100,12 @@ pub fn scan_out(
     from: i32,
     to: i32,
     out: &mut [u16],
-) -> Wrote
+) -> Result<usize, Refusal>
     requires { Walkable t.now cap d × Few t.now cap d start order kind from to }
     ensures { wrote_of result out.new ≡ row_scan_out t.now cap d start order kind from to out.old }
 {
     let n = start as usize;
-    let refusal = scan_refusal(t, cap, n, order, kind, from, to);
-    if refusal != 0 {
-        return Wrote { refusal, count: 0 };
-    }
+    scan_refusal(t, cap, n, order, kind, from, to)?;
     let left = levels(raw(t, n, LEVEL), to);
     let kind = Kind::of(kind).unwrap();
     let scan = Scan {
@@ -122,12 +116,6 @@ pub fn scan_out(
         kind,
         from,
     };
-    if !has_room(&scan, n, left, out.len()) {
-        return Wrote {
-            refusal: 18,
-            count: 0,
-        };
-    }
-    let count = scan.write(n, left, out);
-    Wrote { refusal: 0, count }
+    refuse_if(!has_room(&scan, n, left, out.len()), Refusal::TooShort)?;
+    Ok(scan.write(n, left, out))
 }

@@ -2,7 +2,7 @@
 -- they fit.
 use Prim.Native.Nat.{ℕ}
 use native.Mathlib.Omega.{arith}
-use mathlib.Core.Path.{◌≡◌, sym, ap, ◌∙◌}
+use mathlib.Core.Path.{refl, ◌≡◌, sym, ap, ◌∙◌}
 use mathlib.Core.List.{List}
 use lib.Dec.{leb}
 use lib.IntN.{ℤ, ◌-ℤ◌, nat_abs}
@@ -22,6 +22,13 @@ use Rattle.walk.specs.WalkRows.{row_walk}
 use Rattle.scan.proofs.ScanBranches.{Open, same-checks, opened, refused-scan, short-scan, whole-scan, scan-rows-are}
 use Rattle.listing.proofs.Writing.{wrote_as}
 use Rattle.scan.proofs.LevelsBetween.{level-as}
+use Rattle.std.proofs.Common.{rules, Err}
+use Rattle.std.proofs.lemmas.Bool.{not-true, not-false}
+use Rattle.answer.specs.declared.Refusal.{Refusal}
+use Rattle.answer.specs.declared.Refusal.TheVariants.{TooShort}
+use Rattle.answer.specs.OutputLists.{wrote_of}
+use Rattle.answer.proofs.Numbers.{not-zero}
+use Rattle.answer.proofs.InOrder.{refuses, passes}
 use Rattle.scan.proofs.scan_out.Goals as goal
 
 -- ---- the levels as the code passes them on
@@ -49,67 +56,71 @@ module _ (t : List ℤ) (cap n : ℕ) (o : List ℕ) (k : ℕ) (from to : ℤ) w
 
 -- ---- what is needed
 
-pub returns-then-refusal-ne0 : goal.returns-then-refusal-ne0
-returns-then-refusal-ne0 c =
+pub returns-in_err-scan_refusal : goal.returns-in_err-scan_refusal
+returns-in_err-scan_refusal c =
     let a = c.args in
-    let e = checked a.t.now a.cap a.start a.order a.kind a.from a.to c.ranges.from c.ranges.to c.scan_refusal-refusal.ensures in
-    refused-scan a.t.now a.cap a.start a.order a.kind a.from a.to a.d a.out.now _ e c.if-refusal-ne0.true
+    let r = c.in_err-scan_refusal.field-0.0 in
+    let e = checked a.t.now a.cap a.start a.order a.kind a.from a.to c.ranges.from c.ranges.to c.in_err-scan_refusal.ensures in
+    let o : wrote_of c.from_residual.result a.out.now ≡ wrote_of (Err r) a.out.now = search rules in
+    o ∙ refused-scan a.t.now a.cap a.start a.order a.kind a.from a.to a.d a.out.now _ e (not-zero r)
 
 pub raw-requires : goal.raw-requires
 raw-requires c =
     let a = c.args in
-    let o = open_at a.t.now a.cap a.start a.order a.kind a.from a.to c.ranges.from c.ranges.to c.scan_refusal-refusal.ensures c.if-refusal-ne0.false in
+    let o = open_at a.t.now a.cap a.start a.order a.kind a.from a.to c.ranges.from c.ranges.to c.in_ok-scan_refusal.ensures refl in
     omega (arith, o.within, c.requires.0.plain.sized.words)
 
 pub levels-left-requires : goal.levels-left-requires
 levels-left-requires c =
     let a = c.args in
-    let o = open_at a.t.now a.cap a.start a.order a.kind a.from a.to c.ranges.from c.ranges.to c.scan_refusal-refusal.ensures c.if-refusal-ne0.false in
+    let o = open_at a.t.now a.cap a.start a.order a.kind a.from a.to c.ranges.from c.ranges.to c.in_ok-scan_refusal.ensures refl in
     level-as (to_z-of_z {w = w32} (sfits_of c.raw.type_inv) ∙ c.raw.ensures) (to_z-of_z c.ranges.to) o.low
 
 pub unwrap-kind-requires : goal.unwrap-kind-requires
 unwrap-kind-requires c =
     let a = c.args in
-    let o = open_at a.t.now a.cap a.start a.order a.kind a.from a.to c.ranges.from c.ranges.to c.scan_refusal-refusal.ensures c.if-refusal-ne0.false in
+    let o = open_at a.t.now a.cap a.start a.order a.kind a.from a.to c.ranges.from c.ranges.to c.in_ok-scan_refusal.ensures refl in
     rw c.of.ensures (kind_known a.kind o.least o.most)
 
 pub invariant_of-scan : goal.invariant_of-scan
 invariant_of-scan c =
     let a = c.args in
-    let o = open_at a.t.now a.cap a.start a.order a.kind a.from a.to c.ranges.from c.ranges.to c.scan_refusal-refusal.ensures c.if-refusal-ne0.false in
+    let o = open_at a.t.now a.cap a.start a.order a.kind a.from a.to c.ranges.from c.ranges.to c.in_ok-scan_refusal.ensures refl in
     record { walkable = c.requires.0; kids = o.words }
 
 pub has_room-requires : goal.has_room-requires
 has_room-requires c =
     let a = c.args in
     let f = c.ranges in
-    let z = clear a.t.now a.cap a.start a.order a.kind a.from a.to f.from f.to c.scan_refusal-refusal.ensures c.if-refusal-ne0.false in
+    let z = clear a.t.now a.cap a.start a.order a.kind a.from a.to f.from f.to c.in_ok-scan_refusal.ensures refl in
     let o = opened a.t.now a.cap a.start a.order a.kind a.from a.to z in
     let w = walk_is a.t.now a.cap a.start a.order a.kind a.from a.to a.d c.levels-left.result c.unwrap-kind.result f.from f.to o c.of.ensures c.unwrap-kind.ensures (sfits_of {w = w32} c.raw.type_inv) c.raw.ensures c.levels-left.ensures in
     (o.within, o.first, omega (arith, c.requires.1 z, ap length w))
 
-pub returns-then-not-has_room : goal.returns-then-not-has_room
-returns-then-not-has_room c =
+pub returns-in_err-refuse_if : goal.returns-in_err-refuse_if
+returns-in_err-refuse_if c =
     let a = c.args in
     let f = c.ranges in
-    let z = clear a.t.now a.cap a.start a.order a.kind a.from a.to f.from f.to c.scan_refusal-refusal.ensures c.if-refusal-ne0.false in
+    let z = clear a.t.now a.cap a.start a.order a.kind a.from a.to f.from f.to c.in_ok-scan_refusal.ensures refl in
     let o = opened a.t.now a.cap a.start a.order a.kind a.from a.to z in
     let w = walk_is a.t.now a.cap a.start a.order a.kind a.from a.to a.d c.levels-left.result c.unwrap-kind.result f.from f.to o c.of.ensures c.unwrap-kind.ensures (sfits_of {w = w32} c.raw.type_inv) c.raw.ensures c.levels-left.ensures in
     let room = c.has_room.ensures ∙ ap (λ (xs : List ℕ). leb (length xs) (length a.out.now)) w in
-    short-scan a.t.now a.cap a.start a.order a.kind a.from a.to a.d a.out.now z (sym room ∙ c.if-not-has_room.true)
+    let (short, same) = refuses _ TooShort c.in_err-refuse_if.ensures in
+    let r : wrote_of c.from_residual-in_err-refuse_if.result a.out.now ≡ wrote_of (Err c.in_err-refuse_if.field-0.0) a.out.now = search rules in
+    r ∙ ap (λ (x : Refusal). wrote_of (Err x) a.out.now) same ∙ short-scan a.t.now a.cap a.start a.order a.kind a.from a.to a.d a.out.now z (sym room ∙ not-true _ short)
 
-pub write-count-requires : goal.write-count-requires
-write-count-requires c =
+pub write-requires : goal.write-requires
+write-requires c =
     let a = c.args in
-    let o = open_at a.t.now a.cap a.start a.order a.kind a.from a.to c.ranges.from c.ranges.to c.scan_refusal-refusal.ensures c.if-refusal-ne0.false in
+    let o = open_at a.t.now a.cap a.start a.order a.kind a.from a.to c.ranges.from c.ranges.to c.in_ok-scan_refusal.ensures refl in
     (o.within, o.first)
 
 pub returns : goal.returns
 returns c =
     let a = c.args in
     let f = c.ranges in
-    let z = clear a.t.now a.cap a.start a.order a.kind a.from a.to f.from f.to c.scan_refusal-refusal.ensures c.if-refusal-ne0.false in
+    let z = clear a.t.now a.cap a.start a.order a.kind a.from a.to f.from f.to c.in_ok-scan_refusal.ensures refl in
     let o = opened a.t.now a.cap a.start a.order a.kind a.from a.to z in
     let w = walk_is a.t.now a.cap a.start a.order a.kind a.from a.to a.d c.levels-left.result c.unwrap-kind.result f.from f.to o c.of.ensures c.unwrap-kind.ensures (sfits_of {w = w32} c.raw.type_inv) c.raw.ensures c.levels-left.ensures in
     let room = c.has_room.ensures ∙ ap (λ (xs : List ℕ). leb (length xs) (length a.out.now)) w in
-    whole-scan a.t.now a.cap a.start a.order a.kind a.from a.to a.d a.out.now z (sym room ∙ c.if-not-has_room.false) _ _ (wrote_as w c.write-count.ensures)
+    whole-scan a.t.now a.cap a.start a.order a.kind a.from a.to a.d a.out.now z (sym room ∙ not-false _ (passes _ TooShort c.in_ok-refuse_if.ensures)) _ _ (wrote_as w c.write.ensures)
