@@ -1,10 +1,10 @@
 -- No refusal has the number 0, and no two have the same.
 -- Assumes nothing.
-use Rattle.std.specs.Prelude.{◌≡◌, ◌≢◌, ℕ, ◌-◌, ◌<◌, List, [], ◌∷◌, Option, None, Some, slice_get}
-use Rattle.std.proofs.Common.{refl, sym, ap, ◌∙◌, arith}
+use Rattle.std.specs.Prelude.{◌≡◌, ◌≢◌, ℕ, ◌-◌, ◌<◌, List, [], ◌∷◌, Option, None, Some, slice_get, Result, Ok, Err, zero, suc}
+use Rattle.std.proofs.Common.{refl, sym, ap, ap₂, ◌∙◌, arith}
 use Rattle.answer.specs.declared.Refusal.{Refusal}
 use Rattle.answer.specs.declared.Refusal.TheVariants.{BadLengths, BadHeader, Unsound, CutOff, UnknownKind, NoPatch, NoCell, HasKids, TopLevel, IsSentenced, TooFewFree, WrongLevel, NoKids, KidsNotSentenced, LastCell, NotFinite, BadScan, TooShort, NotFound, TooLong, CoarserBeside, FinerBeside, NoSuchCount}
-use Rattle.answer.specs.Refusals.{number}
+use Rattle.answer.specs.Refusals.{number, refusal_of, value_or}
 
 -- in the order of the numbers
 all : List Refusal
@@ -74,3 +74,43 @@ above-zero NoSuchCount = omega arith
 
 pub not-zero : (r : Refusal) → number r ≢ 0
 not-zero r z = let a = above-zero r in omega (arith, z)
+
+-- ---- an answer is known by the number of its refusal and by its value
+
+read : {A : Type 0} → ℕ → A → Result A Refusal
+read zero x = Ok x
+read (suc n) x = Err (held CutOff (numbered (suc n)))
+
+read-back : {A : Type 0} (r : Refusal) (x : A) → read (number r) x ≡ Err r
+unfolding read held numbered all
+read-back BadLengths x = refl
+read-back BadHeader x = refl
+read-back Unsound x = refl
+read-back CutOff x = refl
+read-back UnknownKind x = refl
+read-back NoPatch x = refl
+read-back NoCell x = refl
+read-back HasKids x = refl
+read-back TopLevel x = refl
+read-back IsSentenced x = refl
+read-back TooFewFree x = refl
+read-back WrongLevel x = refl
+read-back NoKids x = refl
+read-back KidsNotSentenced x = refl
+read-back LastCell x = refl
+read-back NotFinite x = refl
+read-back BadScan x = refl
+read-back TooShort x = refl
+read-back NotFound x = refl
+read-back TooLong x = refl
+read-back CoarserBeside x = refl
+read-back FinerBeside x = refl
+read-back NoSuchCount x = refl
+
+read-answer : {A : Type 0} (x : A) (r : Result A Refusal) → read (refusal_of r) (value_or x r) ≡ r
+unfolding read
+read-answer x (Ok y) = refl
+read-answer x (Err r) = read-back r x
+
+pub same-answer : {A : Type 0} (x : A) (r s : Result A Refusal) → refusal_of r ≡ refusal_of s → value_or x r ≡ value_or x s → r ≡ s
+same-answer x r s e f = sym (read-answer x r) ∙ ap₂ read e f ∙ read-answer x s

@@ -1,6 +1,6 @@
 -- The number of each refusal, and of what is answered.
 -- Assumes nothing.
-use Rattle.std.specs.Prelude.{ℕ, Result, Ok, Err}
+use Rattle.std.specs.Prelude.{ℕ, Option, None, Some, Result, Ok, Err}
 use Rattle.answer.specs.declared.Refusal.{Refusal}
 use Rattle.answer.specs.declared.Refusal.TheVariants.{BadLengths, BadHeader, Unsound, CutOff, UnknownKind, NoPatch, NoCell, HasKids, TopLevel, IsSentenced, TooFewFree, WrongLevel, NoKids, KidsNotSentenced, LastCell, NotFinite, BadScan, TooShort, NotFound, TooLong, CoarserBeside, FinerBeside, NoSuchCount}
 
@@ -33,3 +33,13 @@ number NoSuchCount = 23
 abbrev pub refusal_of : {A : Type 0} → Result A Refusal → ℕ
 refusal_of (Ok _) = 0
 refusal_of (Err r) = number r
+
+-- what an answer holds, x if it is refused
+abbrev pub value_or : {A : Type 0} → A → Result A Refusal → A
+value_or x (Ok y) = y
+value_or x (Err r) = x
+
+-- a stop on the way: the number of the refusal, 0 for none
+abbrev pub stop_of : Option Refusal → ℕ
+stop_of None = 0
+stop_of (Some r) = number r
