@@ -1,4 +1,4 @@
-// The public calls of the grid library. Every call takes any lists of any length and any header, and refuses by number; none has a `requires`.
+// The public calls of the grid library. Every call takes any lists of any length and any header, and refuses by name; none has a `requires`.
 #![tactic(auto)]
 
 ghost use Rattle.std.specs.Prelude.{◌≡◌};
@@ -6,32 +6,34 @@ ghost use Rattle.mesh.specs.Refusal.{refusal};
 ghost use Rattle.mesh.specs.Call.{check_call, scan_call, lookup_call, page_call, build_checks, count_call};
 ghost use Rattle.header.specs.Headers.{header_of, lent_of, counted_of};
 ghost use Rattle.lookup.specs.LookupRows.{found_of};
-ghost use Rattle.output.specs.OutputLists.{wrote_of};
+ghost use Rattle.answer.specs.Refusals.{refusal_of};
+ghost use Rattle.answer.specs.OutputLists.{wrote_of};
 ghost use Rattle.grid.specs.Calls.{Builds, Tapes, count_of};
 
+use answer::{Refusal, refuse_if};
 use checker::checks;
+use checker::first_checks::first_refusal;
 use header::{Header, fresh, with_mark};
-use lookup::{Found, Reading};
-use output::Wrote;
+use lookup::Leaf;
 use tally::COUNT_PLACES;
 use tally::full::put_built;
 
-// What a build answers: a refusal or 0, and the number in use.
-#[derive(Clone, Copy)]
-pub struct Built {
-    pub refusal: u32,
-    pub used: usize,
-}
-
+// The header that a build leaves, and what it answers: the number in use.
 #[derive(Clone, Copy)]
 pub struct BuildOut {
     pub header: Header,
-    pub answer: Built,
+    pub answer: Result<usize, Refusal>,
 }
 
-// Whether the table, the values and the header are sound, and the counts are theirs: 0 for yes, or refusal 1, 2 or 3.
-pub fn check(header: Header, table: &[i32], values: &[f64], counts: &[u32], capacity: u32) -> u32
-    ensures { result ≡ check_call capacity (counted_of header table.now values.now counts.now) }
+// Whether the table, the values and the header are sound, and the counts are theirs.
+pub fn check(
+    header: Header,
+    table: &[i32],
+    values: &[f64],
+    counts: &[u32],
+    capacity: u32,
+) -> Result<(), Refusal>
+    ensures { refusal_of result ≡ check_call capacity (counted_of header table.now values.now counts.now) }
 {
     checks::check_counted(header, table, values, counts, capacity)
 }
@@ -48,13 +50,10 @@ pub fn scan(
     from: i32,
     to: i32,
     out: &mut [u16],
-) -> Wrote
+) -> Result<usize, Refusal>
     ensures { wrote_of result out.new ≡ scan_call capacity (lent_of header table.now values.now) start order kind from to out.old }
 {
-    let refusal = checks::check(header, table, values, capacity);
-    if refusal != 0 {
-        return Wrote { refusal, count: 0 };
-    }
+    checks::check(header, table, values, capacity)?;
     let d = header::ground_depth(header);
     scan::scan_out(
         table,
@@ -70,56 +69,53 @@ pub fn scan(
 }
 
 // The leaf that holds a point, given in 1/4096 of a level-0 cell, and its value.
-pub fn lookup(header: Header, table: &[i32], values: &[f64], capacity: u32, x: u32, y: u32) -> Found
+pub fn lookup(
+    header: Header,
+    table: &[i32],
+    values: &[f64],
+    capacity: u32,
+    x: u32,
+    y: u32,
+) -> Result<Leaf, Refusal>
     ensures { found_of result ≡ lookup_call capacity (lent_of header table.now values.now) x y }
 {
-    let refusal = checks::check(header, table, values, capacity);
-    if refusal != 0 {
-        return Found {
-            refusal: refusal,
-            leaf: 0,
-            reading: Reading::Blank,
-        };
-    }
+    checks::check(header, table, values, capacity)?;
     let d = header::ground_depth(header);
     lookup::lookup_out(header, table, values, capacity as usize, d, x, y)
 }
 
 // The dossier page.
-pub fn page(header: Header, table: &[i32], values: &[f64], capacity: u32, out: &mut [u8]) -> Wrote
+pub fn page(
+    header: Header,
+    table: &[i32],
+    values: &[f64],
+    capacity: u32,
+    out: &mut [u8],
+) -> Result<usize, Refusal>
     ensures { wrote_of result out.new ≡ page_call capacity (lent_of header table.now values.now) out.old }
 {
-    let refusal = checks::check(header, table, values, capacity);
-    if refusal != 0 {
-        return Wrote { refusal, count: 0 };
-    }
+    checks::check(header, table, values, capacity)?;
     let d = header::ground_depth(header);
     page::pages::write_page(header, table, values, capacity as usize, d, out)
 }
 
-// The refusal of a build, or 0: the old contents of the lists are not read.
+// What a build is refused for: the old contents of the lists are not read.
 fn build_refusal(
     table: &[i32],
     values: &[f64],
     counts: &[u32],
     capacity: u32,
     header: Header,
-) -> u32
-    ensures { result ≡ refusal (build_checks capacity (counted_of header table.now values.now counts.now) (header_of header).grid) }
+) -> Result<(), Refusal>
+    ensures { refusal_of result ≡ refusal (build_checks capacity (counted_of header table.now values.now counts.now) (header_of header).grid) }
 {
-    if counts.len() != COUNT_PLACES {
-        return 1;
-    }
-    let early = checker::first_checks::first_refusal(header, table, values, capacity);
-    if early != 0 {
-        return early;
-    }
-    let cap = capacity as usize;
+    refuse_if(counts.len() != COUNT_PLACES, Refusal::BadLengths)?;
+    first_refusal(header, table, values, capacity)?;
     let d = header::ground_depth(header);
-    if cap < count::patches_in(header, d) {
-        return 11;
-    }
-    0
+    refuse_if(
+        (capacity as usize) < count::patches_in(header, d),
+        Refusal::TooFewFree,
+    )
 }
 
 // The build on the header by value.
@@ -136,26 +132,26 @@ pub fn build_core(
     ensures { Builds (counted_of header table.old values.old counts.old) capacity columns rows mode (counted_of result.header table.new values.new counts.new) result.answer }
 {
     let new = fresh(columns, rows, mode);
-    let refusal = build_refusal(table, values, counts, capacity, new);
-    if refusal != 0 {
+    if let Err(refusal) = build_refusal(table, values, counts, capacity, new) {
         return BuildOut {
             header,
-            answer: Built { refusal, used: 0 },
+            answer: Err(refusal),
         };
     }
     let used = build::build_table(table, values, capacity as usize, new);
     put_built(counts, columns * rows);
     BuildOut {
         header: new,
-        answer: Built { refusal: 0, used },
+        answer: Ok(used),
     }
 }
 
-// What a tape answers: the requests done, the refusal of the next one or 0, and its offset or the tape's length.
+// What a tape answers: the requests done, which stand although the next one is refused, what that one is refused for, and its offset or the
+// tape's length.
 #[derive(Clone, Copy)]
 pub struct Taped {
     pub done: usize,
-    pub refusal: u32,
+    pub refusal: Option<Refusal>,
     pub offset: usize,
 }
 
@@ -176,13 +172,12 @@ pub fn tape_core(
 ) -> TapeOut
     ensures { Tapes (counted_of header table.old values.old counts.old) capacity tape.now (counted_of result.header table.new values.new counts.new) result.answer }
 {
-    let refusal = check(header, table, values, counts, capacity);
-    if refusal != 0 {
+    if let Err(refusal) = check(header, table, values, counts, capacity) {
         return TapeOut {
             header,
             answer: Taped {
                 done: 0,
-                refusal,
+                refusal: Some(refusal),
                 offset: 0,
             },
         };
@@ -218,7 +213,7 @@ pub fn build(
     columns: u32,
     rows: u32,
     mode: u32,
-) -> Built
+) -> Result<usize, Refusal>
     ensures { Builds (counted_of header.old table.old values.old counts.old) capacity columns rows mode (counted_of header.new table.new values.new counts.new) result }
 {
     let out = build_core(
@@ -244,32 +239,12 @@ pub fn tape(
     out.answer
 }
 
-// What the question answers: a refusal or 0, and the number.
-#[derive(Clone, Copy)]
-pub struct HowMany {
-    pub refusal: u32,
-    pub count: u32,
-}
-
 // How many leaves of a level have a status, by the list of counts alone.
-pub fn count(counts: &[u32], level: u32, status: u32) -> HowMany
+pub fn count(counts: &[u32], level: u32, status: u32) -> Result<u32, Refusal>
     ensures { count_of result ≡ count_call counts.now level status }
 {
-    if counts.len() != COUNT_PLACES {
-        return HowMany {
-            refusal: 1,
-            count: 0,
-        };
-    }
-    if (12 < level) | (2 < status) {
-        return HowMany {
-            refusal: 23,
-            count: 0,
-        };
-    }
+    refuse_if(counts.len() != COUNT_PLACES, Refusal::BadLengths)?;
+    refuse_if((12 < level) | (2 < status), Refusal::NoSuchCount)?;
     let place = (3 * level + status) as usize;
-    HowMany {
-        refusal: 0,
-        count: counts[place],
-    }
+    Ok(counts[place])
 }

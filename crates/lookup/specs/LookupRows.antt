@@ -1,6 +1,6 @@
 -- Lookup as the code meets the rows, and what it answers past the first checks.
 -- Assumes nothing.
-use Rattle.std.specs.Prelude.{ℕ, zero, suc, ◌+◌, ◌/◌, ◌%◌, ◌^◌, ◌&&◌, cond, List, [], ◌∷◌, eqb, ltb, ℤ, Float, Result, Ok, Err}
+use Rattle.std.specs.Prelude.{ℕ, zero, suc, ◌+◌, ◌/◌, ◌%◌, ◌^◌, ◌&&◌, cond, List, [], ◌∷◌, eqb, ltb, ℤ, Float, Result}
 use Rattle.mesh.specs.State.{Value, blank, measured, carried}
 use Rattle.mesh.specs.Refusal.{◌if◌, refusal}
 use Rattle.mesh.specs.Place.{Grid}
@@ -11,7 +11,7 @@ use Rattle.carried.specs.Carried.{carried_of, value_carried}
 use Rattle.worked.specs.Worked.{kid_word}
 use Rattle.walk.specs.WalkRows.{leaf_row}
 use Rattle.answer.specs.declared.Refusal.{Refusal}
-use Rattle.answer.specs.Refusals.{number}
+use Rattle.answer.specs.Refusals.{refusal_of, value_or}
 use Rattle.lookup.specs.declared.Leaf.{Leaf}
 use Rattle.lookup.specs.declared.Reading.{Reading}
 use Rattle.lookup.specs.declared.Reading.TheVariants.{Measured, Carried, Blank}
@@ -49,6 +49,9 @@ value_of_reading (Measured x) = measured x
 value_of_reading (Carried x) = carried x
 value_of_reading Blank = blank
 
+-- "number 0 and blank"
+abbrev pub no_leaf : Leaf
+no_leaf = record { number = 0; reading = Blank }
+
 abbrev pub found_of : Result Leaf Refusal → Found
-found_of (Ok leaf) = record { refusal = 0; leaf = leaf.number; value = value_of_reading leaf.reading }
-found_of (Err r) = record { refusal = number r; leaf = 0; value = blank }
+found_of r = let leaf = value_or no_leaf r in record { refusal = refusal_of r; leaf = leaf.number; value = value_of_reading leaf.reading }
