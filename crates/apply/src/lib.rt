@@ -5,12 +5,12 @@
 ghost use Rattle.std.specs.Prelude.{◌≡◌};
 ghost use Rattle.mesh.specs.Request.{refine, sentence, remove, kill, set_value};
 ghost use Rattle.table.specs.Words.{free_at};
-ghost use Rattle.free.specs.FreeMap.{Mapped};
+ghost use Rattle.free.specs.FreeMap.{Maps};
 ghost use Rattle.apply.specs.Drawn.{lists, Standing};
 ghost use Rattle.apply.specs.Applied.{Applied};
 ghost use Rattle.apply.specs.Asked.{Whole, AppliedAt};
 
-use free::map::Spare;
+use free::map::FreeMap;
 use kinds::{number_at, value_at};
 use refusals::one_row::{sentence_at, set_at};
 use refusals::requests::{
@@ -18,33 +18,26 @@ use refusals::requests::{
 };
 use tally::moves::{killed, refined, removed, valued};
 
-// The refusal, 0 for none, and what is kept beside the map.
-#[derive(Clone, Copy)]
-pub struct Decided {
-    pub refusal: u32,
-    pub spare: Spare,
-}
-
+// Each answers the refusal, 0 for none.
 pub fn refine(
     t: &mut [i32],
     v: &mut [f64],
     c: &mut [u32],
     cap: usize,
-    map: &mut [u64; 64],
-    s: Spare,
+    map: &mut FreeMap,
     d: u32,
     n: usize,
-) -> Decided
-    requires { Standing cap d t.old v.old c.old × Mapped (free_at t.old) map.old s.top s.count }
-    ensures { Applied (refine n) cap d (lists t.old v.old c.old) (lists t.new v.new c.new) result.refusal × Mapped (free_at t.new) map.new result.spare.top result.spare.count }
+) -> u32
+    requires { Standing cap d t.old v.old c.old × Maps map.old (free_at t.old) }
+    ensures { Applied (refine n) cap d (lists t.old v.old c.old) (lists t.new v.new c.new) result × Maps map.new (free_at t.new) }
 {
-    let refusal = refine_refusal(t, cap, n, s.count);
+    let refusal = refine_refusal(t, cap, n, map.count());
     if refusal != 0 {
-        return Decided { refusal, spare: s };
+        return refusal;
     }
     refined(t, v, c, cap, n);
-    let spare = refine::refine(t, v, cap, map, s, d, n);
-    Decided { refusal: 0, spare }
+    refine::refine(t, v, cap, map, d, n);
+    0
 }
 
 pub fn sentence(t: &mut [i32], v: &[f64], c: &[u32], cap: usize, d: u32, n: usize) -> u32
@@ -64,21 +57,20 @@ pub fn remove(
     v: &mut [f64],
     c: &mut [u32],
     cap: usize,
-    map: &mut [u64; 64],
-    s: Spare,
+    map: &mut FreeMap,
     d: u32,
     n: usize,
-) -> Decided
-    requires { Standing cap d t.old v.old c.old × Mapped (free_at t.old) map.old s.top s.count }
-    ensures { Applied (remove n) cap d (lists t.old v.old c.old) (lists t.new v.new c.new) result.refusal × Mapped (free_at t.new) map.new result.spare.top result.spare.count }
+) -> u32
+    requires { Standing cap d t.old v.old c.old × Maps map.old (free_at t.old) }
+    ensures { Applied (remove n) cap d (lists t.old v.old c.old) (lists t.new v.new c.new) result × Maps map.new (free_at t.new) }
 {
     let refusal = remove_refusal(t, cap, n);
     if refusal != 0 {
-        return Decided { refusal, spare: s };
+        return refusal;
     }
     removed(t, v, c, cap, n);
-    let spare = remove::remove(t, v, cap, map, s, d, n);
-    Decided { refusal: 0, spare }
+    remove::remove(t, v, cap, map, d, n);
+    0
 }
 
 pub fn kill(
@@ -86,21 +78,20 @@ pub fn kill(
     v: &mut [f64],
     c: &mut [u32],
     cap: usize,
-    map: &mut [u64; 64],
-    s: Spare,
+    map: &mut FreeMap,
     d: u32,
     n: usize,
-) -> Decided
-    requires { Standing cap d t.old v.old c.old × Mapped (free_at t.old) map.old s.top s.count }
-    ensures { Applied (kill n) cap d (lists t.old v.old c.old) (lists t.new v.new c.new) result.refusal × Mapped (free_at t.new) map.new result.spare.top result.spare.count }
+) -> u32
+    requires { Standing cap d t.old v.old c.old × Maps map.old (free_at t.old) }
+    ensures { Applied (kill n) cap d (lists t.old v.old c.old) (lists t.new v.new c.new) result × Maps map.new (free_at t.new) }
 {
     let refusal = kill_refusal(t, cap, d, n);
     if refusal != 0 {
-        return Decided { refusal, spare: s };
+        return refusal;
     }
     killed(t, v, c, cap, n);
-    let spare = kill::kill(t, v, cap, map, s, d, n);
-    Decided { refusal: 0, spare }
+    kill::kill(t, v, cap, map, d, n);
+    0
 }
 
 pub fn set_value(
@@ -130,31 +121,20 @@ pub fn request(
     v: &mut [f64],
     c: &mut [u32],
     cap: usize,
-    map: &mut [u64; 64],
-    s: Spare,
+    map: &mut FreeMap,
     d: u32,
     tape: &[u8],
     at: usize,
-) -> Decided
-    requires { Standing cap d t.old v.old c.old × Mapped (free_at t.old) map.old s.top s.count × Whole tape.now at }
-    ensures { AppliedAt tape.now at cap d (lists t.old v.old c.old) (lists t.new v.new c.new) result.refusal × Mapped (free_at t.new) map.new result.spare.top result.spare.count }
+) -> u32
+    requires { Standing cap d t.old v.old c.old × Maps map.old (free_at t.old) × Whole tape.now at }
+    ensures { AppliedAt tape.now at cap d (lists t.old v.old c.old) (lists t.new v.new c.new) result × Maps map.new (free_at t.new) }
 {
-    let k = tape[at];
-    match k {
-        1 => refine(t, v, c, cap, map, s, d, number_at(tape, at)),
-        2 => {
-            let refusal = sentence(t, v, c, cap, d, number_at(tape, at));
-            Decided { refusal, spare: s }
-        }
-        3 => remove(t, v, c, cap, map, s, d, number_at(tape, at)),
-        4 => kill(t, v, c, cap, map, s, d, number_at(tape, at)),
-        5 => {
-            let refusal = set_value(t, v, c, cap, d, number_at(tape, at), value_at(tape, at));
-            Decided { refusal, spare: s }
-        }
-        _ => Decided {
-            refusal: 5,
-            spare: s,
-        },
+    match tape[at] {
+        1 => refine(t, v, c, cap, map, d, number_at(tape, at)),
+        2 => sentence(t, v, c, cap, d, number_at(tape, at)),
+        3 => remove(t, v, c, cap, map, d, number_at(tape, at)),
+        4 => kill(t, v, c, cap, map, d, number_at(tape, at)),
+        5 => set_value(t, v, c, cap, d, number_at(tape, at), value_at(tape, at)),
+        _ => 5,
     }
 }

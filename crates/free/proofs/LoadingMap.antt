@@ -1,10 +1,10 @@
--- A map that is filled from the rows of a table, from the last to the first: before each of them it has the free rows above.
+-- A map that is filled from the rows of a table: before each of them it has the free rows below.
 -- Assumes nothing.
-use Prim.Native.Nat.{ℕ, zero, suc, ◌+◌, ◌-◌, ◌*◌, ◌/◌, ◌%◌, ◌<◌}
+use Prim.Native.Nat.{ℕ, zero, suc, ◌+◌, ◌*◌, ◌/◌, ◌%◌, ◌<◌}
 use native.Mathlib.Omega.{arith}
 use native.Mathlib.Decide.{dec_lt, ℕ_discrete}
 use mathlib.Core.Path.{◌≡◌, refl, sym, ap, ◌∙◌}
-use mathlib.Core.Bool.{Bool, false, cond}
+use mathlib.Core.Bool.{Bool, true, false, cond}
 use mathlib.Core.List.{List}
 use lib.Dec.{eqb, ltb}
 use lib.IntN.{ℤ}
@@ -12,9 +12,9 @@ use lib.ListN.{length, get_or, replicate}
 use borrow.Author.Tests.{eq-eqb, ne_eqb, lt-ltb, le-ltb}
 use Rattle.mesh.specs.Picture.{row_words}
 use Rattle.table.specs.Words.{free_at}
-use Rattle.free.specs.FreeMap.{bit, map_bit, switched, Mapped}
+use Rattle.free.specs.FreeMap.{bit, map_bit, switched, Maps, Mapped}
 use Rattle.free.proofs.MapBits.{bit-of-zero}
-use Rattle.free.proofs.Switching.{total-none, mapped-same}
+use Rattle.free.proofs.Switching.{total-none, maps-same, switched-here, switched-there}
 use Rattle.free.proofs.FreeRows.{free-within}
 
 -- ---- the empty map
@@ -28,48 +28,55 @@ empty-bit : (n : ℕ) → map_bit (replicate 64 0) n ≡ 0
 unfolding map_bit
 empty-bit n = ap (λ (x : ℕ). bit x (n % 64)) (zeros 64 (n / 64)) ∙ bit-of-zero (n % 64)
 
-empty-mapped : Mapped (λ n. false) (replicate 64 0) 0 0
+pub empty-mapped : Mapped (λ n. false) (replicate 64 0) 0 0
 empty-mapped = record {
   kept = record { long = refl; none = empty-bit 0; tops = λ w l. bit-of-zero w ∙ ap (λ (x : ℕ). cond (eqb x 0) 0 1) (sym (zeros 64 w)) };
   maps = record { each = λ n l. empty-bit n };
   counts = sym (total-none 4096);
 }
 
--- ---- row by row, from the last to the first
+-- ---- row by row
 
--- those of f above n
-pub above : ℕ → (ℕ → Bool) → ℕ → Bool
-above n f k = cond (ltb n k) (f k) false
+-- those of f below n
+pub below : ℕ → (ℕ → Bool) → ℕ → Bool
+below n f k = cond (ltb k n) (f k) false
 
-pub not_yet : (n : ℕ) (f : ℕ → Bool) → above n f n ≡ false
-unfolding above
-not_yet n f = rw (le-ltb n n (omega arith))
+-- the number 0 is not free
+pub load-start : {m : List ℕ} (f : ℕ → Bool) → f 0 ≡ false → Maps m (λ n. false) → Maps m (below 1 f)
+unfolding below
+load-start f nil h = maps-same h (λ n l. go n)
+  where
+    go : (n : ℕ) → false ≡ below 1 f n
+    go zero = sym nil
+    go (suc n) = rw (le-ltb (suc n) 1 (omega arith))
 
-module _ {m : List ℕ} (t : List ℤ) where
-  -- none lies past the capacity
-  pub load-start : (cap : ℕ) → length t ≡ row_words * (cap + 1) → m ≡ replicate 64 0 → Mapped (above cap (free_at t)) m 0 0
-  unfolding above
-  load-start cap long z = rw z (mapped-same empty-mapped (λ n l. go n (dec_lt cap n)))
+module _ {m : List ℕ} (f : ℕ → Bool) (n : ℕ) where
+  -- n is as c says
+  load-next : (c : Bool) → f n ≡ c → Maps m (switched (below n f) n c) → Maps m (below (n + 1) f)
+  unfolding below switched
+  load-next c e h = maps-same h (λ k l. go k (ℕ_discrete k n) (dec_lt k n))
     where
-      go : (n : ℕ) → Dec (cap < n) → false ≡ above cap (free_at t) n
-      go n (yes d) = rw (lt-ltb cap n d) (sym (free-within t cap long n d))
-      go n (no d) = rw (le-ltb cap n (omega arith))
+      go : (k : ℕ) → Dec (k ≡ n) → Dec (k < n) → switched (below n f) n c k ≡ below (n + 1) f k
+      go k (yes q) d = rw (q, eq-eqb n n refl, lt-ltb n (n + 1) (omega arith)) (sym e)
+      go k (no q) (yes d) = rw (ne_eqb k n q, lt-ltb k n d, lt-ltb k (n + 1) (omega arith))
+      go k (no q) (no d) = rw (ne_eqb k n q, le-ltb k n (omega arith), le-ltb k (n + 1) (omega (arith, q)))
 
-  module _ {top count : ℕ} where
-    pub load-more : (n : ℕ) → 0 < n → Mapped (switched (above n (free_at t)) n (free_at t n)) m top count → Mapped (above (n - 1) (free_at t)) m top count
-    unfolding above switched
-    load-more n p h = mapped-same h (λ k l. go k (ℕ_discrete k n) (dec_lt n k))
-      where
-        go : (k : ℕ) → Dec (k ≡ n) → Dec (n < k) → switched (above n (free_at t)) n (free_at t n) k ≡ above (n - 1) (free_at t) k
-        go k (yes e) d = rw (e, eq-eqb n n refl, lt-ltb (n - 1) n (omega arith))
-        go k (no e) (yes d) = rw (ne_eqb k n e, lt-ltb n k d, lt-ltb (n - 1) k (omega arith))
-        go k (no e) (no d) = rw (ne_eqb k n e, le-ltb n k (omega arith), le-ltb (n - 1) k (omega (arith, e)))
+  pub load-free : f n ≡ true → Maps m (switched (below n f) n true) → Maps m (below (n + 1) f)
+  load-free = load-next true
 
-    -- the number 0 is not free
-    pub load-end : (n : ℕ) → free_at t 0 ≡ false → n ≡ 0 → Mapped (above n (free_at t)) m top count → Mapped (free_at t) m top count
-    unfolding above
-    load-end n nil z h = mapped-same h (λ k l. go k)
-      where
-        go : (k : ℕ) → above n (free_at t) k ≡ free_at t k
-        go zero = rw (le-ltb n 0 (omega arith)) (sym nil)
-        go (suc k) = rw (lt-ltb n (suc k) (omega arith))
+  pub load-taken : f n ≡ false → Maps m (below n f) → Maps m (below (n + 1) f)
+  unfolding below
+  load-taken e h = load-next false e (maps-same h (λ k l. go k (ℕ_discrete k n)))
+    where
+      go : (k : ℕ) → Dec (k ≡ n) → below n f k ≡ switched (below n f) n false k
+      go k (yes q) = rw (q, switched-here (below n f) n false, le-ltb n n (omega arith))
+      go k (no q) = sym (switched-there (below n f) n false k q)
+
+-- none lies past the capacity
+pub load-end : {m : List ℕ} (t : List ℤ) (cap n : ℕ) → length t ≡ row_words * (cap + 1) → cap < n → Maps m (below n (free_at t)) → Maps m (free_at t)
+unfolding below
+load-end t cap n long l h = maps-same h (λ k i. go k (dec_lt k n))
+  where
+    go : (k : ℕ) → Dec (k < n) → below n (free_at t) k ≡ free_at t k
+    go k (yes d) = rw (lt-ltb k n d)
+    go k (no d) = rw (le-ltb k n (omega arith)) (sym (free-within t cap long k (omega arith)))

@@ -1,6 +1,6 @@
 -- A number becomes free, or is no longer: one word changes in one bit, the word over them follows, and so does the count.
 -- Assumes nothing.
-use Prim.Native.Nat.{ℕ, zero, suc, ◌+◌, ◌/◌, ◌%◌, ◌≤◌, ◌<◌}
+use Prim.Native.Nat.{ℕ, zero, suc, ◌+◌, ◌-◌, ◌/◌, ◌%◌, ◌≤◌, ◌<◌}
 use native.Mathlib.Omega.{arith}
 use native.Mathlib.Decide.{ℕ_discrete}
 use mathlib.Core.Path.{◌≡◌, refl, sym, ap, ◌∙◌}
@@ -11,7 +11,7 @@ use lib.Dec.{eqb}
 use lib.ListN.{get_or, set, length-set}
 use lib.Seq.{get_or-set_same, get_or-set_other}
 use borrow.Author.Tests.{eq-eqb, ne_eqb}
-use Rattle.free.specs.FreeMap.{bit, on, off, map_bit, Kept, Maps, Mapped, switched, total}
+use Rattle.free.specs.FreeMap.{bit, on, off, map_bit, free_in, Kept, Maps, Mapped, switched, total}
 use Rattle.free.proofs.MapBits.{bit-pos, on-here, on-there, off-here, off-there, off-pos}
 
 -- ---- how many there are
@@ -59,31 +59,43 @@ total-switched f n c (suc m) l = go (λ k. total-switched f n c m k) (ℕ_discre
 pub mapped-few : {f : ℕ → Bool} {m : List ℕ} {top count : ℕ} → Mapped f m top count → count ≤ 4096
 mapped-few {f} h = let t = total-le f 4096 in omega (arith, h.counts)
 
-pub mapped-some : {f : ℕ → Bool} {m : List ℕ} {top count : ℕ} → Mapped f m top count → (n : ℕ) → n < 4096 → f n ≡ true → 0 < count
+mapped-some : {f : ℕ → Bool} {m : List ℕ} {top count : ℕ} → Mapped f m top count → (n : ℕ) → n < 4096 → f n ≡ true → 0 < count
 mapped-some {f} h n l e = let t = rw e at (total-switched f n false 4096 l) in omega (arith, h.counts)
 
--- what is to be added to the count, by the bit of the number
-pub mapped-more : {f : ℕ → Bool} {m : List ℕ} {top count n : ℕ} → n < 4096 → (more : ℕ) → more + map_bit m n ≡ 1 → Mapped f m top count → more ≡ cond (f n) 0 1
-mapped-more {f} {m} {n = n} l more e h = go (f n) (h.maps.each n l)
-  where
-    go : (y : Bool) → map_bit m n ≡ cond y 1 0 → more ≡ cond y 0 1
-    go true i = omega arith
-    go false i = omega arith
+pub maps-same : {f g : ℕ → Bool} {m : List ℕ} → Maps m f → ((n : ℕ) → n < 4096 → f n ≡ g n) → Maps m g
+maps-same h e = record { each = λ n l. h.each n l ∙ ap (λ (c : Bool). cond c 1 0) (e n l) }
 
-pub mapped-same : {f g : ℕ → Bool} {m : List ℕ} {top count : ℕ} → Mapped f m top count → ((n : ℕ) → n < 4096 → f n ≡ g n) → Mapped g m top count
+mapped-same : {f g : ℕ → Bool} {m : List ℕ} {top count : ℕ} → Mapped f m top count → ((n : ℕ) → n < 4096 → f n ≡ g n) → Mapped g m top count
 mapped-same {f} {g} h e = record {
   kept = h.kept;
-  maps = record { each = λ n l. h.maps.each n l ∙ ap (λ (c : Bool). cond c 1 0) (e n l) };
+  maps = maps-same h.maps e;
   counts = h.counts ∙ total-same f g 4096 e;
 }
 
--- a number that is not free is switched off already
-pub switched-none : {f : ℕ → Bool} {m : List ℕ} {top count n : ℕ} → Mapped f m top count → f n ≡ false → Mapped (switched f n false) m top count
-switched-none {f} {n = n} h z = mapped-same h (λ k l. go k (ℕ_discrete k n))
+-- ---- what the map itself says
+
+-- the numbers whose bits are set are those that it maps
+pub known : {f : ℕ → Bool} {m : List ℕ} → Maps m f → (n : ℕ) → n < 4096 → free_in m n ≡ f n
+unfolding free_in
+known {f} h n l = rw (h.each n l) (go (f n))
   where
-    go : (k : ℕ) → Dec (k ≡ n) → f k ≡ switched f n false k
-    go k (yes e) = rw (e, switched-here f n false) z
-    go k (no e) = sym (switched-there f n false k e)
+    go : (c : Bool) → eqb (cond c 1 0) 1 ≡ c
+    go true = refl
+    go false = refl
+
+pub opened : {f : ℕ → Bool} {m : List ℕ} {top count : ℕ} → Maps m f → Mapped (free_in m) m top count → Mapped f m top count
+opened h k = mapped-same k (known h)
+
+pub closed : {f : ℕ → Bool} {m : List ℕ} {top count : ℕ} → Mapped f m top count → Mapped (free_in m) m top count
+closed h = mapped-same h (λ n l. sym (known h.maps n l))
+
+bit-free : (m : List ℕ) (n : ℕ) → map_bit m n ≡ 1 → free_in m n ≡ true
+unfolding free_in
+bit-free m n e = rw e
+
+-- there is one to take
+pub some_free : {m : List ℕ} {top count : ℕ} → Mapped (free_in m) m top count → (n : ℕ) → n < 4096 → map_bit m n ≡ 1 → 0 < count
+some_free {m} h n l e = mapped-some h n l (bit-free m n e)
 
 -- ---- one bit of a word
 
@@ -137,12 +149,12 @@ module _ (m : List ℕ) (top n v r : ℕ) (c : Bool) (p : 0 < n) (l : n < 4096) 
 
 -- ---- a number given, and a number taken
 
-module _ {m u : List ℕ} {top n x r count count' : ℕ} (p : 0 < n) (l : n < 4096) (k : Kept m top) (e : u ≡ set m (n / 64) x) where
-  pub put-mapped : {more : ℕ} → x ≡ on (get_or m (n / 64) 0) (n % 64) → r ≡ on top (n / 64) → count' ≡ count + more
-      → (f : ℕ → Bool) → Mapped f m top count → more ≡ cond (f n) 0 1 → Mapped (switched f n true) u r count'
-  put-mapped {more} a b c f h i = rw e (set-mapped m top n x r true p l k word (rw b over) f count count' h (sum (f n) i))
+module _ {m u : List ℕ} {top n x r count : ℕ} (l : n < 4096) (known : Mapped (free_in m) m top count) (e : u ≡ set m (n / 64) x) where
+  pub given : (more : ℕ) → 0 < n → x ≡ on (get_or m (n / 64) 0) (n % 64) → r ≡ on top (n / 64) → more + map_bit m n ≡ 1
+      → (f : ℕ → Bool) → Maps m f → Mapped (switched f n true) u r (count + more)
+  given more p a b i f h = rw e (set-mapped m top n x r true p l known.kept word (rw b over) f count (count + more) (opened h known) (sum (f n) (h.each n l)))
     where
-      sum : (y : Bool) → more ≡ cond y 0 1 → count' + cond y 1 0 ≡ count + 1
+      sum : (y : Bool) → map_bit m n ≡ cond y 1 0 → count + more + cond y 1 0 ≡ count + 1
       sum true j = omega arith
       sum false j = omega arith
 
@@ -154,10 +166,19 @@ module _ {m u : List ℕ} {top n x r count count' : ℕ} (p : 0 < n) (l : n < 40
           let o : 0 < x = rw a (bit-pos _ (n % 64) (on-here _ _)) in
           record { here = rw (ne_eqb x 0 (λ q. omega arith)) (on-here top (n / 64)); there = on-there top (n / 64) }
 
-  pub take-mapped : x ≡ off (get_or m (n / 64) 0) (n % 64) → (x ≡ 0 → r ≡ off top (n / 64)) × (0 < x → r ≡ top) → count' + 1 ≡ count
-      → (f : ℕ → Bool) → Mapped f m top count → f n ≡ true → Mapped (switched f n false) u r count'
-  take-mapped a b c f h z = rw e (set-mapped m top n x r false p l k word (over (ℕ_discrete x 0)) f count count' h (rw z (omega arith)))
+  pub taken : map_bit m n ≡ 1 → x ≡ off (get_or m (n / 64) 0) (n % 64) → (x ≡ 0 → r ≡ off top (n / 64)) × (0 < x → r ≡ top)
+      → (f : ℕ → Bool) → Maps m f → Mapped (switched f n false) u r (count - 1)
+  taken z a b f h = rw e (set-mapped m top n x r false (above (ℕ_discrete n 0)) l known.kept word (over (ℕ_discrete x 0)) f count (count - 1) (opened h known) (sum (f n) (h.each n l)))
     where
+      -- the bit of the number 0 is not set
+      above : Dec (n ≡ 0) → 0 < n
+      above (yes q) = let o : ◌≡◌ {A = ℕ} 1 0 = sym z ∙ ap (map_bit m) q ∙ known.kept.none in absurd (omega arith)
+      above (no q) = omega (arith, q)
+
+      sum : (y : Bool) → map_bit m n ≡ cond y 1 0 → count - 1 + cond y 1 0 ≡ count + 0
+      sum true j = let some = some_free known n l z in omega arith
+      sum false j = absurd (omega arith)
+
       word : Word (get_or m (n / 64) 0) (n % 64) false x
       word = rw a (record { here = off-here _ (n % 64); there = off-there _ (n % 64) })
 
@@ -168,6 +189,6 @@ module _ {m u : List ℕ} {top n x r count count' : ℕ} (p : 0 < n) (l : n < 40
           let o : 0 < get_or m (n / 64) 0 = off-pos _ (n % 64) (rw a at s) in
           rw (b.1 s)
           (record {
-            here = k.tops (n / 64) (omega arith) ∙ rw (ne_eqb x 0 q, ne_eqb (get_or m (n / 64) 0) 0 (λ y. omega arith)) refl;
+            here = known.kept.tops (n / 64) (omega arith) ∙ rw (ne_eqb x 0 q, ne_eqb (get_or m (n / 64) 0) 0 (λ y. omega arith)) refl;
             there = λ j i. refl;
           })

@@ -58,6 +58,10 @@ pub record Kept (m : List ℕ) (top : ℕ) : Type 0 where
   pub none : map_bit m 0 ≡ 0
   pub tops : (w : ℕ) → w < 64 → bit top w ≡ cond (eqb (get_or m w 0) 0) 0 1
 
+-- whether the bit of the number n is set
+unfoldable pub free_in : List ℕ → ℕ → Bool
+free_in m n = eqb (map_bit m n) 1
+
 -- the bits that are set are those of the numbers that f says
 pub record Maps (m : List ℕ) (f : ℕ → Bool) : Type 0 where
   pub each : (n : ℕ) → n < 4096 → map_bit m n ≡ cond (f n) 1 0

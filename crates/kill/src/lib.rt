@@ -5,14 +5,14 @@ ghost use Rattle.std.specs.Prelude.{◌≡◌, ◌+◌, ◌*◌, ◌<◌, ◌≤
 ghost use Rattle.mesh.specs.Picture.{row_words};
 ghost use Rattle.table.specs.Words.{free_at};
 ghost use Rattle.table.specs.Plain.{Plain};
-ghost use Rattle.free.specs.FreeMap.{Mapped};
+ghost use Rattle.free.specs.FreeMap.{Maps};
 ghost use Rattle.edit_laws.specs.Tables.{drop_up, drop_corner, cleared, dropped_corners, still_used, kill_table, kill_values};
 ghost use Rattle.border.specs.Borders.{Within, border_of};
 ghost use Rattle.kill.specs.KilledCell.{still_border, OtherCorners};
 
 use border::{Border, refresh_levels};
 use carried::{blank, put_carried};
-use free::map::Spare;
+use free::map::FreeMap;
 use patch::freed::free_row;
 use table::flag_bits::FREE;
 use table::plain::link;
@@ -21,42 +21,38 @@ use table::writes::put;
 use worked::{kidless, touched};
 
 // A ghost without a kid goes, and then its parent if that has none left, up to so many levels.
-fn drop_up(t: &mut [i32], cap: usize, map: &mut [u64; 64], s: Spare, levels: u32, n: usize) -> Spare
-    requires { Plain t.old cap × (n ≤ cap) × Mapped (free_at t.old) map.old s.top s.count }
-    ensures { (t.new ≡ drop_up levels t.old cap n) × Plain t.new cap × Mapped (free_at t.new) map.new result.top result.count }
+fn drop_up(t: &mut [i32], cap: usize, map: &mut FreeMap, levels: u32, n: usize)
+    requires { Plain t.old cap × (n ≤ cap) × Maps map.old (free_at t.old) }
+    ensures { (t.new ≡ drop_up levels t.old cap n) × Plain t.new cap × Maps map.new (free_at t.new) }
 {
-    let mut e = levels;
     let mut k = n;
-    let mut a = s;
-    while e > 0 {
+    for _level in 0..levels {
         if k == 0 {
-            return a;
+            return;
         }
         if !kidless(t, cap, k) {
-            return a;
+            return;
         }
         let p = link(t, cap, k, PARENT);
-        a = free_row(t, cap, map, a, k);
+        free_row(t, cap, map, k);
         k = p;
-        e -= 1;
     }
-    a
 }
 
 // A corner of the killed cell that no cell touches goes, and the ghosts above it that have no kid left.
-fn drop_corner(t: &mut [i32], cap: usize, map: &mut [u64; 64], s: Spare, d: u32, n: usize) -> Spare
-    requires { Plain t.old cap × (n ≤ cap) × Mapped (free_at t.old) map.old s.top s.count }
-    ensures { (t.new ≡ drop_corner t.old cap d n) × Plain t.new cap × Mapped (free_at t.new) map.new result.top result.count }
+fn drop_corner(t: &mut [i32], cap: usize, map: &mut FreeMap, d: u32, n: usize)
+    requires { Plain t.old cap × (n ≤ cap) × Maps map.old (free_at t.old) }
+    ensures { (t.new ≡ drop_corner t.old cap d n) × Plain t.new cap × Maps map.new (free_at t.new) }
 {
     if n == 0 {
-        return s;
+        return;
     }
     if touched(t, cap, n) {
-        return s;
+        return;
     }
     let p = link(t, cap, n, PARENT);
-    let a = free_row(t, cap, map, s, n);
-    drop_up(t, cap, map, a, d, p)
+    free_row(t, cap, map, n);
+    drop_up(t, cap, map, d, p);
 }
 
 // The row n, or 0 if it is free.
@@ -96,45 +92,35 @@ fn clear_cell(
     t: &mut [i32],
     v: &mut [f64],
     cap: usize,
-    map: &mut [u64; 64],
-    s: Spare,
+    map: &mut FreeMap,
     d: u32,
     n: usize,
     north: usize,
     east: usize,
     both: usize,
-) -> Spare
-    requires { Plain t.old cap × (cap < length v.old) × (n ≤ cap) × OtherCorners t.old cap n north east both × Mapped (free_at (cleared t.old n)) map.old s.top s.count }
-    ensures { (t.new ≡ dropped_corners t.old cap d n) × (v.new ≡ kill_values n v.old) × Plain t.new cap × Mapped (free_at t.new) map.new result.top result.count }
+)
+    requires { Plain t.old cap × (cap < length v.old) × (n ≤ cap) × OtherCorners t.old cap n north east both × Maps map.old (free_at (cleared t.old n)) }
+    ensures { (t.new ≡ dropped_corners t.old cap d n) × (v.new ≡ kill_values n v.old) × Plain t.new cap × Maps map.new (free_at t.new) }
 {
     put(t, n, FLAGS, 0);
     put_carried(t, v, n, blank());
-    let a = drop_corner(t, cap, map, s, d, both);
-    let b = drop_corner(t, cap, map, a, d, north);
-    let c = drop_corner(t, cap, map, b, d, east);
-    drop_corner(t, cap, map, c, d, n)
+    drop_corner(t, cap, map, d, both);
+    drop_corner(t, cap, map, d, north);
+    drop_corner(t, cap, map, d, east);
+    drop_corner(t, cap, map, d, n);
 }
 
 // Kills the cell n. The map is that of the table when it is no cell, and then that of the table without the rows that go.
-pub fn kill(
-    t: &mut [i32],
-    v: &mut [f64],
-    cap: usize,
-    map: &mut [u64; 64],
-    s: Spare,
-    d: u32,
-    n: usize,
-) -> Spare
-    requires { Plain t.old cap × (cap < length v.old) × (n ≤ cap) × (d ≤ 32) × Mapped (free_at (cleared t.old n)) map.old s.top s.count }
-    ensures { (t.new ≡ kill_table t.old cap d n) × (v.new ≡ kill_values n v.old) × Mapped (free_at (dropped_corners t.old cap d n)) map.new result.top result.count }
+pub fn kill(t: &mut [i32], v: &mut [f64], cap: usize, map: &mut FreeMap, d: u32, n: usize)
+    requires { Plain t.old cap × (cap < length v.old) × (n ≤ cap) × (d ≤ 32) × Maps map.old (free_at (cleared t.old n)) }
+    ensures { (t.new ≡ kill_table t.old cap d n) × (v.new ≡ kill_values n v.old) × Maps map.new (free_at (dropped_corners t.old cap d n)) }
 {
     let north = link(t, cap, n, NORTH);
     let east = link(t, cap, n, EAST);
     let both = link(t, cap, east, NORTH);
     let south = link(t, cap, n, SOUTH);
     let west = link(t, cap, n, WEST);
-    let a = clear_cell(t, v, cap, map, s, d, n, north, east, both);
+    clear_cell(t, v, cap, map, d, n, north, east, both);
     let b = still_border(t, cap, n, north, east, both, south, west);
     refresh_levels(t, cap, d, b);
-    a
 }

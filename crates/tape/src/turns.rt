@@ -1,22 +1,20 @@
 // The requests of a tape, one after the other, up to the first that is refused.
 ghost use Rattle.std.specs.Prelude.{◌<◌, length};
 ghost use Rattle.table.specs.Words.{free_at};
-ghost use Rattle.free.specs.FreeMap.{Mapped};
+ghost use Rattle.free.specs.FreeMap.{Maps};
 ghost use Rattle.apply.specs.Drawn.{lists, Standing, Pictured};
 ghost use Rattle.tape.specs.Ran.{Turned, Ran};
 
 use apply::request;
-use free::load::load;
-use free::map::Spare;
+use free::map::FreeMap;
 use header::next_mark;
 use kinds::{Body, body_of};
 
-// The refusal, 0 for none, the offset of the next kind byte, and what is kept beside the map.
+// The refusal, 0 for none, and the offset of the next kind byte.
 #[derive(Clone, Copy)]
 pub struct Turn {
     pub refusal: u32,
     pub next: usize,
-    pub spare: Spare,
 }
 
 // The request whose kind byte stands at `at`.
@@ -25,38 +23,29 @@ fn turn_at(
     v: &mut [f64],
     c: &mut [u32],
     cap: usize,
-    map: &mut [u64; 64],
-    s: Spare,
+    map: &mut FreeMap,
     d: u32,
     tape: &[u8],
     at: usize,
 ) -> Turn
-    requires { Standing cap d t.old v.old c.old × Mapped (free_at t.old) map.old s.top s.count × (at < length tape.now) }
-    ensures { Turned tape.now at cap d (lists t.old v.old c.old) (lists t.new v.new c.new) result.refusal result.next × Mapped (free_at t.new) map.new result.spare.top result.spare.count }
+    requires { Standing cap d t.old v.old c.old × Maps map.old (free_at t.old) × (at < length tape.now) }
+    ensures { Turned tape.now at cap d (lists t.old v.old c.old) (lists t.new v.new c.new) result.refusal result.next × Maps map.new (free_at t.new) }
 {
-    let k = tape[at];
-    let Body::Bytes(len) = body_of(k) else {
+    let Body::Bytes(len) = body_of(tape[at]) else {
         return Turn {
             refusal: 5,
             next: at,
-            spare: s,
         };
     };
     if tape.len() - at <= len {
         return Turn {
             refusal: 4,
             next: at,
-            spare: s,
         };
     }
     let next = at + 1 + len;
-    let done = request(t, v, c, cap, map, s, d, tape, at);
-    let spare = done.spare;
-    Turn {
-        refusal: done.refusal,
-        next,
-        spare,
-    }
+    let refusal = request(t, v, c, cap, map, d, tape, at);
+    Turn { refusal, next }
 }
 
 // The requests done, the refusal or 0, the offset of the refused kind byte or the tape's length, and the mark.
@@ -84,10 +73,9 @@ pub fn run_tape(
     let mut at = 0;
     let mut done = 0;
     let mut m = mark;
-    let mut map = [0u64; 64];
-    let mut s = load(t, cap, &mut map);
+    let mut map = FreeMap::load(t, cap);
     while at < tape.len() {
-        let turn = turn_at(t, v, c, cap, &mut map, s, d, tape, at);
+        let turn = turn_at(t, v, c, cap, &mut map, d, tape, at);
         if turn.refusal != 0 {
             return Run {
                 done,
@@ -98,8 +86,6 @@ pub fn run_tape(
         }
         done += 1;
         at = turn.next;
-        let spare = turn.spare;
-        s = spare;
         m = next_mark(m);
     }
     Run {

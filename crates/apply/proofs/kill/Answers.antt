@@ -17,14 +17,14 @@ killed-requires c =
     let (x, y) = kill-asks pre.0 _ c.if-refusal-ne0.false c.kill_refusal-refusal.ensures in
     (pre.0.tame.plain, omega (arith, pre.0.ranged.values), w, x, y)
 
-pub kill-spare-requires : goal.kill-spare-requires
-kill-spare-requires c =
+pub kill-requires : goal.kill-requires
+kill-requires c =
     let pre = c.requires in
     let w = kill-within _ _ _ _ c.kill_refusal-refusal.ensures c.if-refusal-ne0.false in
     (pre.0.tame.plain, omega (arith, pre.0.ranged.values), w, omega (arith, pre.0.ranged.depth), same-mapped (kill-first pre.0 _ (kill-decides _ _ _ _ _ _ (sym c.if-refusal-ne0.false ∙ c.kill_refusal-refusal.ensures))) pre.1)
 
 pub returns : goal.returns
 returns c =
-    let (words, values, mapped) = c.kill-spare.ensures in
+    let (words, values, mapped) = c.kill.ensures in
     let a = kill-applied _ _ _ _ _ _ _ _ _ c.kill_refusal-refusal.ensures c.if-refusal-ne0.false words values c.killed.ensures in
     (a, same-mapped (kill-left c.requires.0 _ a) mapped)

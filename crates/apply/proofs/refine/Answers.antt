@@ -7,7 +7,7 @@ use Rattle.apply.proofs.Following.{refine-left, same-mapped, total-count}
 use Rattle.apply.proofs.refine.Goals as goal
 
 pub refine_refusal-refusal-requires : goal.refine_refusal-refusal-requires
-refine_refusal-refusal-requires c = let pre = c.requires in (pre.0.tame.plain, total-count _ pre.1)
+refine_refusal-refusal-requires c = let pre = c.requires in (pre.0.tame.plain, total-count _ pre.1 c.count.ensures)
 
 pub returns-then-refusal-ne0 : goal.returns-then-refusal-ne0
 returns-then-refusal-ne0 c = (refused-applied _ _ _ _ _ (refine-decides _ _ _ _ _ _ c.refine_refusal-refusal.ensures) c.if-refusal-ne0.true, c.requires.1)
@@ -19,14 +19,14 @@ refined-requires c =
     let (x, y, z) = refine-asks pre.0 _ c.if-refusal-ne0.false c.refine_refusal-refusal.ensures in
     (pre.0.tame.plain, omega (arith, pre.0.ranged.values), w, x, y, z)
 
-pub refine-spare-requires : goal.refine-spare-requires
-refine-spare-requires c =
+pub refine-requires : goal.refine-requires
+refine-requires c =
     let pre = c.requires in
     let w = refine-within _ _ _ c.refine_refusal-refusal.ensures c.if-refusal-ne0.false in
     (pre.0.tame.plain, omega (arith, pre.0.ranged.values), w, omega (arith, pre.0.ranged.depth), pre.0.tame.indices, pre.0.ranged.words, pre.1)
 
 pub returns : goal.returns
 returns c =
-    let (words, values, mapped) = c.refine-spare.ensures in
+    let (words, values, mapped) = c.refine.ensures in
     let a = refine-applied _ _ _ _ _ _ _ _ _ c.refine_refusal-refusal.ensures c.if-refusal-ne0.false words values c.refined.ensures in
     (a, same-mapped (refine-left c.requires.0 _ a) mapped)

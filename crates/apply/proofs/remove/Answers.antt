@@ -17,14 +17,14 @@ removed-requires c =
     let (x, y, z) = remove-asks pre.0 _ c.if-refusal-ne0.false c.remove_refusal-refusal.ensures in
     (pre.0.tame.plain, omega (arith, pre.0.ranged.values), w, x, y, z)
 
-pub remove-spare-requires : goal.remove-spare-requires
-remove-spare-requires c =
+pub remove-requires : goal.remove-requires
+remove-requires c =
     let pre = c.requires in
     let w = remove-within _ _ _ c.remove_refusal-refusal.ensures c.if-refusal-ne0.false in
     (pre.0.tame.plain, omega (arith, pre.0.ranged.values), w, omega (arith, pre.0.ranged.depth), same-mapped (remove_first pre.0 _ (remove-decides _ _ _ _ _ _ (sym c.if-refusal-ne0.false ∙ c.remove_refusal-refusal.ensures))) pre.1)
 
 pub returns : goal.returns
 returns c =
-    let (words, values, mapped) = c.remove-spare.ensures in
+    let (words, values, mapped) = c.remove.ensures in
     let a = remove-applied _ _ _ _ _ _ _ _ _ c.remove_refusal-refusal.ensures c.if-refusal-ne0.false words values c.removed.ensures in
     (a, same-mapped (remove-left c.requires.0 _ a) mapped)

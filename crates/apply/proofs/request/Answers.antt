@@ -37,7 +37,7 @@ returns-in-1 c = (number-applied refine (ap kind c.in-1.is) c.number_at.ensures 
 
 pub returns-in-2 : goal.returns-in-2
 unfolding kinds kind
-returns-in-2 c = (number-applied sentence (ap kind c.in-2.is) c.number_at-in-2.ensures c.sentence-refusal.ensures.0, same-mapped c.sentence-refusal.ensures.1 c.requires.1)
+returns-in-2 c = (number-applied sentence (ap kind c.in-2.is) c.number_at-in-2.ensures c.sentence.ensures.0, same-mapped c.sentence.ensures.1 c.requires.1)
 
 pub returns-in-3 : goal.returns-in-3
 unfolding kinds kind
@@ -49,7 +49,7 @@ returns-in-4 c = (number-applied kill (ap kind c.in-4.is) c.number_at-in-4.ensur
 
 pub returns-in-5 : goal.returns-in-5
 unfolding kinds kind
-returns-in-5 c = (value-applied (ap kind c.in-5.is) c.number_at-in-5.ensures c.value_at.ensures c.set_value-refusal.ensures.0, same-mapped c.set_value-refusal.ensures.1 c.requires.1)
+returns-in-5 c = (value-applied (ap kind c.in-5.is) c.number_at-in-5.ensures c.value_at.ensures c.set_value.ensures.0, same-mapped c.set_value.ensures.1 c.requires.1)
 
 pub returns-in_default : goal.returns-in_default
 unfolding kinds

@@ -8,30 +8,30 @@ use Rattle.edit_laws.proofs.PlainKept.{plain_cell}
 use Rattle.patch.proofs.DroppedRows.{map_of}
 use Rattle.kill.proofs.clear_cell.Goals as goal
 
-pub drop_corner-a-requires : goal.drop_corner-a-requires
-drop_corner-a-requires c =
+pub drop_corner-requires : goal.drop_corner-requires
+drop_corner-requires c =
     let pre = c.requires in
     let (bare, _) = rw c.blank.ensures at c.put_carried.ensures in
     (plain_cell _ _ nothing pre.0 c.put.ensures bare (omega arith), both-in pre.3, map_of (cell-cleared c.args.t.now _ c.put.ensures bare) pre.4)
 
-pub drop_corner-b-requires : goal.drop_corner-b-requires
-drop_corner-b-requires c =
-    let (_, p, mapped) = c.drop_corner-a.ensures in
+pub drop_corner-requires-2 : goal.drop_corner-requires-2
+drop_corner-requires-2 c =
+    let (_, p, mapped) = c.drop_corner.ensures in
     (p, north-in c.requires.3, mapped)
 
-pub drop_corner-c-requires : goal.drop_corner-c-requires
-drop_corner-c-requires c =
-    let (_, p, mapped) = c.drop_corner-b.ensures in
+pub drop_corner-requires-3 : goal.drop_corner-requires-3
+drop_corner-requires-3 c =
+    let (_, p, mapped) = c.drop_corner-2.ensures in
     (p, east-in c.requires.3, mapped)
 
-pub drop_corner-requires : goal.drop_corner-requires
-drop_corner-requires c =
-    let (_, p, mapped) = c.drop_corner-c.ensures in
+pub drop_corner-requires-4 : goal.drop_corner-requires-4
+drop_corner-requires-4 c =
+    let (_, p, mapped) = c.drop_corner-3.ensures in
     (p, c.requires.2, mapped)
 
 pub shape_of-t : goal.shape_of-t
 shape_of-t c =
-    c.drop_corner.auto.t ∙ c.drop_corner-c.auto.t ∙ c.drop_corner-b.auto.t ∙ c.drop_corner-a.auto.t ∙ c.put_carried.auto.t ∙ c.put.auto.t
+    c.drop_corner-4.auto.t ∙ c.drop_corner-3.auto.t ∙ c.drop_corner-2.auto.t ∙ c.drop_corner.auto.t ∙ c.put_carried.auto.t ∙ c.put.auto.t
 
 pub shape_of-v : goal.shape_of-v
 shape_of-v c = c.put_carried.auto.v
@@ -40,5 +40,5 @@ pub returns : goal.returns
 unfolding kill_values
 returns c =
     let (bare, w) = rw c.blank.ensures at c.put_carried.ensures in
-    let (e, p, mapped) = c.drop_corner.ensures in
-    (corners-gone c.args.t.now _ _ _ c.requires.3 (cell-cleared c.args.t.now _ c.put.ensures bare) c.drop_corner-a.ensures.0 c.drop_corner-b.ensures.0 c.drop_corner-c.ensures.0 e, w, p, mapped)
+    let (e, p, mapped) = c.drop_corner-4.ensures in
+    (corners-gone c.args.t.now _ _ _ c.requires.3 (cell-cleared c.args.t.now _ c.put.ensures bare) c.drop_corner.ensures.0 c.drop_corner-2.ensures.0 c.drop_corner-3.ensures.0 e, w, p, mapped)

@@ -13,4 +13,4 @@ returns-then-touched c =
 pub returns : goal.returns
 returns c =
     let (e, p, mapped) = c.drop_up.ensures in
-    (corner-gone _ _ _ _ c.if-n-eq0.false c.touched.ensures c.if-touched.false c.link-p.ensures.1 c.free_row-a.ensures.0 e, p, mapped)
+    (corner-gone _ _ _ _ c.if-n-eq0.false c.touched.ensures c.if-touched.false c.link-p.ensures.1 c.free_row.ensures.0 e, p, mapped)

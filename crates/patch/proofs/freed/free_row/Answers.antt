@@ -1,11 +1,6 @@
 -- `patch::freed::free_row` meets its contract.
-use native.Mathlib.Omega.{arith}
-use Rattle.free.proofs.Switching.{mapped-few}
 use Rattle.patch.proofs.DroppedRows.{freed-mapped}
 use Rattle.patch.proofs.freed.free_row.Goals as goal
-
-pub give-requires : goal.give-requires
-give-requires c = let pre = c.requires in (omega arith, omega arith, mapped-few pre.3, pre.3.kept)
 
 pub returns : goal.returns
 returns c =

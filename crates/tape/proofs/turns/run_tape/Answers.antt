@@ -7,14 +7,14 @@ use Rattle.tape.proofs.Running.{starts, asked-for, goes-next, ran-stopped, ran_o
 use Rattle.apply.proofs.Tamed.{drawn-ranged}
 use Rattle.tape.proofs.turns.run_tape.Goals as goal
 
-pub load-s-requires : goal.load-s-requires
-load-s-requires c =
+pub load-map-requires : goal.load-map-requires
+load-map-requires c =
     let p = c.requires in
     let r = drawn-ranged p.drawn in
-    (r.words, r.cap-to, nil-taken p, refl)
+    (r.words, r.cap-to, nil-taken p)
 
 pub loop-at-init : goal.loop-at-init
-loop-at-init c = (refl, refl, refl, starts _ _ _ _ _, c.load-s.ensures)
+loop-at-init c = (refl, refl, refl, starts _ _ _ _ _, c.load-map.ensures)
 
 pub turn_at-turn-requires : goal.turn_at-turn-requires
 turn_at-turn-requires c =

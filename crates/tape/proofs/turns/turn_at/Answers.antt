@@ -10,8 +10,8 @@ returns-in_default c = (turned-unknown _ _ _ (omega arith) refl _ _ _ c.in_defau
 pub returns-then-tape-at : goal.returns-then-tape-at
 returns-then-tape-at c = (turned-short _ _ _ (omega arith) refl _ _ _ c.in-Bytes.ensures c.if-tape-at.true, c.requires.1)
 
-pub request-done-requires : goal.request-done-requires
-request-done-requires c = let p = c.requires in (p.0, p.1, whole-body _ _ _ (omega arith) refl c.in-Bytes.ensures c.if-tape-at.false)
+pub request-refusal-requires : goal.request-refusal-requires
+request-refusal-requires c = let p = c.requires in (p.0, p.1, whole-body _ _ _ (omega arith) refl c.in-Bytes.ensures c.if-tape-at.false)
 
 pub returns : goal.returns
-returns c = (turned-request _ _ _ (omega arith) refl c.in-Bytes.ensures c.if-tape-at.false c.request-done.ensures.0, c.request-done.ensures.1)
+returns c = (turned-request _ _ _ (omega arith) refl c.in-Bytes.ensures c.if-tape-at.false c.request-refusal.ensures.0, c.request-refusal.ensures.1)

@@ -1,8 +1,0 @@
--- `free::map::lacks` meets its contract.
-use native.Mathlib.Omega.{arith}
-use Rattle.free.specs.FreeMap.{bit, map_bit}
-use Rattle.free.proofs.map.lacks.Goals as goal
-
-pub returns : goal.returns
-unfolding bit map_bit
-returns c = omega arith

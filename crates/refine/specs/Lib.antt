@@ -1,2 +1,0 @@
--- The number that a new kid takes, and the map without it.
-pub mod Took
