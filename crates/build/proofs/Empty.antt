@@ -1,12 +1,12 @@
--- A table of free rows, written row by row; and a list of one value, written one by one.
+-- A table of free rows, written row by row.
 -- Assumes nothing.
-use Prim.Native.Nat.{ℕ, zero, suc, ◌+◌, ◌*◌, ◌≤◌, ◌<◌}
+use Prim.Native.Nat.{ℕ, zero, suc, ◌+◌, ◌*◌, ◌≤◌}
 use native.Mathlib.Numerals.{add-one}
 use native.Mathlib.Omega.{arith}
 use mathlib.Core.Path.{◌≡◌, refl, sym, ap, ◌∙◌}
-use mathlib.Core.List.{List, [], ◌∷◌, ◌++◌, append_assoc, append-nil}
+use mathlib.Core.List.{List, ◌++◌, append_assoc, append-nil}
 use lib.ListN.{length, take, drop, set, replicate, length-append}
-use lib.Seq.{take_all, take_at, length-take-le, take-suc-set}
+use lib.Seq.{take_all, take_at, length-take-le}
 use lib.IntN.{ℤ, pos, sub_ℕ}
 use Rattle.mesh.specs.Tools.{flat}
 use Rattle.mesh.specs.Picture.{row_words}
@@ -42,24 +42,6 @@ pub empty-done : (n cap : ℕ) (t : List ℤ) → n ≡ cap → length t ≡ (ca
 empty-done n cap t e h k =
     let l : length t ≤ (n + 1) * row_words = omega arith in
     sym (take_all ((n + 1) * row_words) t l) ∙ k ∙ ap empty_table e
-
--- ---- values
-
-module _ {A : Type 0} (x : A) where
-  replicate_more : (n : ℕ) → replicate n x ++ (x ∷ []) ≡ replicate (suc n) x
-  replicate_more zero = refl
-  replicate_more (suc n) = ap (λ (ys : List A). x ∷ ys) (replicate_more n)
-
-  pub values-none : (v : List A) → take 0 v ≡ replicate 0 x
-  values-none v = refl
-
-  pub values-on : (n : ℕ) (v u : List A) → u ≡ set v n x → n < length v → take n v ≡ replicate n x → take (n + 1) u ≡ replicate (n + 1) x
-  values-on n v u p h e = rw (p, add-one) (take-suc-set v n x h ∙ ap (λ (ys : List A). ys ++ (x ∷ [])) e ∙ replicate_more n)
-
-  pub values-done : (n cap : ℕ) (v : List A) → n ≡ cap + 1 → length v ≡ cap + 1 → take n v ≡ replicate n x → v ≡ replicate (cap + 1) x
-  values-done n cap v e h k =
-      let l : length v ≤ n = omega arith in
-      sym (take_all n v l) ∙ k ∙ ap (λ (m : ℕ). replicate m x) e
 
 -- ---- the root
 

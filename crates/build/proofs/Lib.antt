@@ -3,6 +3,5 @@ pub mod RowTurns
 pub mod FullPlaces
 pub mod Empty
 pub mod Seams
-pub mod GroundRow
 pub mod Growths
 pub mod Whole

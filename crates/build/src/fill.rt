@@ -1,10 +1,8 @@
-// A table without a patch, the root alone, and blank values.
-ghost use Rattle.std.specs.Prelude.{◌≡◌, ◌+◌, ◌*◌, ◌≤◌, length, replicate};
-ghost use Rattle.mesh.specs.State.{plus_zero};
+// A table without a patch, and with the root alone.
+ghost use Rattle.std.specs.Prelude.{◌≡◌, ◌+◌, ◌*◌, ◌≤◌, length};
 ghost use Rattle.mesh.specs.Picture.{row_words};
 ghost use Rattle.edit_laws.specs.Built.{empty_table, root_table};
 
-use carried::values::put_value;
 use table::words::FLAGS;
 use table::writes::{clear_row, nil_row, put, put_level};
 
@@ -14,10 +12,8 @@ fn empty_table(t: &mut [i32], cap: usize)
     ensures { t.new ≡ empty_table cap }
 {
     nil_row(t, 0);
-    let mut n = 0;
-    while n < cap {
+    for n in 0..cap {
         clear_row(t, n + 1);
-        n += 1;
     }
 }
 
@@ -29,16 +25,4 @@ pub fn root_table(t: &mut [i32], cap: usize, d: u32)
     empty_table(t, cap);
     put_level(t, 1, 0, d);
     put(t, 1, FLAGS, 0);
-}
-
-// Every value +0.
-pub fn blank_values(v: &mut [f64], cap: usize)
-    requires { (length v.old ≡ cap + 1) × (cap ≤ 4095) }
-    ensures { v.new ≡ replicate (cap + 1) plus_zero }
-{
-    let mut n = 0;
-    while n <= cap {
-        put_value(v, n, 0.0);
-        n += 1;
-    }
 }

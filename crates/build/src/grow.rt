@@ -35,16 +35,13 @@ fn grow_kid(
     requires { Plain t.old cap × (d ≤ 32) × (w < 4) × Able (header_of header).grid cap d up p (kid_l w) (kid_m w) (growth t.old next) }
     ensures { growth t.new result ≡ grow (header_of header).grid cap d up p (kid_l w) (kid_m w) (growth t.old next) }
 {
-    let e = kid_digits(w);
-    let l = e.l;
-    let m = e.m;
-    let i = 2 * word(t, p, INDEX_I) + l;
-    let j = 2 * word(t, p, INDEX_J) + m;
-    let there = in_full(header, up, i, j);
-    if !there {
+    let kid = kid_digits(w);
+    let i = 2 * word(t, p, INDEX_I) + kid.l;
+    let j = 2 * word(t, p, INDEX_J) + kid.m;
+    if !in_full(header, up, i, j) {
         return next;
     }
-    link_in(t, cap, d, p, l, m, next);
+    link_in(t, cap, d, p, kid.l, kid.m, next);
     next + 1
 }
 
@@ -80,11 +77,9 @@ fn grow_level(
     requires { Sized t.old cap × (d ≤ 32) × (d ≡ base (header_of header).grid) × (p ≤ next) × (next ≤ cap + 1) × LevelToGrow (header_of header).grid cap up (next - p) p (growth t.old next) }
     ensures { growth t.new result ≡ grow_level (header_of header).grid cap d up (next - p) p (growth t.old next) }
 {
-    let mut q = p;
     let mut k = next;
-    while q < next {
+    for q in p..next {
         k = grow_kids(t, cap, header, d, up, q, k);
-        q += 1;
     }
     k
 }
@@ -101,14 +96,13 @@ pub fn grow_levels(t: &mut [i32], cap: usize, header: Header, d: u32) -> Reach
     requires { Sized t.old cap × (d ≤ 32) × (d ≡ base (header_of header).grid) × LevelsToGrow (header_of header).grid cap d 1 (growth t.old 2) }
     ensures { Reached (header_of header).grid cap d (growth t.old 2) (growth t.new result.next) result.ground }
 {
-    let mut up = d;
-    let mut p: usize = 1;
-    let mut k: usize = 2;
-    while up > 0 {
-        up -= 1;
-        let n = grow_level(t, cap, header, d, up, p, k);
-        p = k;
-        k = n;
+    let mut r = Reach { ground: 1, next: 2 };
+    for up in (0..d).rev() {
+        let next = grow_level(t, cap, header, d, up, r.ground, r.next);
+        r = Reach {
+            ground: r.next,
+            next,
+        };
     }
-    Reach { ground: p, next: k }
+    r
 }

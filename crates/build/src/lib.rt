@@ -8,6 +8,7 @@ ghost use Rattle.mesh.specs.Build.{numbered};
 ghost use Rattle.build.specs.BuildSteps.{Made};
 ghost use Rattle.mesh.specs.Call.{Rectangle};
 
+use anew::pass::{Points, Walls};
 use header::Header;
 
 pub mod fill;
@@ -23,12 +24,10 @@ pub fn build_table(t: &mut [i32], v: &mut [f64], cap: usize, header: Header) -> 
     let d = header::ground_depth(header);
     fill::root_table(t, cap, d);
     let r = grow::grow_levels(t, cap, header, d);
-    let a = r.ground;
-    let b = r.next;
-    seam::seam_rows(t, cap, header, d, a, b);
-    ground::put_ground(t, header, a, b);
-    ground::wall_rows(t, cap, d, a, b);
-    ground::point_rows(t, cap, a, b);
-    fill::blank_values(v, cap);
-    b - 1
+    seam::seam_rows(t, cap, header, d, r.ground, r.next);
+    ground::put_ground(t, header, r.ground, r.next);
+    ground::pass_rows(t, cap, Walls { d }, r.ground, r.next);
+    ground::pass_rows(t, cap, Points, r.ground, r.next);
+    v.fill(0.0);
+    r.next - 1
 }

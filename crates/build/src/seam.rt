@@ -39,9 +39,7 @@ pub fn seam_rows(t: &mut [i32], cap: usize, header: Header, d: u32, a: usize, b:
     if !is_ring(header) {
         return;
     }
-    let mut n = a;
-    while n < b {
+    for n in a..b {
         seam_row(t, cap, header, d, n);
-        n += 1;
     }
 }

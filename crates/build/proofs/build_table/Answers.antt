@@ -1,7 +1,7 @@
 -- `build::build_table` meets its contract.
 use Rattle.build.proofs.Whole.{depth_small, all-levels, grown-plain, ground-plain, made}
-use native.Mathlib.Omega.{arith}
-use borrow.Author.Rules.{rules}
+use Rattle.std.proofs.Common.{rules, arith, ap₂, replicate, ◌∙◌}
+use Rattle.carried.proofs.Bits.{plus-zero}
 use Rattle.build.proofs.build_table.Goals as goal
 
 pub root_table-requires : goal.root_table-requires
@@ -20,13 +20,19 @@ seam_rows-requires c =
     let ground = c.ground_depth-d.ensures in
     let r = c.grow_levels-r.ensures in (grown-plain _ _ _ ground p.4 p.2 p.3 p.5 _ _ _ _ c.root_table.ensures r, omega arith, omega (arith, depth_small _ _ _ ground p.4 p.2 p.3 p.5), p.4.2, r.before, r.high)
 
-pub wall_rows-requires : goal.wall_rows-requires
-wall_rows-requires c =
+pub pass_rows-requires : goal.pass_rows-requires
+pass_rows-requires c =
     let p = c.requires in
     let ground = c.ground_depth-d.ensures in
-    let r = c.grow_levels-r.ensures in (ground-plain _ _ _ ground p.4 p.2 p.3 p.5 _ _ _ _ c.root_table.ensures r _ _ c.seam_rows.ensures c.put_ground.ensures, omega (arith, depth_small _ _ _ ground p.4 p.2 p.3 p.5), r.before, r.high)
+    let r = c.grow_levels-r.ensures in (ground-plain _ _ _ ground p.4 p.2 p.3 p.5 _ _ _ _ c.root_table.ensures r _ _ c.seam_rows.ensures c.put_ground.ensures, r.before, r.high)
+
+pub invariant_of-pass_rows : goal.invariant_of-pass_rows
+invariant_of-pass_rows c =
+    let p = c.requires in
+    record { within = omega (arith, depth_small _ _ _ c.ground_depth-d.ensures p.4 p.2 p.3 p.5) }
 
 pub returns : goal.returns
 returns c =
     let p = c.requires in
-    made _ _ _ c.ground_depth-d.ensures p.4 p.2 p.3 p.5 _ _ _ _ c.root_table.ensures c.grow_levels-r.ensures _ _ c.seam_rows.ensures c.put_ground.ensures _ _ _ c.wall_rows.ensures.0 c.point_rows.ensures c.blank_values.ensures _
+    let blank = c.fill.ensures.after (λ y same. same) ∙ ap₂ replicate p.1 plus-zero in
+    made _ _ _ c.ground_depth-d.ensures p.4 p.2 p.3 p.5 _ _ _ _ c.root_table.ensures c.grow_levels-r.ensures _ _ c.seam_rows.ensures c.put_ground.ensures _ _ _ c.pass_rows.ensures.0 c.pass_rows-2.ensures.0 blank _

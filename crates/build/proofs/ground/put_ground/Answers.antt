@@ -1,23 +1,15 @@
--- `build::ground::put_ground` meets its contract. The invariant: the rows left make of the table what all make of the one at the start.
-use mathlib.Core.Path.{refl, sym, ◌∙◌}
+-- `build::ground::put_ground` meets its contract.
+use Rattle.std.proofs.Common.{arith, refl, sym, ◌∙◌}
 use Rattle.build.proofs.RowTurns.{rows_on, rows-done}
-use native.Mathlib.Omega.{arith}
 use Rattle.build.proofs.ground.put_ground.Goals as goal
 
 pub loop-n-init : goal.loop-n-init
-loop-n-init c = (omega arith, omega arith, refl, refl)
+loop-n-init c = refl
 
 pub loop-n-preserved : goal.loop-n-preserved
 loop-n-preserved c =
-    let l = c.loop-n in (
-      omega arith,
-      omega arith,
-      c.put_cell.auto.t ∙ l.invariant.2,
-      l.invariant.3 ∙ rows_on _ l.n _ l.t _ (omega arith) c.put_cell.ensures,
-    )
-
-pub shape_of-t : goal.shape_of-t
-shape_of-t c = c.loop-n.invariant.2
+    let l = c.loop-n in
+    l.invariant ∙ rows_on _ l.n _ l.t _ (omega arith) c.put_cell.ensures
 
 pub returns : goal.returns
-returns c = sym (c.loop-n.invariant.3 ∙ rows-done _ c.loop-n.n _ c.loop-n.t (omega arith))
+returns c = sym (c.loop-n.invariant ∙ rows-done _ c.loop-n.n _ c.loop-n.t (omega arith))

@@ -1,7 +1,5 @@
 -- `build::grow::grow_levels` meets its contract. The invariant: the levels left make of the table what all make of the one at the start, and there is room for them.
-use Prim.Native.Nat.{◌≤◌}
-use mathlib.Core.Path.{◌≡◌}
-use lib.ListN.{length}
+use Rattle.std.proofs.Common.{◌≡◌}
 use Rattle.edit_laws.specs.BuildSoFar.{LevelsToGrow}
 use Rattle.header.specs.Headers.{header_of}
 use Rattle.edit_laws.specs.Built.{grow_levels, ground_from}
@@ -9,7 +7,12 @@ use Rattle.build.specs.BuildSteps.{growth}
 use Rattle.build.proofs.grow.grow_levels.Given as goal
 
 abbrev pub invariant-loop-up : goal.invariant-loop-up
-invariant-loop-up l = (l.up ≤ l.d) × (length l.t ≡ length l.initial.t) × (grow_levels (header_of l.header).grid l.cap l.d l.d 1 (growth l.initial.t 2) ≡ grow_levels (header_of l.header).grid l.cap l.d l.up l.p (growth l.t l.k)) × (ground_from (header_of l.header).grid l.cap l.d l.d 1 (growth l.initial.t 2) ≡ ground_from (header_of l.header).grid l.cap l.d l.up l.p (growth l.t l.k)) × LevelsToGrow (header_of l.header).grid l.cap l.up l.p (growth l.t l.k)
-
-abbrev pub decreases-loop-up : goal.decreases-loop-up
-decreases-loop-up l = l.up
+invariant-loop-up l =
+    let grid = (header_of l.header).grid in
+    let start = growth l.initial.t 2 in
+    let now = growth l.t l.r.next in
+    record {
+      left : grow_levels grid l.cap l.d l.d 1 start ≡ grow_levels grid l.cap l.d l.up l.r.ground now;
+      from : ground_from grid l.cap l.d l.d 1 start ≡ ground_from grid l.cap l.d l.up l.r.ground now;
+      room : LevelsToGrow grid l.cap l.up l.r.ground now;
+    }

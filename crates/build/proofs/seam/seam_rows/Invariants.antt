@@ -1,7 +1,5 @@
 -- `build::seam::seam_rows` meets its contract. The invariant: the rows left make of the table what all make of the one at the start, and it is plain.
-use Prim.Native.Nat.{◌-◌, ◌≤◌}
-use mathlib.Core.Path.{◌≡◌}
-use lib.ListN.{length}
+use Rattle.std.proofs.Common.{◌≡◌, ◌-◌}
 use Rattle.header.specs.Headers.{header_of}
 use Rattle.edit_laws.specs.Built.{each_row, seam_row}
 use Rattle.table.specs.Plain.{Plain}
@@ -9,7 +7,7 @@ use Rattle.build.proofs.seam.seam_rows.Given as goal
 
 abbrev pub invariant-loop-n : goal.invariant-loop-n
 invariant-loop-n l = let step = seam_row (header_of l.header).grid l.cap l.d in
-    (l.a ≤ l.n) × (l.n ≤ l.b) × (length l.t ≡ length l.initial.t) × (each_row step (l.b - l.a) l.a l.initial.t ≡ each_row step (l.b - l.n) l.n l.t) × Plain l.t l.cap
-
-abbrev pub decreases-loop-n : goal.decreases-loop-n
-decreases-loop-n l = l.b - l.n
+    record {
+      left : each_row step (l.b - l.a) l.a l.initial.t ≡ each_row step (l.b - l.n) l.n l.t;
+      plain : Plain l.t l.cap;
+    }
