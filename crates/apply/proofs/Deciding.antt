@@ -1,5 +1,9 @@
 -- What is decided on a picture is what the rules decide; a refused request leaves all as it is, and one that is not names a row.
 -- Assumes nothing.
+use Rattle.std.specs.Prelude.{Result}
+use Rattle.answer.specs.declared.Refusal.{Refusal}
+use Rattle.answer.specs.Refusals.{number, refusal_of}
+use Rattle.answer.proofs.Numbers.{not-zero}
 use Prim.Native.Nat.{ℕ, ◌≤◌}
 use mathlib.Core.Path.{◌≡◌, refl, sym, ◌∙◌}
 use mathlib.Core.Logic.{◌≢◌}
@@ -72,3 +76,7 @@ passed h q x = loosely h.pictured.state q (sym (x h.pictured.state h.pictured.dr
 
 pub refused-applied : (q : Request) (cap d : ℕ) (l : Header → Counted) (given : ℕ) → Decides q cap d l given → given ≢ 0 → Applied q cap d l l given
 refused-applied q cap d l given x z = record { decided = x; done = λ s p h. absurd (z h); refused = λ _. refl }
+
+-- by the answer that passes the refusal on
+pub stopped : {A : Type 0} (q : Request) (cap d : ℕ) (l : Header → Counted) (out : Result A Refusal) (e : Refusal) → refusal_of out ≡ number e → Decides q cap d l (number e) → Applied q cap d l l (refusal_of out)
+stopped q cap d l out e o x = refused-applied q cap d l (refusal_of out) (λ s p. o ∙ x s p) (λ z. not-zero e (sym o ∙ z))

@@ -6,10 +6,12 @@ ghost use Rattle.std.specs.Prelude.{◌≡◌};
 ghost use Rattle.mesh.specs.Request.{refine, sentence, remove, kill, set_value};
 ghost use Rattle.table.specs.Words.{free_at};
 ghost use Rattle.free.specs.FreeMap.{Maps};
+ghost use Rattle.answer.specs.Refusals.{refusal_of};
 ghost use Rattle.apply.specs.Drawn.{lists, Standing};
 ghost use Rattle.apply.specs.Applied.{Applied};
 ghost use Rattle.apply.specs.Asked.{Whole, AppliedAt};
 
+use answer::Refusal;
 use free::map::FreeMap;
 use kinds::{number_at, value_at};
 use refusals::one_row::{sentence_at, set_at};
@@ -18,7 +20,6 @@ use refusals::requests::{
 };
 use tally::moves::{killed, refined, removed, valued};
 
-// Each answers the refusal, 0 for none.
 pub fn refine(
     t: &mut [i32],
     v: &mut [f64],
@@ -27,29 +28,30 @@ pub fn refine(
     map: &mut FreeMap,
     d: u32,
     n: usize,
-) -> u32
+) -> Result<(), Refusal>
     requires { Standing cap d t.old v.old c.old × Maps map.old (free_at t.old) }
-    ensures { Applied (refine n) cap d (lists t.old v.old c.old) (lists t.new v.new c.new) result × Maps map.new (free_at t.new) }
+    ensures { Applied (refine n) cap d (lists t.old v.old c.old) (lists t.new v.new c.new) (refusal_of result) × Maps map.new (free_at t.new) }
 {
-    let refusal = refine_refusal(t, cap, n, map.count());
-    if refusal != 0 {
-        return refusal;
-    }
+    refine_refusal(t, cap, n, map.count())?;
     refined(t, v, c, cap, n);
     refine::refine(t, v, cap, map, d, n);
-    0
+    Ok(())
 }
 
-pub fn sentence(t: &mut [i32], v: &[f64], c: &[u32], cap: usize, d: u32, n: usize) -> u32
+pub fn sentence(
+    t: &mut [i32],
+    v: &[f64],
+    c: &[u32],
+    cap: usize,
+    d: u32,
+    n: usize,
+) -> Result<(), Refusal>
     requires { Standing cap d t.old v.now c.now }
-    ensures { Applied (sentence n) cap d (lists t.old v.now c.now) (lists t.new v.now c.now) result × (free_at t.new ≡ free_at t.old) }
+    ensures { Applied (sentence n) cap d (lists t.old v.now c.now) (lists t.new v.now c.now) (refusal_of result) × (free_at t.new ≡ free_at t.old) }
 {
-    let refusal = sentence_refusal(t, cap, n);
-    if refusal != 0 {
-        return refusal;
-    }
+    sentence_refusal(t, cap, n)?;
     sentence_at(t, n);
-    0
+    Ok(())
 }
 
 pub fn remove(
@@ -60,17 +62,14 @@ pub fn remove(
     map: &mut FreeMap,
     d: u32,
     n: usize,
-) -> u32
+) -> Result<(), Refusal>
     requires { Standing cap d t.old v.old c.old × Maps map.old (free_at t.old) }
-    ensures { Applied (remove n) cap d (lists t.old v.old c.old) (lists t.new v.new c.new) result × Maps map.new (free_at t.new) }
+    ensures { Applied (remove n) cap d (lists t.old v.old c.old) (lists t.new v.new c.new) (refusal_of result) × Maps map.new (free_at t.new) }
 {
-    let refusal = remove_refusal(t, cap, n);
-    if refusal != 0 {
-        return refusal;
-    }
+    remove_refusal(t, cap, n)?;
     removed(t, v, c, cap, n);
     remove::remove(t, v, cap, map, d, n);
-    0
+    Ok(())
 }
 
 pub fn kill(
@@ -81,17 +80,14 @@ pub fn kill(
     map: &mut FreeMap,
     d: u32,
     n: usize,
-) -> u32
+) -> Result<(), Refusal>
     requires { Standing cap d t.old v.old c.old × Maps map.old (free_at t.old) }
-    ensures { Applied (kill n) cap d (lists t.old v.old c.old) (lists t.new v.new c.new) result × Maps map.new (free_at t.new) }
+    ensures { Applied (kill n) cap d (lists t.old v.old c.old) (lists t.new v.new c.new) (refusal_of result) × Maps map.new (free_at t.new) }
 {
-    let refusal = kill_refusal(t, cap, d, n);
-    if refusal != 0 {
-        return refusal;
-    }
+    kill_refusal(t, cap, d, n)?;
     killed(t, v, c, cap, n);
     kill::kill(t, v, cap, map, d, n);
-    0
+    Ok(())
 }
 
 pub fn set_value(
@@ -102,17 +98,14 @@ pub fn set_value(
     d: u32,
     n: usize,
     x: f64,
-) -> u32
+) -> Result<(), Refusal>
     requires { Standing cap d t.old v.old c.old }
-    ensures { Applied (set_value n x) cap d (lists t.old v.old c.old) (lists t.new v.new c.new) result × (free_at t.new ≡ free_at t.old) }
+    ensures { Applied (set_value n x) cap d (lists t.old v.old c.old) (lists t.new v.new c.new) (refusal_of result) × (free_at t.new ≡ free_at t.old) }
 {
-    let refusal = set_refusal(t, cap, n, x);
-    if refusal != 0 {
-        return refusal;
-    }
+    set_refusal(t, cap, n, x)?;
     valued(t, v, c, cap, n, x);
     set_at(t, v, n, x);
-    0
+    Ok(())
 }
 
 // The request whose kind byte stands at `at`: each kind reads its own body.
@@ -125,9 +118,9 @@ pub fn request(
     d: u32,
     tape: &[u8],
     at: usize,
-) -> u32
+) -> Result<(), Refusal>
     requires { Standing cap d t.old v.old c.old × Maps map.old (free_at t.old) × Whole tape.now at }
-    ensures { AppliedAt tape.now at cap d (lists t.old v.old c.old) (lists t.new v.new c.new) result × Maps map.new (free_at t.new) }
+    ensures { AppliedAt tape.now at cap d (lists t.old v.old c.old) (lists t.new v.new c.new) (refusal_of result) × Maps map.new (free_at t.new) }
 {
     match tape[at] {
         1 => refine(t, v, c, cap, map, d, number_at(tape, at)),
@@ -135,6 +128,6 @@ pub fn request(
         3 => remove(t, v, c, cap, map, d, number_at(tape, at)),
         4 => kill(t, v, c, cap, map, d, number_at(tape, at)),
         5 => set_value(t, v, c, cap, d, number_at(tape, at), value_at(tape, at)),
-        _ => 5,
+        _ => Err(Refusal::UnknownKind),
     }
 }
