@@ -1,6 +1,5 @@
 -- The laws of the leaf counts: step by step, all places, by rows, and on pictures.
 pub mod CountLaws
-pub mod AllPlaces
 pub mod RowPlaces
 pub mod Moving
 pub mod PicturedPlaces

@@ -13,11 +13,7 @@ pub fn put_built(c: &mut [u32], cells: u32)
     requires { length c.old ≡ count_places }
     ensures { c.new ≡ built_counts cells }
 {
-    let mut i = 0;
-    while i < COUNT_PLACES {
-        c[i] = 0;
-        i += 1;
-    }
+    c.fill(0);
     c[0] = cells;
 }
 
@@ -33,15 +29,7 @@ pub fn count_row(t: &[i32], v: &[f64], c: &mut [u32], cap: usize, n: usize)
 
 // Whether two lists of counts are the same.
 pub fn agree(a: &[u32], b: &[u32]) -> bool
-    requires { (length a.now ≡ count_places) × (length b.now ≡ count_places) }
     ensures { result ≡ same_list eqb a.now b.now }
 {
-    let mut i = 0;
-    while i < COUNT_PLACES {
-        if a[i] != b[i] {
-            return false;
-        }
-        i += 1;
-    }
-    true
+    a == b
 }
