@@ -25,11 +25,9 @@ pub fn patches_in(header: Header, d: u32) -> usize
     requires { Rectangle (header_of header).grid × (d ≡ base (header_of header).grid) }
     ensures { result ≡ length (numbered (header_of header).grid) }
 {
-    let mut sum: usize = 0;
-    let mut up: u32 = 0;
-    while up <= d {
+    let mut sum = 0;
+    for up in 0..=d {
         sum += level_size(header, up);
-        up += 1;
     }
     sum
 }
