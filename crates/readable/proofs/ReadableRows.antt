@@ -30,7 +30,7 @@ use Rattle.checker_laws.proofs.Climbing.{said-small}
 use Rattle.checker_laws.proofs.Reading.{flags-small}
 use Rattle.readable.specs.Readable.{linked}
 use Rattle.readable.specs.Readable.{positive, plain_row, Readable, Levelled}
-use Rattle.readable.proofs.CountingUp.{below_more, below_fails, below_all}
+use Rattle.readable.proofs.CountingUp.{below_all}
 
 -- ---- one row
 
@@ -93,15 +93,6 @@ module _ (t : List ℤ) (cap : ℕ) where
         )
 
   -- ---- all rows
-
-  pub not-all : (d n : ℕ) {r : Bool} → n ≤ cap → r ≡ plain_row t cap d n → r ≡ false → false ≡ below (suc cap) (plain_row t cap d)
-  not-all d n l e h = sym (below_fails (plain_row t cap d) (suc cap) n (omega arith) (sym e ∙ h))
-
-  pub one_more : (d k : ℕ) {r : Bool} → below k (plain_row t cap d) ≡ true → r ≡ plain_row t cap d k → r ≡ true → below (k + 1) (plain_row t cap d) ≡ true
-  one_more d k a e h = below_more (plain_row t cap d) k a (sym e ∙ h)
-
-  pub all-rows : (d k : ℕ) → k ≡ suc cap → below k (plain_row t cap d) ≡ true → true ≡ below (suc cap) (plain_row t cap d)
-  all-rows d k e h = sym (subst (λ (m : ℕ). below m (plain_row t cap d) ≡ true) e h)
 
   module _ (d : ℕ) (all : below (suc cap) (plain_row t cap d) ≡ true) where
     row-at : (n : ℕ) → n ≤ cap → plain_row t cap d n ≡ true

@@ -3,21 +3,19 @@
 use mathlib.Core.Path.{◌≡◌, sym, ◌∙◌}
 use mathlib.Core.Bool.{true, not, ◌&&◌, cond}
 use mathlib.Core.List.{List}
-use Prim.Native.Nat.{ℕ, suc, ◌+◌, ◌-◌, ◌*◌, ◌≤◌, ◌<◌}
+use Prim.Native.Nat.{ℕ, suc, ◌+◌, ◌-◌, ◌≤◌, ◌<◌}
 use native.Mathlib.Omega.{arith}
 use native.Mathlib.Decide.{dec_le, dec_lt, ℕ_discrete}
 use lib.Dec.{eqb, leb, ltb}
-use lib.ListN.{get_or}
-use lib.IntN.{ℤ, pos, negsuc, nat_abs}
+use lib.IntN.{ℤ, pos, negsuc}
 use lib.Signed.{le_z, lt_z}
 use mir.Syntax.{w32}
 use mir.Val.{SFits, to_z, of_z}
 use mir.Facts.{to_z-of_z, to_z-neg}
 use borrow.Author.Tests.{eq-eqb, ne_eqb, le-leb, lt-leb, lt-ltb, le-ltb}
-use Rattle.mesh.specs.Picture.{row_words, level_word}
+use Rattle.mesh.specs.Picture.{level_word}
 use Rattle.table.specs.Words.{code, word_of, depth_from, depth_of}
 use Rattle.readable.specs.Readable.{Levelled}
-use Rattle.table.proofs.Signed.{Plus, Minus, depth-plus, depth-minus, depth-none}
 
 -- a test of a sign
 pub sign-is : {z : ℤ} → SFits w32 z → le_z (pos 0) (to_z w32 (of_z w32 z)) ≡ ltb (code z) 2147483648
@@ -49,11 +47,6 @@ level-test d h {z} f =
     go (negsuc n) f =
         let c : 2147483648 + n - 2147483648 ≡ n = omega arith in
         rw (le-ltb (2147483648 + n) 2147483648 (omega arith), c) (low n (dec_lt n d))
-
--- the level at its place in the list
-pub depth-there : (t : List ℤ) (d n b : ℕ) {z : ℤ} → z ≡ get_or t (n * row_words + level_word) (pos 0) → depth_of t d n ≤ b → depth_from d (code z) ≤ b
-unfolding depth_of word_of
-depth-there t d n b e h = rw e h
 
 -- ---- levels that are not past the deepest
 
@@ -100,18 +93,3 @@ above-is {t} {cap} {d} {p} {n} h a b {x} {y} e f = go (ℕ_discrete (depth_of t 
     go : Dec (depth_of t d p + 1 ≡ depth_of t d n) → eqb (x + 1) y ≡ eqb (depth_of t d p + 1) (depth_of t d n)
     go (yes q) = eq-eqb (x + 1) y (omega (arith, i, j)) ∙ sym (eq-eqb _ _ q)
     go (no q) = ne_eqb (x + 1) y (λ r. q (omega (arith, i, j))) ∙ sym (ne_eqb _ _ q)
-
--- in both arms of the test of its sign the depth is the sum
-module _ (d : ℕ) (low : d ≤ 32) {z : ℤ} (deep : depth_from d (code z) ≤ d + 12) where
-  pub level-plus : (p : Plus z) → (nat_abs z + d ≤ d + 12) × (nat_abs z + d ≡ depth_from d (code z))
-  level-plus p = let (a, b) = depth-plus d p low in (omega arith, b)
-
-  pub level-minus : (m : Minus z) → m.size < d
-  level-minus m = go (dec_lt m.size d)
-    where
-      go : Dec (m.size < d) → m.size < d
-      go (yes h) = h
-      go (no h) = let (a, b) = depth-none d m (omega (arith, h)) low in absurd (omega arith)
-
-  pub level-below : (m : Minus z) → (d - 1 - m.size ≤ d + 12) × (d - 1 - m.size ≡ depth_from d (code z))
-  level-below m = let (a, b) = depth-minus d m (level-minus m) low in (omega arith, b)

@@ -63,14 +63,7 @@ pub fn plain(t: &[i32], cap: usize, d: u32) -> bool
     requires { Sized t.now cap × (d ≤ 32) }
     ensures { result ≡ below (suc cap) (plain_row t.now cap d) }
 {
-    let mut n = 0;
-    while n <= cap {
-        if !plain_row(t, cap, d, n) {
-            return false;
-        }
-        n += 1;
-    }
-    true
+    (0..cap + 1).all(|n| plain_row(t, cap, d, n))
 }
 
 // An index of the row n.
@@ -81,16 +74,10 @@ pub fn index(t: &[i32], cap: usize, n: usize, w: usize) -> u32
     word(t, n, w)
 }
 
-// The depth of the row n. Both arms are one sum to the compiler.
+// The depth of the row n.
 pub fn depth(t: &[i32], cap: usize, d: u32, n: usize) -> u32
     requires { Readable t.now cap × Levelled t.now cap d × (n ≤ cap) }
     ensures { (result ≤ d + 12) × (result ≡ depth_of t.now d n) }
 {
-    let x = raw(t, n, LEVEL);
-    if x >= 0 {
-        return x as u32 + d;
-    }
-    let y = !x;
-    let below = y as u32;
-    d - 1 - below
+    table::plain::depth(t, d, n)
 }

@@ -103,22 +103,3 @@ depth-sum d {z} f h l = rw (to_z-of_z f, to_z_pos w32 {n = d} (omega arith)) (go
         let e : 2147483648 + n - 2147483648 ≡ n = omega arith in
         let s : 2147483648 ≤ 2147483648 + n = omega arith in
         rw (le-ltb d (suc n) (omega arith), le-ltb (2147483648 + n) 2147483648 s, e, lt-ltb n d (omega arith)) (ap pos (omega arith))
-
--- the depth that a level says, in each arm of the tests
-module _ (d : ℕ) {z : ℤ} where
-  pub depth-plus : (p : Plus z) → d ≤ 32 → (nat_abs z + d < 2147483680) × (nat_abs z + d ≡ depth_from d (code z))
-  depth-plus p h =
-      let s : p.size < 2147483648 = p.small in
-      rw p.is (omega arith, rw (lt-ltb p.size 2147483648 s))
-
-  pub depth-minus : (m : Minus z) → m.size < d → d ≤ 32 → (d - 1 - m.size < 2147483680) × (d - 1 - m.size ≡ depth_from d (code z))
-  depth-minus m l h =
-      let e : 2147483648 + m.size - 2147483648 ≡ m.size = omega arith in
-      let s : 2147483648 ≤ 2147483648 + m.size = omega arith in
-      (omega arith, rw (m.is, le-ltb (2147483648 + m.size) 2147483648 s, e, lt-ltb m.size d l))
-
-  pub depth-none : (m : Minus z) → d ≤ m.size → d ≤ 32 → (d + 13 < 2147483680) × (d + 13 ≡ depth_from d (code z))
-  depth-none m l h =
-      let e : 2147483648 + m.size - 2147483648 ≡ m.size = omega arith in
-      let s : 2147483648 ≤ 2147483648 + m.size = omega arith in
-      (omega arith, rw (m.is, le-ltb (2147483648 + m.size) 2147483648 s, e, le-ltb m.size d l))

@@ -1,20 +1,17 @@
--- `readable::plain` meets its contract. The invariant: the rows below n pass.
-use mathlib.Core.Path.{refl}
-use borrow.Author.Rules.{rules}
+-- `readable::plain` meets its contract: every row of 0 to the capacity passes.
+use Prim.Native.Nat.{suc, ◌+◌}
 use native.Mathlib.Omega.{arith}
-use Rattle.readable.proofs.ReadableRows.{not-all, one_more, all-rows}
+use borrow.Author.Rules.{rules}
+use mathlib.Core.Path.{refl, ◌∙◌}
+use Rattle.std.proofs.lemmas.Iterator.{YieldsList-from_range}
+use Rattle.std.proofs.lemmas.Iterator.Search.{all_from_yields_List}
+use Rattle.readable.specs.Readable.{plain_row}
+use Rattle.readable.proofs.CountingUp.{all_below}
 use Rattle.readable.proofs.plain.Goals as goal
 
-pub loop-n-init : goal.loop-n-init
-loop-n-init c = (search rules, refl)
-
-pub returns-then-not-plain_row : goal.returns-then-not-plain_row
-returns-then-not-plain_row c =
-    not-all _ _ _ _ (omega arith) c.plain_row.ensures (c.if-not-plain_row.true)
-
-pub loop-n-preserved : goal.loop-n-preserved
-loop-n-preserved c =
-    (search rules, one_more _ _ _ c.loop-n.n c.loop-n.invariant.1 c.plain_row.ensures (c.if-not-plain_row.false))
-
 pub returns : goal.returns
-returns c = all-rows _ _ _ c.loop-n.n (omega arith) c.loop-n.invariant.1
+returns c =
+    let a = c.args in
+    let f = plain_row a.t.now a.cap a.d in
+    all_from_yields_List f _ _ _ c.all.ensures.ran (YieldsList-from_range 0 (a.cap + 1) (a.cap + 1) refl (omega arith)) (λ x b q k. search rules)
+    ∙ all_below f (a.cap + 1) (suc a.cap) (omega arith)
