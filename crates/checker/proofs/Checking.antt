@@ -1,16 +1,12 @@
 -- The checker's answer: each early return is the first check that refuses, and past them all the test by rows is the test of soundness.
 -- Assumes nothing.
-use Prim.Native.Nat.{ℕ, ◌-◌, ◌≤◌, ◌<◌, max}
+use Prim.Native.Nat.{ℕ, ◌-◌, ◌≤◌, max}
 use native.Mathlib.Omega.{arith}
 use mathlib.Core.Path.{◌≡◌, refl, sym, ◌∙◌}
 use mathlib.Core.Bool.{Bool, true, false, not, cond}
 use mathlib.Core.List.{List, [], ◌∷◌}
 use lib.Count.{count_leading_zeros}
-use lib.ListN.{length, get_or, get_or-eq_default}
-use lib.IntN.{ℤ, pos}
-use lib.Signed.{mag}
-use native.Mathlib.Decide.{dec_lt}
-use Rattle.table.specs.Words.{Fits, FitsAt}
+use Rattle.table.specs.Words.{Fits}
 use Rattle.mesh.specs.Picture.{Lent}
 use Rattle.mesh.specs.Refusal.{Check, refusal}
 use Rattle.mesh.specs.Call.{missized, Sizes, misfit, no1, no2, no3, lent_checks, lent_refusal, Rectangle}
@@ -25,18 +21,6 @@ use Rattle.checker_laws.proofs.Agreeing.{rowwise-is-sound}
 pub shallow : (g : Grid) → base g ≤ 32
 unfolding base
 shallow g = let h : 32 - count_leading_zeros 32 (max g.columns g.rows) ≤ 32 = omega arith in h
-
--- a word of 32 bits with a sign
-pub word_fits : (z : ℤ) → mag z < 2147483648 → (n : ℕ) → z ≡ pos n → n < 2147483648
-word_fits z h n e = let f : mag (pos n) < 2147483648 = rw e at h in f
-
--- past the end there is nothing but 0
-pub all_fit : (t : List ℤ) (k : ℕ) → length t ≤ k → ((i : ℕ) → i < k → FitsAt t i) → Fits t
-all_fit t k l h i = go (dec_lt i k)
-  where
-    go : Dec (i < k) → FitsAt t i
-    go (yes x) = h i x
-    go (no x) = word_fits (get_or t i (pos 0)) (rw (get_or-eq_default t (pos 0) {n = i} (omega arith)) (omega arith))
 
 -- ---- the first two checks
 

@@ -1,10 +1,9 @@
 // The checker of lent lists: yes, or refusal 1, 2 or 3.
-ghost use Rattle.std.specs.Prelude.{◌≡◌, ◌<◌, length, replicate, IfOk};
-ghost use Rattle.mesh.specs.LeafCounts.{count_places};
+ghost use Rattle.std.specs.Prelude.{◌≡◌, IfOk};
 ghost use Rattle.answer.specs.Refusals.{refusal_of};
 ghost use Rattle.mesh.specs.Call.{lent_refusal, check_call};
 ghost use Rattle.header.specs.Headers.{lent_of, counted_of};
-ghost use Rattle.table.specs.Words.{Fits, FitsAt};
+ghost use Rattle.table.specs.Words.{Fits};
 ghost use Rattle.tally.specs.TallyRows.{row_counts};
 
 use crate::first_checks::first_refusal;
@@ -19,18 +18,9 @@ use tally::full::agree;
 fn words_fit(t: &[i32])
     ensures { Fits t.now }
 {
-    let mut i = 0;
-    while i < t.len() {
-        let _ = sound_word(t, i);
-        i += 1;
+    for word in t {
+        let _read = *word;
     }
-}
-
-fn sound_word(t: &[i32], i: usize) -> i32
-    requires { i < length t.now }
-    ensures { FitsAt t.now i }
-{
-    t[i]
 }
 
 // The leaf counts of a sound table, or its refusal: of any lists of any length, any capacity and any header. The mark plays no part.

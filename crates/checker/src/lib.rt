@@ -62,13 +62,11 @@ pub fn rowwise(t: &[i32], v: &[f64], c: &mut [u32], cap: usize, header: Header, 
     if is_free(t, 1) {
         return false;
     }
-    let mut k = 0;
-    while k < cap {
-        if !row_ok(t, v, cap, header, d, k + 1) {
+    for n in 1..=cap {
+        if !row_ok(t, v, cap, header, d, n) {
             return false;
         }
-        count_row(t, v, c, cap, k + 1);
-        k += 1;
+        count_row(t, v, c, cap, n);
     }
     true
 }

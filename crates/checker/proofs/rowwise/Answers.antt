@@ -1,6 +1,6 @@
--- `checker::rowwise` meets its contract. The invariant: the rows up to k pass, and they are counted.
+-- `checker::rowwise` meets its contract. The invariant: the rows below n pass, and they are counted.
+use Prim.Native.Nat.{◌+◌}
 use native.Mathlib.Omega.{arith}
-use borrow.Author.Rules.{rules}
 use mathlib.Core.Path.{◌≡◌, refl, ap, ◌∙◌}
 use mathlib.Core.Bool.{false}
 use Rattle.place_laws.proofs.Bools.{is-yes}
@@ -11,37 +11,35 @@ use Rattle.checker.proofs.CountedRows.{row-placed, rows-added}
 use Rattle.checker.proofs.rowwise.Goals as goal
 
 pub returns-then-not-zero_ok : goal.returns-then-not-zero_ok
-returns-then-not-zero_ok c = (no_zero _ _ _ _ c.zero_ok.ensures (c.if-not-zero_ok.true), λ e. absurd (is-yes false e))
+returns-then-not-zero_ok c = (no_zero _ _ _ _ c.zero_ok.ensures c.if-not-zero_ok.true, λ e. absurd (is-yes false e))
 
 pub returns-then-is_free : goal.returns-then-is_free
-returns-then-is_free c =
-    (no-root _ _ _ _ c.zero_ok.ensures (c.if-not-zero_ok.false) c.is_free.ensures c.if-is_free.true, λ e. absurd (is-yes false e))
+returns-then-is_free c = (no-root _ _ _ _ c.zero_ok.ensures c.if-not-zero_ok.false c.is_free.ensures c.if-is_free.true, λ e. absurd (is-yes false e))
 
-pub loop-k-init : goal.loop-k-init
+pub loop-n-init : goal.loop-n-init
 unfolding row_counts
-loop-k-init c = (omega arith, refl, refl, c.requires.2)
-
-pub row_ok-requires : goal.row_ok-requires
-row_ok-requires c = let p = c.requires in (p.0, p.1, omega arith)
+loop-n-init c = (0, omega arith, refl, c.requires.2)
 
 pub returns-then-not-row_ok : goal.returns-then-not-row_ok
 returns-then-not-row_ok c =
-    (no_row _ _ _ _ c.zero_ok.ensures (c.if-not-zero_ok.false) c.is_free.ensures c.if-is_free.false c.loop-k.k (omega arith) c.row_ok.ensures (c.if-not-row_ok.true), λ e. absurd (is-yes false e))
+    let (k, next, _, _) = c.loop-n.invariant in
+    (no_row _ _ _ _ c.zero_ok.ensures c.if-not-zero_ok.false c.is_free.ensures c.if-is_free.false k (omega arith) (rw next at c.row_ok.ensures) c.if-not-row_ok.true, λ e. absurd (is-yes false e))
 
 pub count_row-requires : goal.count_row-requires
 count_row-requires c =
     let s = c.requires in
-    (s.0.readable.plain, s.1, omega arith, row-placed _ _ _ _ _ c.row_ok.ensures (c.if-not-row_ok.false), rw c.loop-k.invariant.3 (rows-roomy _ _ _ c.loop-k.k (omega (arith, s.0.readable.plain.sized.small))))
+    let (k, next, _, counted) = c.loop-n.invariant in
+    (s.0.readable.plain, s.1, omega arith, row-placed _ _ _ _ _ c.row_ok.ensures c.if-not-row_ok.false, rw counted (rows-roomy _ _ _ k (omega (arith, s.0.readable.plain.sized.small))))
 
-pub loop-k-preserved : goal.loop-k-preserved
-loop-k-preserved c = (
-  omega arith,
-  rows_more _ _ _ _ c.loop-k.k c.loop-k.invariant.1 c.row_ok.ensures (c.if-not-row_ok.false),
-  search rules,
-  rows-added _ _ _ c.loop-k.k c.loop-k.invariant.3 c.count_row.ensures,
-)
+pub loop-n-preserved : goal.loop-n-preserved
+loop-n-preserved c =
+    let (k, next, passed, counted) = c.loop-n.invariant in
+    (k + 1, omega arith, rows_more _ _ _ _ k passed (rw next at c.row_ok.ensures) c.if-not-row_ok.false, rows-added _ _ _ k counted (rw next at c.count_row.ensures))
 
-pub returns : goal.returns
-returns c =
-    let e : c.loop-k.k ≡ c.args.cap = omega arith in
-    (all-rows _ _ _ _ c.zero_ok.ensures (c.if-not-zero_ok.false) c.is_free.ensures c.if-is_free.false c.loop-k.k e c.loop-k.invariant.1, λ _. c.loop-k.invariant.3 ∙ ap (row_counts _ _ _) e)
+pub returns-else-not-row_ok : goal.returns-else-not-row_ok
+returns-else-not-row_ok c =
+    let (k, next, passed, counted) = c.loop-n.invariant in
+    let last : k + 1 ≡ c.args.cap = omega arith in (
+      all-rows _ _ _ _ c.zero_ok.ensures c.if-not-zero_ok.false c.is_free.ensures c.if-is_free.false (k + 1) last (rows_more _ _ _ _ k passed (rw next at c.row_ok.ensures) c.if-not-row_ok.false),
+      λ _. rows-added _ _ _ k counted (rw next at c.count_row.ensures) ∙ ap (row_counts _ _ _) last,
+    )
