@@ -1,5 +1,9 @@
 -- One request of a tape, from its kind byte on: an unknown kind, a short body, a refusal, or the next kind byte with another state.
 -- Assumes nothing.
+use Rattle.std.specs.Prelude.{Result}
+use Rattle.answer.specs.declared.Refusal.{Refusal}
+use Rattle.answer.specs.Refusals.{number, refusal_of, value_or}
+use Rattle.answer.proofs.Numbers.{not-zero}
 use Prim.Native.Nat.{ℕ, zero, suc, ◌+◌, ◌-◌, ◌≤◌, ◌<◌}
 use native.Mathlib.Omega.{arith}
 use native.Mathlib.Numerals.{add-one}
@@ -122,4 +126,17 @@ module _ (bytes : List ℕ) (at k : ℕ) (inside : at < length bytes) (is : k �
         goes = λ z s p.
             record { state = marked (effect s q); drawn = a.done s p z; next-mark = (accepted-done s p.valid q (sym (a.decided s p) ∙ z)).next-mark; goes_on = on s (marked (effect s q)) (request-accepted s q (sym (a.decided s p) ∙ z)) };
         further = λ z. (omega arith, omega (arith, fits, row.is-length));
+      }
+
+-- ---- by the answer that passes a refusal on: no kind byte is next
+
+module _ {bytes : List ℕ} {at cap d next : ℕ} {l l' : Header → Counted} (out : Result ℕ Refusal) (e : Refusal) where
+  pub turned-refused : refusal_of out ≡ number e → Turned bytes at cap d l l' (number e) next → Turned bytes at cap d l l' (refusal_of out) (value_or at out)
+  turned-refused o u =
+      let some : refusal_of out ≢ 0 = λ z. not-zero e (sym o ∙ z) in
+      record {
+        stops = λ z s p n. u.stops (not-zero e) s p n ∙ ap (λ (k : ℕ). record { state = s; done = n; refusal = k; offset = at }) (sym o);
+        same = λ z. u.same (not-zero e);
+        goes = λ z. absurd (some z);
+        further = λ z. absurd (some z);
       }

@@ -2,22 +2,17 @@
 ghost use Rattle.std.specs.Prelude.{◌<◌, length};
 ghost use Rattle.table.specs.Words.{free_at};
 ghost use Rattle.free.specs.FreeMap.{Maps};
+ghost use Rattle.answer.specs.Refusals.{refusal_of, value_or, stop_of};
 ghost use Rattle.apply.specs.Drawn.{lists, Standing, Pictured};
 ghost use Rattle.tape.specs.Ran.{Turned, Ran};
 
+use answer::{Refusal, refuse_if};
 use apply::request;
 use free::map::FreeMap;
 use header::next_mark;
 use kinds::{Body, body_of};
 
-// The refusal, 0 for none, and the offset of the next kind byte.
-#[derive(Clone, Copy)]
-pub struct Turn {
-    pub refusal: u32,
-    pub next: usize,
-}
-
-// The request whose kind byte stands at `at`.
+// The request whose kind byte stands at `at`; the offset of the next kind byte.
 fn turn_at(
     t: &mut [i32],
     v: &mut [f64],
@@ -27,32 +22,23 @@ fn turn_at(
     d: u32,
     tape: &[u8],
     at: usize,
-) -> Turn
+) -> Result<usize, Refusal>
     requires { Standing cap d t.old v.old c.old × Maps map.old (free_at t.old) × (at < length tape.now) }
-    ensures { Turned tape.now at cap d (lists t.old v.old c.old) (lists t.new v.new c.new) result.refusal result.next × Maps map.new (free_at t.new) }
+    ensures { Turned tape.now at cap d (lists t.old v.old c.old) (lists t.new v.new c.new) (refusal_of result) (value_or at result) × Maps map.new (free_at t.new) }
 {
     let Body::Bytes(len) = body_of(tape[at]) else {
-        return Turn {
-            refusal: 5,
-            next: at,
-        };
+        return Err(Refusal::UnknownKind);
     };
-    if tape.len() - at <= len {
-        return Turn {
-            refusal: 4,
-            next: at,
-        };
-    }
-    let next = at + 1 + len;
-    let refusal = request(t, v, c, cap, map, d, tape, at);
-    Turn { refusal, next }
+    refuse_if(tape.len() - at <= len, Refusal::CutOff)?;
+    request(t, v, c, cap, map, d, tape, at)?;
+    Ok(at + 1 + len)
 }
 
-// The requests done, the refusal or 0, the offset of the refused kind byte or the tape's length, and the mark.
+// The requests done, what the next one is refused for, the offset of its kind byte or the tape's length, and the mark.
 #[derive(Clone, Copy)]
 pub struct Run {
     pub done: usize,
-    pub refusal: u32,
+    pub refusal: Option<Refusal>,
     pub offset: usize,
     pub mark: u16,
 }
@@ -68,30 +54,29 @@ pub fn run_tape(
     tape: &[u8],
 ) -> Run
     requires { Pictured cap d (lists t.old v.old c.old) }
-    ensures { Ran tape.now cap d mark (lists t.old v.old c.old) (lists t.new v.new c.new) result.done result.refusal result.offset result.mark }
+    ensures { Ran tape.now cap d mark (lists t.old v.old c.old) (lists t.new v.new c.new) result.done (stop_of result.refusal) result.offset result.mark }
 {
-    let mut at = 0;
-    let mut done = 0;
-    let mut m = mark;
+    let mut run = Run {
+        done: 0,
+        refusal: None,
+        offset: 0,
+        mark,
+    };
     let mut map = FreeMap::load(t, cap);
-    while at < tape.len() {
-        let turn = turn_at(t, v, c, cap, &mut map, d, tape, at);
-        if turn.refusal != 0 {
-            return Run {
-                done,
-                refusal: turn.refusal,
-                offset: at,
-                mark: m,
-            };
+    while run.offset < tape.len() {
+        match turn_at(t, v, c, cap, &mut map, d, tape, run.offset) {
+            Ok(next) => {
+                run.done += 1;
+                run.offset = next;
+                run.mark = next_mark(run.mark);
+            }
+            Err(refusal) => {
+                return Run {
+                    refusal: Some(refusal),
+                    ..run
+                };
+            }
         }
-        done += 1;
-        at = turn.next;
-        m = next_mark(m);
     }
-    Run {
-        done,
-        refusal: 0,
-        offset: at,
-        mark: m,
-    }
+    run
 }

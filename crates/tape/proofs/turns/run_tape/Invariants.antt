@@ -3,14 +3,18 @@
 use Prim.Native.Nat.{◌-◌}
 use mathlib.Core.Path.{◌≡◌}
 use lib.ListN.{length}
+use Rattle.std.specs.Prelude.{None}
 use Rattle.table.specs.Words.{free_at}
 use Rattle.free.specs.FreeMap.{Maps}
 use Rattle.apply.specs.Drawn.{lists}
 use Rattle.tape.proofs.Running.{Ongoing}
 use Rattle.tape.proofs.turns.run_tape.Given as goal
 
-abbrev pub invariant-loop-at : goal.invariant-loop-at
-invariant-loop-at l = (length l.t ≡ length l.initial.t) × (length l.v ≡ length l.initial.v) × (length l.c ≡ length l.initial.c) × Ongoing l.tape l.cap l.d l.mark (lists l.initial.t l.initial.v l.initial.c) (lists l.t l.v l.c) l.at l.done l.m × Maps l.map (free_at l.t)
+abbrev pub invariant-loop-run : goal.invariant-loop-run
+invariant-loop-run l =
+    let i = l.initial in
+    Ongoing l.tape l.cap l.d l.mark (lists i.t i.v i.c) (lists l.t l.v l.c) l.run.offset l.run.done l.run.mark
+    × Maps l.map (free_at l.t) × (l.run.refusal ≡ None)
 
-abbrev pub decreases-loop-at : goal.decreases-loop-at
-decreases-loop-at l = length l.tape - l.at
+abbrev pub decreases-loop-run : goal.decreases-loop-run
+decreases-loop-run l = length l.tape - l.run.offset

@@ -1,17 +1,34 @@
 -- `tape::turns::turn_at` meets its contract: an unknown kind, a short body, or the request that the bytes ask for.
-use native.Mathlib.Omega.{arith}
-use mathlib.Core.Path.{refl}
-use Rattle.tape.proofs.Turning.{turned-unknown, turned-short, whole-body, turned-request}
+use Rattle.std.proofs.Common.{rules, refl, ap, ◌≡◌, ◌∙◌, arith}
+use Rattle.std.proofs.lemmas.Bool.{leb-true, leb-false}
+use Rattle.answer.specs.Refusals.{number, refusal_of}
+use Rattle.answer.specs.declared.Refusal.TheVariants.{CutOff}
+use Rattle.answer.proofs.InOrder.{refuses, passes}
+use Rattle.tape.proofs.Turning.{turned-unknown, turned-short, whole-body, turned-request, turned-refused}
 use Rattle.tape.proofs.turns.turn_at.Goals as goal
 
 pub returns-in_default : goal.returns-in_default
 returns-in_default c = (turned-unknown _ _ _ (omega arith) refl _ _ _ c.in_default.ensures, c.requires.1)
 
-pub returns-then-tape-at : goal.returns-then-tape-at
-returns-then-tape-at c = (turned-short _ _ _ (omega arith) refl _ _ _ c.in-Bytes.ensures c.if-tape-at.true, c.requires.1)
+pub returns-in_err-refuse_if : goal.returns-in_err-refuse_if
+returns-in_err-refuse_if c =
+    let (short, same) = refuses _ CutOff c.in_err-refuse_if.ensures in
+    let o : refusal_of c.from_residual.result ≡ number c.in_err-refuse_if.field-0.0 = search rules in
+    (turned-refused c.from_residual.result CutOff (o ∙ ap number same) (turned-short _ _ _ (omega arith) refl _ _ _ c.in-Bytes.ensures (leb-true _ _ short)), c.requires.1)
 
-pub request-refusal-requires : goal.request-refusal-requires
-request-refusal-requires c = let p = c.requires in (p.0, p.1, whole-body _ _ _ (omega arith) refl c.in-Bytes.ensures c.if-tape-at.false)
+pub request-requires : goal.request-requires
+request-requires c =
+    let (standing, maps, _) = c.requires in
+    (standing, maps, whole-body _ _ _ (omega arith) refl c.in-Bytes.ensures (leb-false _ _ (passes _ CutOff c.in_ok-refuse_if.ensures)))
+
+pub returns-in_err-request : goal.returns-in_err-request
+returns-in_err-request c =
+    let e = c.in_err-request.field-0.0 in
+    let o : refusal_of c.from_residual-in_err-request.result ≡ number e = search rules in
+    let (applied, maps) = c.in_err-request.ensures in
+    (turned-refused c.from_residual-in_err-request.result e o (turned-request _ _ _ (omega arith) refl c.in-Bytes.ensures (leb-false _ _ (passes _ CutOff c.in_ok-refuse_if.ensures)) applied), maps)
 
 pub returns : goal.returns
-returns c = (turned-request _ _ _ (omega arith) refl c.in-Bytes.ensures c.if-tape-at.false c.request-refusal.ensures.0, c.request-refusal.ensures.1)
+returns c =
+    let (applied, maps) = c.in_ok-request.ensures in
+    (turned-request _ _ _ (omega arith) refl c.in-Bytes.ensures (leb-false _ _ (passes _ CutOff c.in_ok-refuse_if.ensures)) applied, maps)
