@@ -32,21 +32,21 @@ module _ (t : List ℤ) (cap d n : ℕ) where
   unfolding four walls_anew
   walls-weighed sentenced = omega arith
 
-  pub walls-sum : (sentenced : Bool) {south west : ℕ} {c a b h v : Bool} {p q r u : ℕ} →
+  pub walls-sum : (sentenced : Bool) {south west : ℕ} {c a b : Bool} {p q r u : ℕ} →
+      let h = boundary_at t cap d n (not (beq c a)) j_word bdy_wall_h_bit in
+      let v = boundary_at t cap d n (not (beq c b)) i_word bdy_wall_v_bit in
       c ≡ flag_of t complete_bit n →
       south ≡ link_of t cap n south_word →
       a ≡ flag_of t complete_bit south →
       west ≡ link_of t cap n west_word →
       b ≡ flag_of t complete_bit west →
-      h ≡ boundary_at t cap d n (not (beq c a)) j_word bdy_wall_h_bit →
-      v ≡ boundary_at t cap d n (not (beq c b)) i_word bdy_wall_v_bit →
-      p ≡ four c (c || a) (c || b) false →
       q ≡ pair h (not (beq c a) && not h) →
       r ≡ pair v (not (beq c b) && not v) →
+      p ≡ four c (c || a) (c || b) false →
       u ≡ 4096 * cond sentenced 1 0 →
       p + 16 * q + 32 * r + u ≡ digits (walls_anew t cap d n sentenced)
   unfolding boundary_h boundary_v green_h green_v
-  walls-sum sentenced a1 a2 a3 a4 a5 a6 a7 a8 a9 a10 a11 = cc (walls-weighed sentenced)
+  walls-sum sentenced a1 a2 a3 a4 a5 a6 a7 a8 a9 = cc (walls-weighed sentenced)
 
   -- ---- then the walls that meet
 

@@ -4,48 +4,29 @@
 
 pub mod pass;
 
-ghost use Rattle.std.specs.Prelude.{◌≡◌, ◌<◌, ◌≤◌};
+ghost use Rattle.std.specs.Prelude.{◌≡◌, ℕ, ◌<◌, ◌≤◌};
 ghost use Rattle.mesh.specs.Tools.{digits};
-ghost use Rattle.mesh.specs.Picture.{row_words};
-ghost use Rattle.worked.specs.Worked.{boundary_at};
 ghost use Rattle.edit_laws.specs.Anew.{walls_anew, points_anew, wall_row, point_row};
 ghost use Rattle.table.specs.Plain.{Plain};
 
 use table::flag_bits::{BDY_WALL_H, BDY_WALL_V, COMPLETE, SENTENCED, WALL_H, WALL_V};
 use table::plain;
-use table::words::{EAST, FLAGS, INDEX_I, INDEX_J, LEVEL, NORTH, PARENT, SOUTH, WEST, says, word};
+use table::words::{EAST, FLAGS, INDEX_I, INDEX_J, NORTH, SOUTH, WEST};
 use table::writes::put;
-use worked::pairs::{boundary_or_green, corner, join, wall};
+use worked::pairs::{corner, join, own_wall, wall};
 use worked::{digits_of_four, weigh};
 
-// Whether a wall is boundary, if it has one cell: on level 0, and above where the wall of the parent is, by its bit k, and the word w is even.
-fn boundary(t: &[i32], cap: usize, d: u32, n: usize, one: bool, w: usize, k: u32) -> bool
-    requires { Plain t.now cap × (n ≤ cap) × (d ≤ 32) × (w < row_words) × (k < 32) }
-    ensures { result ≡ boundary_at t.now cap d n one w k }
-{
-    if !one {
-        return false;
-    }
-    if says(t, n, LEVEL, 0) {
-        return true;
-    }
-    (word(t, n, w) % 2 == 0) & plain::flag(t, cap, k, plain::link(t, cap, n, PARENT))
-}
-
 // The walls of a row anew, without the points and the cell that the walls around it make.
-fn walls_anew(t: &[i32], cap: usize, d: u32, n: usize, sentenced: bool) -> u32
-    requires { Plain t.now cap × (n ≤ cap) × (d ≤ 32) }
-    ensures { (result < 8192) × (result ≡ digits (walls_anew t.now cap d n sentenced)) }
+fn walls_anew(t: &[i32], cap: usize, n: usize, sentenced: bool) -> u32
+    requires { Plain t.now cap × (n ≤ cap) }
+    ensures { (result < 8192) × ((d : ℕ) → result ≡ digits (walls_anew t.now cap d n sentenced)) }
 {
     let c = plain::flag(t, cap, COMPLETE, n);
     let a = plain::flag(t, cap, COMPLETE, plain::link(t, cap, n, SOUTH));
     let b = plain::flag(t, cap, COMPLETE, plain::link(t, cap, n, WEST));
-    let h = boundary(t, cap, d, n, c != a, INDEX_J, BDY_WALL_H);
-    let v = boundary(t, cap, d, n, c != b, INDEX_I, BDY_WALL_V);
-    digits_of_four(c, c | a, c | b, false)
-        + 16 * boundary_or_green(c != a, h)
-        + 32 * boundary_or_green(c != b, v)
-        + weigh(sentenced, 4096)
+    let h = own_wall(t, cap, n, c != a, INDEX_J, BDY_WALL_H);
+    let v = own_wall(t, cap, n, c != b, INDEX_I, BDY_WALL_V);
+    digits_of_four(c, c | a, c | b, false) + 16 * h + 32 * v + weigh(sentenced, 4096)
 }
 
 // All flags of a row, off its own walls and those around it as their flags say them.
@@ -78,7 +59,7 @@ pub fn wall_row(t: &mut [i32], cap: usize, d: u32, n: usize)
         return;
     }
     let sentenced = plain::flag(t, cap, SENTENCED, n);
-    let x = walls_anew(t, cap, d, n, sentenced);
+    let x = walls_anew(t, cap, n, sentenced);
     put(t, n, FLAGS, x);
 }
 

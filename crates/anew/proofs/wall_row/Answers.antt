@@ -11,4 +11,4 @@ returns-then-n-eq0 c = (sym (nil-walled _ _ c.if-n-eq0.true _), c.requires.0)
 
 pub returns : goal.returns
 returns c =
-    (row-walled _ _ _ _ c.if-n-eq0.false c.flag-sentenced.ensures c.walls_anew-x.ensures.1 c.put.ensures, plain-put c.args.n c.walls_anew-x.result c.requires.0 c.put.ensures (omega arith))
+    (row-walled _ _ _ _ c.if-n-eq0.false c.flag-sentenced.ensures (c.walls_anew-x.ensures.1 c.args.d) c.put.ensures, plain-put c.args.n c.walls_anew-x.result c.requires.0 c.put.ensures (omega arith))
