@@ -8,12 +8,14 @@ ghost use Rattle.mesh.specs.Build.{numbered};
 ghost use Rattle.build.specs.BuildSteps.{Made};
 ghost use Rattle.mesh.specs.Call.{Rectangle};
 
+use crate::plan::Plan;
 use anew::pass::{Points, Walls};
 use header::Header;
 
 pub mod fill;
 pub mod ground;
 pub mod grow;
+pub mod plan;
 pub mod seam;
 
 // Writes the whole table and every value; the numbers in use.
@@ -23,7 +25,7 @@ pub fn build_table(t: &mut [i32], v: &mut [f64], cap: usize, header: Header) -> 
 {
     let d = header::ground_depth(header);
     fill::root_table(t, cap, d);
-    let r = grow::grow_levels(t, cap, header, d);
+    let r = grow::grow_levels(t, Plan { cap, header, d });
     seam::seam_rows(t, cap, header, d, r.ground, r.next);
     ground::put_ground(t, header, r.ground, r.next);
     ground::pass_rows(t, cap, Walls { d }, r.ground, r.next);

@@ -12,7 +12,7 @@ root_table-requires c =
 pub grow_levels-r-requires : goal.grow_levels-r-requires
 grow_levels-r-requires c =
     let p = c.requires in
-    let ground = c.ground_depth-d.ensures in (search rules, omega (arith, depth_small _ _ _ ground p.4 p.2 p.3 p.5), ground, all-levels _ _ _ ground p.4 p.2 p.3 p.5 _ c.root_table.ensures)
+    let ground = c.ground_depth-d.ensures in (search rules, all-levels _ _ _ ground p.4 p.2 p.3 p.5 _ c.root_table.ensures)
 
 pub seam_rows-requires : goal.seam_rows-requires
 seam_rows-requires c =
@@ -25,6 +25,12 @@ pass_rows-requires c =
     let p = c.requires in
     let ground = c.ground_depth-d.ensures in
     let r = c.grow_levels-r.ensures in (ground-plain _ _ _ ground p.4 p.2 p.3 p.5 _ _ _ _ c.root_table.ensures r _ _ c.seam_rows.ensures c.put_ground.ensures, r.before, r.high)
+
+pub invariant_of-grow_levels : goal.invariant_of-grow_levels
+invariant_of-grow_levels c =
+    let p = c.requires in
+    let ground = c.ground_depth-d.ensures in
+    record { ground = ground; within = omega (arith, depth_small _ _ _ ground p.4 p.2 p.3 p.5) }
 
 pub invariant_of-pass_rows : goal.invariant_of-pass_rows
 invariant_of-pass_rows c =

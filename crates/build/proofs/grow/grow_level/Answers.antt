@@ -6,19 +6,19 @@ use Rattle.build.proofs.Growths.{row-kids, row-rest}
 use Rattle.build.proofs.grow.grow_level.Goals as goal
 
 pub loop-q-init : goal.loop-q-init
-loop-q-init c = record { left = refl; room = c.requires.5 }
+loop-q-init c = record { left = refl; room = c.requires.3 }
 
 pub grow_kids-k-requires : goal.grow_kids-k-requires
 grow_kids-k-requires c =
     let l = c.loop-q in
-    (search rules, omega arith, c.requires.2, row-kids _ _ _ c.requires.2 _ l.q _ (growth l.t l.k) (omega arith) l.invariant.room)
+    (search rules, row-kids _ _ _ c.args.plan.ground _ l.q _ (growth l.t l.k) (omega arith) l.invariant.room)
 
 pub loop-q-preserved : goal.loop-q-preserved
 loop-q-preserved c =
     let l = c.loop-q in
     record {
       left = l.invariant.left ∙ rows_on _ l.q _ (growth l.t l.k) _ (omega arith) c.grow_kids-k.ensures;
-      room = row-rest _ _ _ c.requires.2 _ l.q _ (growth l.t l.k) _ (omega arith) l.invariant.room c.grow_kids-k.ensures;
+      room = row-rest _ _ _ c.args.plan.ground _ l.q _ (growth l.t l.k) _ (omega arith) l.invariant.room c.grow_kids-k.ensures;
     }
 
 pub returns : goal.returns

@@ -8,8 +8,8 @@ use Rattle.build.proofs.grow.grow_level.Given as goal
 
 abbrev pub invariant-loop-q : goal.invariant-loop-q
 invariant-loop-q l =
-    let grid = (header_of l.header).grid in
+    let grid = (header_of l.plan.header).grid in
     record {
-      left : grow_level grid l.cap l.d l.up (l.next - l.p) l.p (growth l.initial.t l.next) ≡ grow_level grid l.cap l.d l.up (l.next - l.q) l.q (growth l.t l.k);
-      room : LevelToGrow grid l.cap l.up (l.next - l.q) l.q (growth l.t l.k);
+      left : grow_level grid l.plan.cap l.plan.d l.up (l.next - l.p) l.p (growth l.initial.t l.next) ≡ grow_level grid l.plan.cap l.plan.d l.up (l.next - l.q) l.q (growth l.t l.k);
+      room : LevelToGrow grid l.plan.cap l.up (l.next - l.q) l.q (growth l.t l.k);
     }

@@ -6,18 +6,18 @@ use Rattle.build.proofs.Growths.{next_level, levels-on, ground-on, levels-left, 
 use Rattle.build.proofs.grow.grow_levels.Goals as goal
 
 pub loop-up-init : goal.loop-up-init
-loop-up-init c = record { left = refl; from = refl; room = c.requires.3 }
+loop-up-init c = record { left = refl; from = refl; room = c.requires.1 }
 
 pub grow_level-next-requires : goal.grow_level-next-requires
 grow_level-next-requires c =
     let l = c.loop-up in
     let (a, b, e) = levels-bounds l.up l.invariant.room in
-    (search rules, omega arith, c.requires.2, b, e, next_level _ _ _ c.requires.2 l.up l.r.ground (omega arith) (growth l.t l.r.next) l.invariant.room)
+    (search rules, b, e, next_level _ _ _ c.args.plan.ground l.up l.r.ground (omega arith) (growth l.t l.r.next) l.invariant.room)
 
 pub loop-up-preserved : goal.loop-up-preserved
 loop-up-preserved c =
     let l = c.loop-up in
-    let e = c.requires.2 in
+    let e = c.args.plan.ground in
     let s = c.grow_level-next.ensures in
     record {
       left = l.invariant.left ∙ levels-on _ _ _ e l.up l.r.ground (omega arith) (growth l.t l.r.next) _ s;
@@ -28,4 +28,4 @@ loop-up-preserved c =
 pub returns : goal.returns
 returns c =
     let l = c.loop-up in
-    reached _ _ _ c.requires.2 l.up l.r.ground _ (growth l.t l.r.next) (omega arith) l.invariant.left l.invariant.from l.invariant.room
+    reached _ _ _ c.args.plan.ground l.up l.r.ground _ (growth l.t l.r.next) (omega arith) l.invariant.left l.invariant.from l.invariant.room

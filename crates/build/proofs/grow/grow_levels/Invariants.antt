@@ -8,11 +8,11 @@ use Rattle.build.proofs.grow.grow_levels.Given as goal
 
 abbrev pub invariant-loop-up : goal.invariant-loop-up
 invariant-loop-up l =
-    let grid = (header_of l.header).grid in
+    let grid = (header_of l.plan.header).grid in
     let start = growth l.initial.t 2 in
     let now = growth l.t l.r.next in
     record {
-      left : grow_levels grid l.cap l.d l.d 1 start ≡ grow_levels grid l.cap l.d l.up l.r.ground now;
-      from : ground_from grid l.cap l.d l.d 1 start ≡ ground_from grid l.cap l.d l.up l.r.ground now;
-      room : LevelsToGrow grid l.cap l.up l.r.ground now;
+      left : grow_levels grid l.plan.cap l.plan.d l.plan.d 1 start ≡ grow_levels grid l.plan.cap l.plan.d l.up l.r.ground now;
+      from : ground_from grid l.plan.cap l.plan.d l.plan.d 1 start ≡ ground_from grid l.plan.cap l.plan.d l.up l.r.ground now;
+      room : LevelsToGrow grid l.plan.cap l.up l.r.ground now;
     }
