@@ -11,6 +11,6 @@ pub struct Plan {
     pub cap: usize,
     pub header: Header,
     pub d: u32,
-    pub ghost ground: { d ≡ base (header_of header).grid },
+    pub ghost depth_is: { d ≡ base (header_of header).grid },
     pub ghost within: { d ≤ 32 },
 }

@@ -30,7 +30,7 @@ pub invariant_of-grow_levels : goal.invariant_of-grow_levels
 invariant_of-grow_levels c =
     let p = c.requires in
     let ground = c.ground_depth-d.ensures in
-    record { ground = ground; within = omega (arith, depth_small _ _ _ ground p.4 p.2 p.3 p.5) }
+    record { depth_is = ground; within = omega (arith, depth_small _ _ _ ground p.4 p.2 p.3 p.5) }
 
 pub invariant_of-pass_rows : goal.invariant_of-pass_rows
 invariant_of-pass_rows c =

@@ -11,14 +11,14 @@ loop-q-init c = record { left = refl; room = c.requires.3 }
 pub grow_kids-k-requires : goal.grow_kids-k-requires
 grow_kids-k-requires c =
     let l = c.loop-q in
-    (search rules, row-kids _ _ _ c.args.plan.ground _ l.q _ (growth l.t l.k) (omega arith) l.invariant.room)
+    (search rules, row-kids _ _ _ c.args.plan.depth_is _ l.q _ (growth l.t l.k) (omega arith) l.invariant.room)
 
 pub loop-q-preserved : goal.loop-q-preserved
 loop-q-preserved c =
     let l = c.loop-q in
     record {
       left = l.invariant.left ∙ rows_on _ l.q _ (growth l.t l.k) _ (omega arith) c.grow_kids-k.ensures;
-      room = row-rest _ _ _ c.args.plan.ground _ l.q _ (growth l.t l.k) _ (omega arith) l.invariant.room c.grow_kids-k.ensures;
+      room = row-rest _ _ _ c.args.plan.depth_is _ l.q _ (growth l.t l.k) _ (omega arith) l.invariant.room c.grow_kids-k.ensures;
     }
 
 pub returns : goal.returns
