@@ -1,15 +1,27 @@
 // What is lent, changed item by item.
-ghost use Rattle.std.specs.Prelude.{◌<◌};
-
 use crate::input::number;
+
+#[derive(Drop)]
+pub struct Lent {
+    pub words: [i32; 2844],
+    pub values: [f64; 231],
+    pub counts: [u32; 69],
+    pub numbers: [u32; 14],
+}
+
+// Which list of what is lent.
+#[derive(Clone, Copy)]
+pub enum List {
+    Words,
+    Values,
+    Counts,
+    Numbers,
+}
 
 // The word that a number stands for.
 pub fn word(n: u64) -> i32 {
     let m = (n % 0x8000_0000) as i32;
-    if n < 0x8000_0000 {
-        return m;
-    }
-    !m
+    if n < 0x8000_0000 { m } else { !m }
 }
 
 // The value that has the bits w. There is one NaN, and it has no bits.
@@ -20,79 +32,47 @@ fn value(w: u64) -> f64 {
     f64::from_bits(w)
 }
 
-fn put_word(t: &mut [i32; 2844], k: usize, x: i32) {
-    if k < 2844 {
-        t[k] = x;
+fn count(n: u64) -> u32 {
+    (n % 0x1_0000_0000) as u32
+}
+
+// Changes the item at a place, if there is one.
+fn put<T: Copy>(items: &mut [T], place: usize, item: T) {
+    if let Some(old) = items.get_mut(place) {
+        *old = item;
     }
 }
 
-fn put_value(v: &mut [f64; 231], k: usize, x: f64) {
-    if k < 231 {
-        v[k] = x;
-    }
-}
-
-fn put_number(h: &mut [u32; 14], k: usize, x: u32) {
-    if k < 14 {
-        h[k] = x;
-    }
-}
-
-fn put_count(c: &mut [u32; 69], k: usize, x: u32) {
-    if k < 69 {
-        c[k] = x;
-    }
-}
-
-// Changes the item at k to the number x.
-fn put(
-    t: &mut [i32; 2844],
-    v: &mut [f64; 231],
-    c: &mut [u32; 69],
-    h: &mut [u32; 14],
-    kind: usize,
-    k: usize,
-    x: u64,
-) {
-    if kind == 1 {
-        put_word(t, k, word(x));
-        return;
-    }
-    if kind == 2 {
-        put_value(v, k, value(x));
-        return;
-    }
-    let n = (x % 0x1_0000_0000) as u32;
-    if kind == 3 {
-        put_number(h, k, n);
-        return;
-    }
-    put_count(c, k, n);
-}
-
-// Carries a run out that changes what is lent, its items being in b.
-pub fn run(
-    t: &mut [i32; 2844],
-    v: &mut [f64; 231],
-    c: &mut [u32; 69],
-    h: &mut [u32; 14],
-    b: &[u8],
-    kind: usize,
-    start: usize,
-    bytes: usize,
-    size: usize,
-)
-    requires { (start < 65536) × (bytes < 65536) × (size < 65536) }
-{
-    let mut i = 0;
-    let mut at = 0;
-    while i < bytes {
-        if at >= bytes {
-            return;
+impl Lent {
+    pub fn new() -> Lent {
+        Lent {
+            words: [0; 2844],
+            values: [0.0; 231],
+            counts: [0; 69],
+            numbers: [0; 14],
         }
-        let x = number(b, at, size);
-        put(t, v, c, h, kind, start + i, x);
-        at += size;
-        i += 1;
+    }
+
+    // Changes the item at a place of a list to what the number stands for.
+    fn put(&mut self, list: List, place: usize, n: u64) {
+        match list {
+            List::Words => put(&mut self.words, place, word(n)),
+            List::Values => put(&mut self.values, place, value(n)),
+            List::Counts => put(&mut self.counts, place, count(n)),
+            List::Numbers => put(&mut self.numbers, place, count(n)),
+        }
+    }
+
+    // Changes the items of a list from a start on to those in b, which is read as if it had so many bytes, of each so many.
+    pub fn change(&mut self, list: List, b: &[u8], start: u16, bytes: u16, size: u16) {
+        let bytes = usize::from(bytes);
+        let size = usize::from(size);
+        for i in 0..bytes {
+            let at = i * size;
+            if at >= bytes {
+                return;
+            }
+            self.put(list, usize::from(start) + i, number(b, at, size));
+        }
     }
 }

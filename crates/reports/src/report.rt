@@ -1,24 +1,48 @@
 // The lines that are written: numbers, and of a list its sum by place.
 ghost use Rattle.std.specs.Prelude.{◌<◌};
 
+use std::fmt::Display;
 use std::io;
 use std::io::Write;
 use table::words::coded;
 
-// A sum that tells lists apart in which an item changed or moved.
-pub fn mix(s: u64, x: u32) -> u64
-    ensures { result < 4294967291 }
-{
-    let y = x as u64;
-    (s % 4294967291 * 65599 + y) % 4294967291
+// An item of a sum that tells lists apart in which an item changed or moved.
+pub trait Mix: Copy {
+    fn mix_into(self, sum: u64) -> u64
+        ensures { result < 4294967291 };
 }
 
-fn short_wide(x: u16) -> u32 {
-    x as u32
+impl Mix for u32 {
+    fn mix_into(self, sum: u64) -> u64 {
+        (sum % 4294967291 * 65599 + u64::from(self)) % 4294967291
+    }
 }
 
-fn byte_wide(x: u8) -> u32 {
-    x as u32
+impl Mix for u16 {
+    fn mix_into(self, sum: u64) -> u64 {
+        u32::from(self).mix_into(sum)
+    }
+}
+
+impl Mix for u8 {
+    fn mix_into(self, sum: u64) -> u64 {
+        u32::from(self).mix_into(sum)
+    }
+}
+
+impl Mix for i32 {
+    fn mix_into(self, sum: u64) -> u64 {
+        coded(self).mix_into(sum)
+    }
+}
+
+impl Mix for f64 {
+    fn mix_into(self, sum: u64) -> u64 {
+        let w = bits(self);
+        let high = (w / 0x1_0000_0000) as u32;
+        let low = (w % 0x1_0000_0000) as u32;
+        low.mix_into(high.mix_into(sum))
+    }
 }
 
 fn bits(x: f64) -> u64 {
@@ -28,66 +52,12 @@ fn bits(x: f64) -> u64 {
     0x7ff8_0000_0000_0000
 }
 
-pub fn mix_value(s: u64, x: f64) -> u64
-    ensures { result < 4294967291 }
-{
-    let w = bits(x);
-    let high = mix(s, (w / 0x1_0000_0000) as u32);
-    mix(high, (w % 0x1_0000_0000) as u32)
+fn sum<T: Mix>(items: &[T]) -> u64 {
+    items.iter().fold(1, |so_far, item| item.mix_into(so_far))
 }
 
-fn sum_words(t: &[i32]) -> u64 {
-    let mut s: u64 = 1;
-    let mut i = 0;
-    while i < t.len() {
-        s = mix(s, coded(t[i]));
-        i += 1;
-    }
-    s
-}
-
-fn sum_values(v: &[f64]) -> u64 {
-    let mut s: u64 = 1;
-    let mut i = 0;
-    while i < v.len() {
-        s = mix_value(s, v[i]);
-        i += 1;
-    }
-    s
-}
-
-fn sum_counts(c: &[u32]) -> u64 {
-    let mut s: u64 = 1;
-    let mut i = 0;
-    while i < c.len() {
-        s = mix(s, c[i]);
-        i += 1;
-    }
-    s
-}
-
-fn sum_shorts(out: &[u16]) -> u64 {
-    let mut s: u64 = 1;
-    let mut i = 0;
-    while i < out.len() {
-        s = mix(s, short_wide(out[i]));
-        i += 1;
-    }
-    s
-}
-
-fn sum_bytes(out: &[u8]) -> u64 {
-    let mut s: u64 = 1;
-    let mut i = 0;
-    while i < out.len() {
-        s = mix(s, byte_wide(out[i]));
-        i += 1;
-    }
-    s
-}
-
-pub fn tell(lines: &mut impl Write, n: u64) -> io::Result<()> {
-    write!(lines, "{n} ")
+pub fn tell(lines: &mut impl Write, number: impl Display + Drop) -> io::Result<()> {
+    write!(lines, "{number} ")
 }
 
 pub fn tell_value(lines: &mut impl Write, x: f64) -> io::Result<()> {
@@ -95,18 +65,8 @@ pub fn tell_value(lines: &mut impl Write, x: f64) -> io::Result<()> {
     write!(lines, "{w:016x} ")
 }
 
-pub fn tell_shorts(lines: &mut impl Write, out: &[u16]) -> io::Result<()> {
-    tell(lines, sum_shorts(out))
-}
-
-pub fn tell_bytes(lines: &mut impl Write, out: &[u8]) -> io::Result<()> {
-    tell(lines, sum_bytes(out))
-}
-
-pub fn tell_lists(lines: &mut impl Write, t: &[i32], v: &[f64], c: &[u32]) -> io::Result<()> {
-    tell(lines, sum_words(t))?;
-    tell(lines, sum_values(v))?;
-    tell(lines, sum_counts(c))
+pub fn tell_sum<T: Mix>(lines: &mut impl Write, items: &[T]) -> io::Result<()> {
+    tell(lines, sum(items))
 }
 
 pub fn end_line(lines: &mut impl Write) -> io::Result<()> {

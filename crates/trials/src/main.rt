@@ -26,96 +26,68 @@
 #![tactic(auto)]
 
 mod calls;
-mod lent;
+mod kind;
+mod loan;
 
-ghost use Rattle.std.specs.Prelude.{◌<◌, ◌≤◌, length};
-
-use crate::calls::call;
-use reports::input::{read_full, short};
-use reports::lists::run;
+use crate::calls::line;
+use crate::kind::Kind;
+use reports::input::read_full;
+use reports::lists::Lent;
 use std::io;
 use std::io::{Read, Write};
 
-fn least(a: usize, b: usize) -> usize
-    ensures { (result ≤ a) × (result ≤ b) }
-{
-    if a < b { a } else { b }
+// A run but for its items.
+#[derive(Clone, Copy)]
+struct Head {
+    kind: Kind,
+    start: u16,
+    bytes: u16,
+    size: u16,
 }
 
-// Reads n bytes into the list b.
-fn fill(input: &mut impl Read, b: &mut [u8], n: usize) -> io::Result<()>
-    requires { n ≤ length b.old }
-{
-    read_full(input, &mut b[..n])?;
-    Ok(())
-}
-
-// Whether a run of the kind changes what is lent, and is no call.
-fn changes(kind: usize) -> bool {
-    if kind == 11 {
-        return true;
+// Reads the head of a run; None where there is no further one.
+fn read_head(input: &mut impl Read) -> io::Result<Option<Head>> {
+    let mut head = [0u8; 8];
+    if read_full(input, &mut head)? < 8 {
+        return Ok(None);
     }
-    kind < 4
+    let [a, b, c, d, e, f, g, h] = head;
+    Ok(Some(Head {
+        kind: Kind::from(u16::from_be_bytes([a, b])),
+        start: u16::from_be_bytes([c, d]),
+        bytes: u16::from_be_bytes([e, f]),
+        size: u16::from_be_bytes([g, h]),
+    }))
 }
 
-// Reads a run's items and carries it out, its head being read.
+// Reads a run's items and carries it out.
 fn carry_out(
     input: &mut impl Read,
     lines: &mut impl Write,
-    t: &mut [i32; 2844],
-    v: &mut [f64; 231],
-    c: &mut [u32; 69],
-    h: &mut [u32; 14],
-    kind: usize,
-    start: usize,
-    bytes: usize,
-    size: usize,
-) -> io::Result<()>
-    requires { (start < 65536) × (bytes < 65536) × (size < 65536) }
-{
+    lent: &mut Lent,
+    head: Head,
+) -> io::Result<()> {
     let mut b = [0u8; 4096];
-    let n = least(bytes, 4096);
-    fill(input, &mut b, n)?;
-    if changes(kind) {
-        run(t, v, c, h, &b, kind, start, bytes, size);
-        return Ok(());
+    let n = usize::from(head.bytes).min(4096);
+    read_full(input, &mut b[..n])?;
+    match head.kind {
+        Kind::Change(list) => {
+            lent.change(list, &b, head.start, head.bytes, head.size);
+            Ok(())
+        }
+        Kind::Make(call) => line(lines, lent, call, &b, n),
     }
-    call(lines, t, v, c, h, &b, n, kind)
-}
-
-// Reads a run and carries it out. Answers whether there was one.
-fn turn(
-    input: &mut impl Read,
-    lines: &mut impl Write,
-    t: &mut [i32; 2844],
-    v: &mut [f64; 231],
-    c: &mut [u32; 69],
-    h: &mut [u32; 14],
-) -> io::Result<bool> {
-    let mut head = [0u8; 8];
-    let got = read_full(input, &mut head)?;
-    if got < 8 {
-        return Ok(false);
-    }
-    let kind = short(&head, 0);
-    let start = short(&head, 2);
-    let bytes = short(&head, 4);
-    let size = short(&head, 6);
-    carry_out(input, lines, t, v, c, h, kind, start, bytes, size)?;
-    Ok(true)
 }
 
 fn main(rt: HostRuntime) -> io::Result<()> {
     let mut input = rt.stdin();
     let mut lines = rt.stdout();
-    let mut t = [0i32; 2844];
-    let mut v = [0.0f64; 231];
-    let mut c = [0u32; 69];
-    let mut h = [0u32; 14];
+    let mut lent = Lent::new();
     for _ in 0..u64::MAX {
-        if !turn(&mut input, &mut lines, &mut t, &mut v, &mut c, &mut h)? {
+        let Some(head) = read_head(&mut input)? else {
             break;
-        }
+        };
+        carry_out(&mut input, &mut lines, &mut lent, head)?;
     }
     Ok(())
 }
