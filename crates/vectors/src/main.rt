@@ -6,67 +6,39 @@
 // Where a read or a write fails, the program ends with that error, and what it wrote before stands.
 #![tactic(auto)]
 
-ghost use Rattle.std.specs.Prelude.{◌≤◌, ◌<◌, length, IfOk};
-
 use reports::input::read_full;
 use std::io;
 use std::io::{Read, Write};
 
-fn wide(b: u8) -> usize
-    ensures { result < 256 }
-{
-    b as usize
-}
-
-// The number that the four bytes are.
-fn number(b: &[u8; 4]) -> usize {
-    let high = wide(b[0]) * 256 + wide(b[1]);
-    let low = wide(b[2]) * 256 + wide(b[3]);
-    high * 65536 + low
-}
-
-// Reads n bytes into the list b, and answers how many there were.
-fn fill(input: &mut impl Read, b: &mut [u8], n: usize) -> io::Result<usize>
-    requires { n ≤ length b.old }
-    ensures { IfOk result (λ m. m ≤ n) }
-{
-    read_full(input, &mut b[..n])
-}
-
-// Prints for the first n bytes of b.
-fn answer(pages: &mut impl Write, b: &[u8], n: usize) -> io::Result<()>
-    requires { n ≤ length b.now }
-{
-    let mut out = [0u8; 104000];
-    let w = program::print(&b[..n], &mut out);
-    let k = w.count;
-    pages.write_all(&out[..k])
-}
-
-// Reads a case and prints for it. Answers whether there was one.
-fn turn(input: &mut impl Read, pages: &mut impl Write) -> io::Result<bool> {
+// Reads the next case into b, and answers its input; None at the end of the list.
+fn read_case<'a>(input: &mut impl Read, b: &'a mut [u8; 60001]) -> io::Result<Option<&'a [u8]>> {
     let mut head = [0u8; 4];
-    let got = read_full(input, &mut head)?;
-    if got < 4 {
-        return Ok(false);
+    if read_full(input, &mut head)? < 4 {
+        return Ok(None);
     }
-    let n = number(&head);
-    if n > 60001 {
-        return Ok(false);
-    }
-    let mut b = [0u8; 60001];
-    let m = fill(input, &mut b, n)?;
-    answer(pages, &b, m)?;
-    Ok(true)
+    let Some(case) = b.get_mut(..u32::from_be_bytes(head) as usize) else {
+        return Ok(None);
+    };
+    let n = read_full(input, case)?;
+    Ok(Some(&case[..n]))
+}
+
+// Prints for an input.
+fn answer(pages: &mut impl Write, input: &[u8]) -> io::Result<()> {
+    let mut out = [0u8; 104000];
+    let wrote = program::print(input, &mut out);
+    pages.write_all(&out[..wrote.count])
 }
 
 fn main(rt: HostRuntime) -> io::Result<()> {
     let mut input = rt.stdin();
     let mut pages = rt.stdout();
+    let mut b = [0u8; 60001];
     for _ in 0..u64::MAX {
-        if !turn(&mut input, &mut pages)? {
+        let Some(case) = read_case(&mut input, &mut b)? else {
             break;
-        }
+        };
+        answer(&mut pages, case)?;
     }
     Ok(())
 }
