@@ -1,5 +1,6 @@
 // What is lent, changed item by item.
 use crate::input::number;
+use std::num::f64_from_bits_with_nan;
 
 #[derive(Drop)]
 pub struct Lent {
@@ -24,20 +25,13 @@ pub fn word(n: u64) -> i32 {
     if n < 0x8000_0000 { m } else { !m }
 }
 
-// The value that has the bits w. There is one NaN, and it has no bits.
-fn value(w: u64) -> f64 {
-    if w % 0x8000_0000_0000_0000 > 0x7ff0_0000_0000_0000 {
-        return 0.0 / 0.0;
-    }
-    f64::from_bits(w)
-}
-
-fn count(n: u64) -> u32 {
+// The low half of a number.
+fn low(n: u64) -> u32 {
     (n % 0x1_0000_0000) as u32
 }
 
 // Changes the item at a place, if there is one.
-fn put<T: Copy>(items: &mut [T], place: usize, item: T) {
+fn put_item<T: Copy>(items: &mut [T], place: usize, item: T) {
     if let Some(old) = items.get_mut(place) {
         *old = item;
     }
@@ -56,10 +50,10 @@ impl Lent {
     // Changes the item at a place of a list to what the number stands for.
     fn put(&mut self, list: List, place: usize, n: u64) {
         match list {
-            List::Words => put(&mut self.words, place, word(n)),
-            List::Values => put(&mut self.values, place, value(n)),
-            List::Counts => put(&mut self.counts, place, count(n)),
-            List::Numbers => put(&mut self.numbers, place, count(n)),
+            List::Words => put_item(&mut self.words, place, word(n)),
+            List::Values => put_item(&mut self.values, place, f64_from_bits_with_nan(n)),
+            List::Counts => put_item(&mut self.counts, place, low(n)),
+            List::Numbers => put_item(&mut self.numbers, place, low(n)),
         }
     }
 

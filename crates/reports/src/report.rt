@@ -4,6 +4,7 @@ ghost use Rattle.std.specs.Prelude.{◌<◌};
 use std::fmt::Display;
 use std::io;
 use std::io::Write;
+use std::num::f64_to_bits_with_nan;
 use table::words::coded;
 
 // An item of a sum that tells lists apart in which an item changed or moved.
@@ -38,20 +39,14 @@ impl Mix for i32 {
 
 impl Mix for f64 {
     fn mix_into(self, sum: u64) -> u64 {
-        let w = bits(self);
+        let w = f64_to_bits_with_nan(self);
         let high = (w / 0x1_0000_0000) as u32;
         let low = (w % 0x1_0000_0000) as u32;
         low.mix_into(high.mix_into(sum))
     }
 }
 
-fn bits(x: f64) -> u64 {
-    if x == x {
-        return f64::to_bits(x);
-    }
-    0x7ff8_0000_0000_0000
-}
-
+// The sum of a list by place.
 fn sum<T: Mix>(items: &[T]) -> u64 {
     items.iter().fold(1, |so_far, item| item.mix_into(so_far))
 }
@@ -61,7 +56,7 @@ pub fn tell(lines: &mut impl Write, number: impl Display + Drop) -> io::Result<(
 }
 
 pub fn tell_value(lines: &mut impl Write, x: f64) -> io::Result<()> {
-    let w = bits(x);
+    let w = f64_to_bits_with_nan(x);
     write!(lines, "{w:016x} ")
 }
 

@@ -20,6 +20,7 @@ pub enum Kind {
     Make(Call),
 }
 
+// Of the numbers that no kind has, 0 is taken for counts, and the others for a page.
 impl From<u16> for Kind {
     fn from(n: u16) -> Kind {
         match n {

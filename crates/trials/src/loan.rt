@@ -14,31 +14,20 @@ pub struct Loan<'a> {
 
 // As much of each list as the numbers say; None where there is not that much.
 pub fn lend(lent: &mut Lent) -> Option<Loan<'_>> {
-    let numbers = lent.numbers;
-    let [
-        columns,
-        rows,
-        mode,
-        mark,
-        capacity,
+    let [columns, rows, mode, mark, ..] = lent.numbers;
+    let [_, _, _, _, capacity, table, reals, tallies, ..] = lent.numbers;
+    let [.., a, b, c, d, e, f] = lent.numbers;
+    let Lent {
         words,
         values,
         counts,
-        a,
-        b,
-        c,
-        d,
-        e,
-        f,
-    ] = numbers;
-    let all_words = &mut lent.words;
-    let all_values = &mut lent.values;
-    let all_counts = &mut lent.counts;
+        ..
+    } = lent;
     Some(Loan {
         header: with_mark(fresh(columns, rows, mode), (mark % 65536) as u16),
-        words: all_words.get_mut(..words as usize)?,
-        values: all_values.get_mut(..values as usize)?,
-        counts: all_counts.get_mut(..counts as usize)?,
+        words: words.get_mut(..table as usize)?,
+        values: values.get_mut(..reals as usize)?,
+        counts: counts.get_mut(..tallies as usize)?,
         capacity,
         arguments: [a, b, c, d, e, f],
     })

@@ -51,12 +51,11 @@ fn read_head(input: &mut impl Read) -> io::Result<Option<Head>> {
     if read_full(input, &mut head)? < 8 {
         return Ok(None);
     }
-    let [a, b, c, d, e, f, g, h] = head;
     Ok(Some(Head {
-        kind: Kind::from(u16::from_be_bytes([a, b])),
-        start: u16::from_be_bytes([c, d]),
-        bytes: u16::from_be_bytes([e, f]),
-        size: u16::from_be_bytes([g, h]),
+        kind: Kind::from(u16::from_be_bytes([head[0], head[1]])),
+        start: u16::from_be_bytes([head[2], head[3]]),
+        bytes: u16::from_be_bytes([head[4], head[5]]),
+        size: u16::from_be_bytes([head[6], head[7]]),
     }))
 }
 
