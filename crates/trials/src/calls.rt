@@ -86,32 +86,30 @@ fn look(loan: &Loan<'_>, speed: u32, load: u32) -> Found {
     )
 }
 
+// The number of a reading, and its value where it has one.
+fn told(reading: Reading) -> (u32, Option<f64>) {
+    match reading {
+        Reading::Blank => (0, None),
+        Reading::Measured(x) => (1, Some(x)),
+        Reading::Carried(x) => (2, Some(x)),
+    }
+}
+
 fn lookup(lines: &mut impl Write, loan: &Loan<'_>) -> io::Result<()> {
     let [speed, load, ..] = loan.arguments;
     let found = look(loan, speed, load);
     tell(lines, found.refusal)?;
     tell(lines, found.leaf)?;
-    match found.reading {
-        Reading::Measured(x) => {
-            tell(lines, 1)?;
-            tell_value(lines, x)
-        }
-        Reading::Carried(x) => {
-            tell(lines, 2)?;
-            tell_value(lines, x)
-        }
-        Reading::Blank => tell(lines, 0),
-    }
+    let (status, value) = told(found.reading);
+    tell(lines, status)?;
+    value.map_or(Ok(()), |x| tell_value(lines, x))
 }
 
 // What a lookup found, mixed into a sum.
 fn mixed(found: Found, sum: u64) -> u64 {
-    let told = found.leaf.mix_into(found.refusal.mix_into(sum));
-    match found.reading {
-        Reading::Measured(x) => x.mix_into(1u32.mix_into(told)),
-        Reading::Carried(x) => x.mix_into(2u32.mix_into(told)),
-        Reading::Blank => 0u32.mix_into(told),
-    }
+    let (status, value) = told(found.reading);
+    let all = status.mix_into(found.leaf.mix_into(found.refusal.mix_into(sum)));
+    value.map_or(all, |x| x.mix_into(all))
 }
 
 // Lookups of 64 times 64 points, by a step.
