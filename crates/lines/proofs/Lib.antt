@@ -1,4 +1,5 @@
--- Words, numbers and lines that are put, and how long they are.
+-- The laws that the proofs about lines cite.
 pub mod Puts
+pub mod Pieces
 pub mod Decimals
 pub mod Worded

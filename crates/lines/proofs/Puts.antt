@@ -1,7 +1,8 @@
 -- What is put piece by piece is put in one, and a digit that is put before those above it stands where it belongs.
 -- Assumes nothing.
-use Rattle.std.proofs.Common.{◌≡◌, ℕ, zero, suc, ◌+◌, ◌-◌, ◌/◌, ◌%◌, ◌<◌, ◌≤◌, List, [], ◌∷◌, ◌++◌, length, get_or, take, set, sym, refl, ap, ◌∙◌, add-one, arith, length-append, take-suc}
+use Rattle.std.proofs.Common.{◌≡◌, ℕ, zero, suc, ◌+◌, ◌-◌, ◌/◌, ◌%◌, ◌<◌, ◌≤◌, List, [], ◌∷◌, ◌++◌, length, get_or, take, set, sym, refl, ap, ◌∙◌, append_assoc, add-one, arith, length-append, take-suc}
 use lib.Seq.{sets, length-sets, set_comm, take-append_seam, sets-eq}
+use borrow.Rule.Slice.PartMut.{put_mid, Post-is}
 use Rattle.place_laws.proofs.Lists.{sets-append}
 use Rattle.mesh.specs.Page.{total}
 use Rattle.lines.specs.Puts.{Put}
@@ -27,6 +28,11 @@ put-none d at = record { stored = refl; next = omega arith }
 pub put_one : (d : List ℕ) (at b : ℕ) → Put d at (b ∷ []) (set d at b) (at + 1)
 put_one d at b = record { stored = refl; next = omega arith }
 
+-- a part that is copied whole
+pub copied : (xs d : List ℕ) (at : ℕ) → at + length xs ≤ length d → put_mid at (at + length xs - at) d xs ≡ sets d at xs
+copied xs d at h =
+    ap (λ (z : List ℕ). take at d ++ (xs ++ z)) (Post-is at (at + length xs) d (omega arith)) ∙ sym (append_assoc (take at d) xs _) ∙ sym (sets-eq xs d at h)
+
 pub put-length : {d : List ℕ} {at : ℕ} {xs e : List ℕ} {r : ℕ} → Put d at xs e r → length e ≡ length d
 put-length {d} {at} {xs} w = ap length w.stored ∙ length-sets d at xs
 
@@ -39,9 +45,6 @@ put-more {d} {at} {xs} {e} {r} {ys} w u =
 
 pub put_as : {d : List ℕ} {at : ℕ} {xs ys e : List ℕ} {r : ℕ} → xs ≡ ys → Put d at xs e r → Put d at ys e r
 put_as {d} {at} {xs} {ys} {e} {r} h w = rw (← h) w
-
-pub put_next : {d : List ℕ} {at : ℕ} {xs e : List ℕ} {r q : ℕ} → r ≡ q → Put d at xs e r → Put d at xs e q
-put_next {d} {at} {xs} {e} {r} {q} h w = record { stored = w.stored; next = omega (arith, w.next) }
 
 -- what the next piece has to know
 pub text-put : {d : List ℕ} {at : ℕ} {xs e : List ℕ} {r : ℕ} → Put d at xs e r → (length e ≡ length d) × (r ≡ at + length xs)
@@ -74,16 +77,22 @@ module _ (f : ℕ → ℕ) (b : ℕ) where
       ∙ sym (sets-append (places k (n / b)) (f (n % b) ∷ []) d at)
 
   -- one turn of the loop that puts them
-  pub places-turn : (d : List ℕ) (at k n x : ℕ) → 0 < k → x ≡ f (n % b) → sets (set d (at + (k - 1)) x) at (places (k - 1) (n / b)) ≡ sets d at (places k n)
-  places-turn d at k n x h e =
-      let q : k ≡ suc (k - 1) = omega arith in
-      ap (λ (z : ℕ). sets (set d (at + (k - 1)) z) at (places (k - 1) (n / b))) e ∙ places-one d at (k - 1) n ∙ ap (λ (i : ℕ). sets d at (places i n)) (sym q)
+  pub places-turn : (d : List ℕ) (at i n x : ℕ) → at < i → x ≡ f (n % b) → sets (set d (i - 1) x) at (places (i - 1 - at) (n / b)) ≡ sets d at (places (i - at) n)
+  places-turn d at i n x h e =
+      let k : ℕ = i - 1 - at in
+      let q : i - at ≡ suc k = omega arith in
+      let p : i - 1 ≡ at + k = omega arith in
+      ap (λ (z : ℕ). sets (set d (i - 1) z) at (places k (n / b))) e
+      ∙ ap (λ (j : ℕ). sets (set d j (f (n % b))) at (places k (n / b))) p
+      ∙ places-one d at k n
+      ∙ ap (λ (j : ℕ). sets d at (places j n)) (sym q)
 
   -- and its end
-  pub places-done : (d : List ℕ) (at k n : ℕ) → k ≤ 0 → d ≡ sets d at (places k n)
+  pub places-done : (d : List ℕ) (at i n : ℕ) → i ≤ at → d ≡ sets d at (places (i - at) n)
   unfolding places
-  places-done d at zero n h = refl
-  places-done d at (suc k) n h = absurd (omega arith)
+  places-done d at i n h =
+      let q : i - at ≡ 0 = omega arith in
+      ap (λ (k : ℕ). sets d at (places k n)) (sym q)
 
 -- ---- from the start
 

@@ -1,6 +1,6 @@
 -- Lines are put word by word, and the leaves of a row are itself and those of its four kids.
 -- Assumes nothing.
-use Rattle.std.proofs.Common.{◌≡◌, ℕ, zero, suc, ◌+◌, ◌-◌, ◌<◌, ◌≤◌, Bool, true, false, cond, List, [], ◌∷◌, ◌++◌, length, get_or, take, drop, ℤ, sym, refl, ap, ◌∙◌, append_assoc, append-nil, arith, length-append, take-append-drop, drop-cons}
+use Rattle.std.proofs.Common.{◌≡◌, ℕ, ◌+◌, ◌<◌, ◌≤◌, Bool, true, false, cond, List, [], ◌∷◌, ◌++◌, length, get_or, take, drop, ℤ, sym, refl, ap, ◌∙◌, append_assoc, append-nil, arith, length-append, take-append-drop}
 use lib.Ieee.{Float}
 use Rattle.mesh.specs.Place.{Grid, is_ring}
 use Rattle.mesh.specs.State.{Header}
@@ -9,9 +9,8 @@ use Rattle.mesh.specs.Picture.{level_word, i_word, j_word}
 use Rattle.table.specs.Words.{word_of}
 use Rattle.carried.specs.Carried.{carried_of, status_of}
 use Rattle.carried.specs.declared.Carried.{Carried}
-use Rattle.lines.specs.Puts.{Put}
 use Rattle.lines.specs.LineRows.{bits_of, line_end, row_line, lines_of}
-use Rattle.lines.proofs.Puts.{total-append, take_more, put-length}
+use Rattle.lines.proofs.Puts.{total-append, take_more}
 use Rattle.lines.proofs.Decimals.{hex-long, decimal-long}
 
 -- ---- words of a line
@@ -95,15 +94,6 @@ head-short h = omega (arith, head-size h, decimal-long h.grid.columns, decimal-l
 pub foot-short : (leaves sum : ℕ) → length (foot_line leaves sum) ≤ 52
 foot-short leaves sum = omega (arith, foot-size leaves sum, decimal-long leaves, decimal-long sum)
 
--- where a number and its blank are put, and where the next word goes
-pub number_put : (x : ℕ) {d : List ℕ} {at : ℕ} {e : List ℕ} {r : ℕ} → Put d at (decimal x ++ space ∷ []) e r → (length e ≡ length d) × (r ≡ at + length (decimal x) + 1)
-number_put x {d} {at} {e} {r} w = (put-length w, omega (arith, w.next, length-append (decimal x) (space ∷ [])))
-
-alone : (ns : List ℕ) (i : ℕ) → i < length ns → take (i + 1 - i) (drop i ns) ≡ get_or ns i 0 ∷ []
-alone ns i h =
-    let e : i + 1 - i ≡ 1 = omega arith in
-    ap (λ (k : ℕ). take k (drop i ns)) e ∙ ap (take 1) (drop-cons ns i 0 h)
-
 -- ---- their lines
 
 module _ (t : List ℤ) (v : List Float) where
@@ -133,20 +123,3 @@ module _ (t : List ℤ) (v : List Float) where
       let e : lines_of t v ns ≡ lines_of t v (take (i + 1) ns) ++ lines_of t v (drop (i + 1) ns) =
       sym (sym (lines-append (take (i + 1) ns) (drop (i + 1) ns)) ∙ ap (lines_of t v) (take-append-drop (i + 1) ns)) in
       omega (arith, ap length e, length-append (lines_of t v (take (i + 1) ns)) (lines_of t v (drop (i + 1) ns)), lines-longer ns i h)
-
-  -- one leaf alone
-  pub lines-alone : (ns : List ℕ) (i : ℕ) → i < length ns → lines_of t v (take (i + 1 - i) (drop i ns)) ≡ row_line t v (get_or ns i 0)
-  lines-alone ns i h = ap (lines_of t v) (alone ns i h) ∙ lines-one (get_or ns i 0)
-
-  pub alone-short : (ns : List ℕ) (i : ℕ) → i < length ns → length (lines_of t v (take (i + 1 - i) (drop i ns))) ≤ 103
-  alone-short ns i h = omega (arith, ap length (lines-alone ns i h), line-short t v (get_or ns i 0))
-
-pub alone-few : (ns : List ℕ) (i : ℕ) → i < length ns → length (take (i + 1 - i) (drop i ns)) ≤ 4096
-alone-few ns i h = omega (arith, ap length (alone ns i h))
-
-pub alone-within : (cap : ℕ) (ns : List ℕ) (i : ℕ) → i < length ns → ((k : ℕ) → get_or ns k 0 ≤ cap) → (k : ℕ) → get_or (take (i + 1 - i) (drop i ns)) k 0 ≤ cap
-alone-within cap ns i h f k = rw (alone ns i h) (go k)
-  where
-    go : (k : ℕ) → get_or (get_or ns i 0 ∷ []) k 0 ≤ cap
-    go zero = f i
-    go (suc k) = omega arith

@@ -1,3 +1,4 @@
--- What is put into a lent list, and the lines of leaves.
+-- What is put into a lent list, on a sheet, and the lines of leaves.
 pub mod Puts
+pub mod Sheets
 pub mod LineRows

@@ -3,3 +3,4 @@
 
 pub mod leaf_lines;
 pub mod numerals;
+pub mod sheets;

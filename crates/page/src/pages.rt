@@ -5,6 +5,7 @@ ghost use Rattle.header.specs.Headers.{header_of};
 ghost use Rattle.mesh.specs.Call.{writing};
 ghost use Rattle.table.specs.Plain.{Sized};
 ghost use Rattle.lines.specs.Puts.{Put};
+ghost use Rattle.lines.specs.Sheets.{HasRoom, PutOn};
 ghost use Rattle.output.specs.OutputLists.{wrote_of};
 ghost use Rattle.lines.specs.LineRows.{Listed};
 ghost use Rattle.leaves.specs.LeavesFrom.{leaves_from};
@@ -12,46 +13,48 @@ ghost use Rattle.page.specs.PageRows.{body_of, page_of, row_out};
 
 use header::{Header, is_ring};
 use leaves::find_leaves;
-use lines::leaf_lines::{lines_size, lines_sum, put_lines, sum_of};
-use lines::numerals::{digits, put_byte, put_decimal, put_number, put_text};
+use lines::leaf_lines::{lines_size, lines_sum, put_lines};
+use lines::numerals::digits;
+use lines::sheets::Sheet;
 use output::Wrote;
 
 // No last line is longer.
 const LONGEST_FOOT: usize = 52;
 
 // Puts the word of the mode, and ends the line.
-fn put_mode(out: &mut [u8], at: usize, header: Header) -> usize
-    requires { at + 5 ≤ length out.old }
-    ensures { Put out.old at (mode_word (header_of header).grid ++ line_feed ∷ []) out.new result }
+fn put_mode(sheet: &mut Sheet, header: Header)
+    requires { HasRoom sheet.old 5 }
+    ensures { PutOn sheet.old (mode_word (header_of header).grid ++ line_feed ∷ []) sheet.new }
 {
     if is_ring(header) {
-        return put_text(out, at, b"ring\n");
+        sheet.text(b"ring\n");
+    } else {
+        sheet.text(b"open\n");
     }
-    put_text(out, at, b"open\n")
 }
 
 // Puts the first line.
-fn put_head(out: &mut [u8], header: Header) -> usize
-    requires { length (head_line (header_of header)) ≤ length out.old }
-    ensures { Put out.old 0 (head_line (header_of header)) out.new result }
+fn put_head(sheet: &mut Sheet, header: Header)
+    requires { HasRoom sheet.old (length (head_line (header_of header))) }
+    ensures { PutOn sheet.old (head_line (header_of header)) sheet.new }
 {
-    let a = put_text(out, 0, b"map ");
-    let b = put_number(out, a, header.columns);
-    let c = put_number(out, b, header.rows);
-    let m = put_number(out, c, header.mark as u32);
-    put_mode(out, m, header)
+    sheet.text(b"map ");
+    sheet.number(header.columns);
+    sheet.number(header.rows);
+    sheet.number(header.mark as u32);
+    put_mode(sheet, header);
 }
 
 // Puts the last line.
-fn put_foot(out: &mut [u8], at: usize, leaves: u32, sum: u32) -> usize
-    requires { at + length (foot_line leaves sum) ≤ length out.old }
-    ensures { Put out.old at (foot_line leaves sum) out.new result }
+fn put_foot(sheet: &mut Sheet, leaves: u32, sum: u32)
+    requires { HasRoom sheet.old (length (foot_line leaves sum)) }
+    ensures { PutOn sheet.old (foot_line leaves sum) sheet.new }
 {
-    let a = put_text(out, at, b"cells ");
-    let b = put_number(out, a, leaves);
-    let c = put_text(out, b, b"sum ");
-    let m = put_decimal(out, c, sum);
-    put_byte(out, m, b'\n')
+    sheet.text(b"cells ");
+    sheet.number(leaves);
+    sheet.text(b"sum ");
+    sheet.decimal(sum);
+    sheet.byte(b'\n');
 }
 
 // The length of all lines but the last.
@@ -69,8 +72,12 @@ fn body_sum(header: Header, t: &[i32], v: &[f64], cap: usize, leaves: &[u16]) ->
     ensures { result ≡ total (body_of (header_of header) t.now v.now leaves.now) % 2 ^ 32 }
 {
     let mut line = [0u8; 72];
-    let k = put_head(&mut line, header);
-    lines_sum(t, v, cap, leaves, sum_of(&line[..k]))
+    let mut head = Sheet {
+        out: &mut line,
+        at: 0,
+    };
+    put_head(&mut head, header);
+    lines_sum(t, v, cap, leaves, head.sum())
 }
 
 // Whether the page has room. Its sum has to be known only where the length of the last line decides.
@@ -98,10 +105,12 @@ fn put_page(
     requires { Listed t.now v.now cap leaves.now × (length (page_of (header_of header) t.now v.now leaves.now) ≤ length out.old) }
     ensures { Put out.old 0 (page_of (header_of header) t.now v.now leaves.now) out.new result }
 {
-    let a = put_head(out, header);
-    let b = put_lines(t, v, cap, leaves, out, a);
-    let sum = sum_of(&out[..b]);
-    put_foot(out, b, leaves.len() as u32, sum)
+    let mut sheet = Sheet { out, at: 0 };
+    put_head(&mut sheet, header);
+    put_lines(t, v, cap, leaves, &mut sheet);
+    let sum = sheet.sum();
+    put_foot(&mut sheet, leaves.len() as u32, sum);
+    sheet.at
 }
 
 // Writes the page of the leaves, if the output is long enough.

@@ -7,12 +7,13 @@ ghost use Rattle.mesh.specs.LeafCounts.{count_places};
 ghost use Rattle.mesh.specs.Refusal.{refusal};
 ghost use Rattle.mesh.specs.Program.{refused_line, program_call, input_checks};
 ghost use Rattle.mesh.specs.Call.{writing};
-ghost use Rattle.lines.specs.Puts.{Put};
+ghost use Rattle.lines.specs.Sheets.{HasRoom, PutOn};
 ghost use Rattle.output.specs.OutputLists.{wrote_of};
 
 use header::{OPEN, fresh};
 use input::head_refusal;
-use lines::numerals::{digits, put_byte, put_decimal, put_number, put_text};
+use lines::numerals::digits;
+use lines::sheets::Sheet;
 use output::Wrote;
 use table::words::ROW_WORDS;
 use tally::COUNT_PLACES;
@@ -25,15 +26,15 @@ const WORDS: usize = ROW_WORDS * 1001;
 const VALUES: usize = 1001;
 
 // Puts the line `refused n at o`.
-fn put_refused(out: &mut [u8], n: u32, o: u32) -> usize
-    requires { length (refused_line n o) ≤ length out.old }
-    ensures { Put out.old 0 (refused_line n o) out.new result }
+fn put_refused(sheet: &mut Sheet, n: u32, o: u32)
+    requires { HasRoom sheet.old (length (refused_line n o)) }
+    ensures { PutOn sheet.old (refused_line n o) sheet.new }
 {
-    let a = put_text(out, 0, b"refused ");
-    let b = put_number(out, a, n);
-    let c = put_text(out, b, b"at ");
-    let e = put_decimal(out, c, o);
-    put_byte(out, e, b'\n')
+    sheet.text(b"refused ");
+    sheet.number(n);
+    sheet.text(b"at ");
+    sheet.decimal(o);
+    sheet.byte(b'\n');
 }
 
 // Writes that line, if the output is long enough.
@@ -48,8 +49,12 @@ fn write_refused(out: &mut [u8], n: u32, o: usize) -> Wrote
             count: 0,
         };
     }
-    let count = put_refused(out, n, offset);
-    Wrote { refusal: 0, count }
+    let mut sheet = Sheet { out, at: 0 };
+    put_refused(&mut sheet, n, offset);
+    Wrote {
+        refusal: 0,
+        count: sheet.at,
+    }
 }
 
 // Prints on a table, values and counts of their lengths, whose old contents do not matter.

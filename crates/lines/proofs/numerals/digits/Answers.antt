@@ -1,34 +1,12 @@
--- `lines::numerals::digits` meets its contract, by the power of ten that is above the number.
-use Rattle.std.proofs.Common.{sym, arith}
+-- `lines::numerals::digits` meets its contract, by the power of ten that is not above the number.
+use Rattle.std.proofs.Common.{sym, arith, pow-suc}
 use Rattle.lines.proofs.Decimals.{decimal-one, decimal-size}
 use Rattle.lines.proofs.numerals.digits.Goals as goal
 
-pub returns-then-x-lt10 : goal.returns-then-x-lt10
-returns-then-x-lt10 c = (omega arith, sym (decimal-one _ (omega arith)))
+pub returns-in-Some : goal.returns-in-Some
+returns-in-Some c =
+    let e = c.in-Some.ensures in
+    (omega (arith, e.bound), omega (arith, decimal-size c.in-Some.k _ e.power_le (omega (arith, e.next_power_gt, pow-suc 10 c.in-Some.k)) (omega (arith, e.bound))))
 
-pub returns-then-x-lt100 : goal.returns-then-x-lt100
-returns-then-x-lt100 c = (omega arith, sym (decimal-size 1 _ (omega arith) (omega arith) (omega arith)))
-
-pub returns-then-x-lt1000 : goal.returns-then-x-lt1000
-returns-then-x-lt1000 c = (omega arith, sym (decimal-size 2 _ (omega arith) (omega arith) (omega arith)))
-
-pub returns-then-x-lt10000 : goal.returns-then-x-lt10000
-returns-then-x-lt10000 c = (omega arith, sym (decimal-size 3 _ (omega arith) (omega arith) (omega arith)))
-
-pub returns-then-x-lt100000 : goal.returns-then-x-lt100000
-returns-then-x-lt100000 c = (omega arith, sym (decimal-size 4 _ (omega arith) (omega arith) (omega arith)))
-
-pub returns-then-x-lt1000000 : goal.returns-then-x-lt1000000
-returns-then-x-lt1000000 c = (omega arith, sym (decimal-size 5 _ (omega arith) (omega arith) (omega arith)))
-
-pub returns-then-x-lt10000000 : goal.returns-then-x-lt10000000
-returns-then-x-lt10000000 c = (omega arith, sym (decimal-size 6 _ (omega arith) (omega arith) (omega arith)))
-
-pub returns-then-x-lt100000000 : goal.returns-then-x-lt100000000
-returns-then-x-lt100000000 c = (omega arith, sym (decimal-size 7 _ (omega arith) (omega arith) (omega arith)))
-
-pub returns-then-x-lt1000000000 : goal.returns-then-x-lt1000000000
-returns-then-x-lt1000000000 c = (omega arith, sym (decimal-size 8 _ (omega arith) (omega arith) (omega arith)))
-
-pub returns : goal.returns
-returns c = (omega arith, sym (decimal-size 9 _ (omega arith) (omega arith) (omega arith)))
+pub returns-in-None : goal.returns-in-None
+returns-in-None c = (omega arith, sym (decimal-one _ (omega (arith, c.in-None.ensures.none))))

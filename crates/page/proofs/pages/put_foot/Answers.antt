@@ -1,32 +1,26 @@
 -- `page::pages::put_foot` meets its contract, word by word.
 use native.Mathlib.Omega.{arith}
-use Rattle.lines.proofs.Puts.{put-more, put_as, text-put}
-use Rattle.lines.proofs.Worded.{foot-line, foot-size, number_put}
+use Rattle.lines.proofs.Pieces.{wrote_more, wrote_as, wrote_to, number_to}
+use Rattle.lines.proofs.Worded.{foot-line, foot-size}
 use Rattle.page.proofs.pages.put_foot.Goals as goal
 
-pub put_text-a-requires : goal.put_text-a-requires
-put_text-a-requires c = omega (arith, c.requires, foot-size c.args.leaves c.args.sum)
+pub text-requires : goal.text-requires
+text-requires c = omega (arith, c.requires, foot-size c.args.leaves c.args.sum)
 
-pub put_number-b-requires : goal.put_number-b-requires
-put_number-b-requires c =
-    omega (arith, c.requires, text-put c.put_text-a.ensures, foot-size c.args.leaves c.args.sum)
+pub number-requires : goal.number-requires
+number-requires c = omega (arith, c.requires, wrote_to c.text.ensures, foot-size c.args.leaves c.args.sum)
 
-pub put_text-c-requires : goal.put_text-c-requires
-put_text-c-requires c =
-    let a = c.args in
-    omega (arith, c.requires, text-put c.put_text-a.ensures, number_put a.leaves c.put_number-b.ensures, foot-size a.leaves a.sum)
+pub text-requires-2 : goal.text-requires-2
+text-requires-2 c = omega (arith, c.requires, wrote_to c.text.ensures, number_to _ c.number.ensures, foot-size c.args.leaves c.args.sum)
 
-pub put_decimal-m-requires : goal.put_decimal-m-requires
-put_decimal-m-requires c =
-    let a = c.args in
-    omega (arith, c.requires, text-put c.put_text-a.ensures, number_put a.leaves c.put_number-b.ensures, text-put c.put_text-c.ensures, foot-size a.leaves a.sum)
+pub decimal-requires : goal.decimal-requires
+decimal-requires c =
+    omega (arith, c.requires, wrote_to c.text.ensures, number_to _ c.number.ensures, wrote_to c.text-2.ensures, foot-size c.args.leaves c.args.sum)
 
-pub put_byte-requires : goal.put_byte-requires
-put_byte-requires c =
-    let a = c.args in
-    omega (arith, c.requires, text-put c.put_text-a.ensures, number_put a.leaves c.put_number-b.ensures, text-put c.put_text-c.ensures, text-put c.put_decimal-m.ensures, foot-size a.leaves a.sum)
+pub byte-requires : goal.byte-requires
+byte-requires c =
+    omega (arith, c.requires, wrote_to c.text.ensures, number_to _ c.number.ensures, wrote_to c.text-2.ensures, wrote_to c.decimal.ensures, foot-size c.args.leaves c.args.sum)
 
 pub returns : goal.returns
 returns c =
-    put_as (foot-line _ _)
-    (put-more (put-more (put-more (put-more c.put_text-a.ensures c.put_number-b.ensures) c.put_text-c.ensures) c.put_decimal-m.ensures) c.put_byte.ensures)
+    wrote_as (foot-line _ _) (wrote_more (wrote_more (wrote_more (wrote_more c.text.ensures c.number.ensures) c.text-2.ensures) c.decimal.ensures) c.byte.ensures)

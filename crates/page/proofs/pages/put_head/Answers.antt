@@ -1,36 +1,28 @@
 -- `page::pages::put_head` meets its contract, word by word.
 use native.Mathlib.Omega.{arith}
 use Rattle.header.specs.Headers.{header_of}
-use Rattle.lines.proofs.Puts.{put-more, put_as, text-put}
-use Rattle.lines.proofs.Worded.{head-line, head-size, number_put}
+use Rattle.lines.proofs.Pieces.{wrote_more, wrote_as, wrote_to, number_to}
+use Rattle.lines.proofs.Worded.{head-line, head-size}
 use Rattle.page.proofs.pages.put_head.Goals as goal
 
-pub put_text-a-requires : goal.put_text-a-requires
-put_text-a-requires c =
-    let a = c.args in
-    omega (arith, c.requires, head-size (header_of a.header))
+pub text-requires : goal.text-requires
+text-requires c = omega (arith, c.requires, head-size (header_of c.args.header))
 
-pub put_number-b-requires : goal.put_number-b-requires
-put_number-b-requires c =
-    let a = c.args in
-    omega (arith, c.requires, text-put c.put_text-a.ensures, head-size (header_of a.header))
+pub number-requires : goal.number-requires
+number-requires c = omega (arith, c.requires, wrote_to c.text.ensures, head-size (header_of c.args.header))
 
-pub put_number-c-requires : goal.put_number-c-requires
-put_number-c-requires c =
-    let a = c.args in
-    omega (arith, c.requires, text-put c.put_text-a.ensures, number_put a.header.columns c.put_number-b.ensures, head-size (header_of a.header))
+pub number-requires-2 : goal.number-requires-2
+number-requires-2 c = omega (arith, c.requires, wrote_to c.text.ensures, number_to _ c.number.ensures, head-size (header_of c.args.header))
 
-pub put_number-m-requires : goal.put_number-m-requires
-put_number-m-requires c =
-    let a = c.args in
-    omega (arith, c.requires, text-put c.put_text-a.ensures, number_put a.header.columns c.put_number-b.ensures, number_put a.header.rows c.put_number-c.ensures, head-size (header_of a.header))
+pub number-requires-3 : goal.number-requires-3
+number-requires-3 c =
+    omega (arith, c.requires, wrote_to c.text.ensures, number_to _ c.number.ensures, number_to _ c.number-2.ensures, head-size (header_of c.args.header))
 
 pub put_mode-requires : goal.put_mode-requires
 put_mode-requires c =
-    let a = c.args in
-    omega (arith, c.requires, text-put c.put_text-a.ensures, number_put a.header.columns c.put_number-b.ensures, number_put a.header.rows c.put_number-c.ensures, number_put a.header.mark c.put_number-m.ensures, head-size (header_of a.header))
+    omega (arith, c.requires, wrote_to c.text.ensures, number_to _ c.number.ensures, number_to _ c.number-2.ensures, number_to _ c.number-3.ensures, head-size (header_of c.args.header))
 
 pub returns : goal.returns
 returns c =
-    put_as (head-line _)
-    (put-more (put-more (put-more (put-more c.put_text-a.ensures c.put_number-b.ensures) c.put_number-c.ensures) c.put_number-m.ensures) c.put_mode.ensures)
+    wrote_as (head-line _)
+    (wrote_more (wrote_more (wrote_more (wrote_more c.text.ensures c.number.ensures) c.number-2.ensures) c.number-3.ensures) c.put_mode.ensures)
