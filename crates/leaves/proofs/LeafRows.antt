@@ -1,85 +1,77 @@
--- The leaves from a row on, as the code finds them.
+-- The leaves from a row on, as the code finds them: a row's own, and then those of its kids.
 -- Assumes nothing.
-use Prim.Native.Nat.{ℕ, zero, suc, ◌+◌, ◌-◌, ◌≤◌}
+use Prim.Native.Nat.{ℕ, zero, suc, ◌+◌, ◌-◌, ◌≤◌, ◌<◌}
 use native.Mathlib.Omega.{arith}
 use native.Mathlib.Decide.{dec_le}
-use mathlib.Core.Path.{◌≡◌, refl, sym, ap, ◌∙◌}
+use mathlib.Core.Path.{◌≡◌, refl, ap, ◌∙◌}
+use mathlib.Core.Logic.{◌≢◌}
 use mathlib.Core.Bool.{Bool, true, false, cond}
-use mathlib.Core.List.{List, [], ◌∷◌, ◌++◌, append_assoc, append-nil}
-use lib.Dec.{T, eqb, leb, eqb→eq}
+use mathlib.Core.List.{List, [], ◌∷◌, ◌++◌, map, append_assoc}
 use lib.ListN.{length, get_or, length-append}
 use lib.IntN.{ℤ}
-use Rattle.place_laws.proofs.Bools.{is-yes, and_left, and_right, cond_same}
-use Rattle.table.specs.Words.{word_of, link_of}
+use Rattle.mesh.specs.Tools.{flat}
+use Rattle.table.specs.Words.{link_of}
 use Rattle.table.proofs.LinkRanges.{link-within}
-use Rattle.walk.specs.WalkRows.{bare_row, leaf_row}
-use Rattle.walk.proofs.WalkSteps.{walk_none, walk-last, walk-on}
-use Rattle.lines.specs.Puts.{Put}
-use Rattle.leaves.specs.LeavesFrom.{leaves_from, own_leaf}
+use Rattle.walk.specs.WalkRows.{is_end, leaf_row}
+use Rattle.walk.proofs.WalkSteps.{parts, parts_more, parts_all, walk_none, walk_end, walk-on}
 use Rattle.lines.proofs.Puts.{put-more, put_as}
+use Rattle.leaves.specs.LeavesFrom.{leaves_from, own_leaf}
+use Rattle.leaves.specs.Founds.{FoundAlso}
+use Rattle.leaves.specs.declared.Found.{Found}
 
-five-parts : (a b c e f : List ℕ) → a ++ b ++ c ++ e ++ f ≡ a ++ (b ++ (c ++ (e ++ (f ++ []))))
-five-parts a b c e f = simp (append_assoc, append-nil)
+-- the words of the kids, in the order of the page
+abbrev kid_words : List ℕ
+kid_words = 3 ∷ 4 ∷ 2 ∷ 1 ∷ []
+
+-- the first parts and the next are no longer than all of them
+parts-few : (part : ℕ → List ℕ) (o : List ℕ) (q : ℕ) → q < length o → length (parts part o q) + length (part (get_or o q 0)) ≤ length (flat (map part o))
+parts-few part [] q h = absurd (omega arith)
+parts-few part (w ∷ o) zero h = omega (arith, length-append (part w) (flat (map part o)))
+parts-few part (w ∷ o) (suc q) h =
+    omega (arith, length-append (part w) (parts part o q), length-append (part w) (flat (map part o)), parts-few part o q (omega arith))
 
 module _ (t : List ℤ) (cap : ℕ) where
+  -- those of the kid of a word
+  abbrev kid_leaves : ℕ → ℕ → ℕ → List ℕ
+  kid_leaves l n w = leaves_from t cap (l - 1) (link_of t cap n w)
+
   pub leaves_none : (l n : ℕ) → n ≡ 0 → [] ≡ leaves_from t cap l n
   unfolding leaves_from
-  leaves_none l n e = walk_none t cap (leaf_row t cap) (3 ∷ 4 ∷ 2 ∷ 1 ∷ []) l n e
+  leaves_none l n e = walk_none t cap (leaf_row t cap) kid_words l n e
 
-  pub leaves_last : (l n : ℕ) → l ≡ 0 → (n ≡ 0 → ⊥) → own_leaf t cap n ≡ leaves_from t cap l n
+  pub leaves_end : (l n : ℕ) → n ≢ 0 → is_end t l n ≡ true → own_leaf t cap n ≡ leaves_from t cap l n
   unfolding leaves_from own_leaf
-  leaves_last l n e h = walk-last t cap (leaf_row t cap) (3 ∷ 4 ∷ 2 ∷ 1 ∷ []) l n refl h e
+  leaves_end l n h e = walk_end t cap (leaf_row t cap) kid_words l n refl h tt e
 
-  pub leaves-more : (l n a b c e : ℕ) → (l ≡ 0 → ⊥) → (n ≡ 0 → ⊥) → a ≡ link_of t cap n 3 → b ≡ link_of t cap n 4 → c ≡ link_of t cap n 2 → e ≡ link_of t cap n 1
-      → own_leaf t cap n ++ leaves_from t cap (l - 1) a ++ leaves_from t cap (l - 1) b ++ leaves_from t cap (l - 1) c ++ leaves_from t cap (l - 1) e ≡ leaves_from t cap l n
+  leaves_on : (l n : ℕ) → n ≢ 0 → l ≢ 0 → own_leaf t cap n ++ flat (map (kid_leaves l n) kid_words) ≡ leaves_from t cap l n
   unfolding leaves_from own_leaf
-  leaves-more l n a b c e z h ia ib ic ie =
-      let k : ℕ → List ℕ = λ w. leaves_from t cap (l - 1) (link_of t cap n w) in
-      rw (ia, ib, ic, ie) (five-parts (own_leaf t cap n) (k 3) (k 4) (k 2) (k 1) ∙ walk-on t cap (leaf_row t cap) (3 ∷ 4 ∷ 2 ∷ 1 ∷ []) l n refl h z)
+  leaves_on l n h z = walk-on t cap (leaf_row t cap) kid_words l n refl h z
 
   -- how many they are
-  pub leaves-count : (l n a b c e : ℕ) → (l ≡ 0 → ⊥) → (n ≡ 0 → ⊥) → a ≡ link_of t cap n 3 → b ≡ link_of t cap n 4 → c ≡ link_of t cap n 2 → e ≡ link_of t cap n 1
-      → length (own_leaf t cap n) + length (leaves_from t cap (l - 1) a) + length (leaves_from t cap (l - 1) b) + length (leaves_from t cap (l - 1) c) + length (leaves_from t cap (l - 1) e)
-      ≡ length (leaves_from t cap l n)
-  leaves-count l n a b c e z h ia ib ic ie =
-      let x : List ℕ = own_leaf t cap n ++ leaves_from t cap (l - 1) a in
-      let y : List ℕ = x ++ leaves_from t cap (l - 1) b in
-      let w : List ℕ = y ++ leaves_from t cap (l - 1) c in
-      omega (
-        arith,
-        ap length (leaves-more l n a b c e z h ia ib ic ie),
-        length-append (own_leaf t cap n) (leaves_from t cap (l - 1) a),
-        length-append x (leaves_from t cap (l - 1) b),
-        length-append y (leaves_from t cap (l - 1) c),
-        length-append w (leaves_from t cap (l - 1) e),
-      )
+  leaves-count : (l n : ℕ) → n ≢ 0 → l ≢ 0 → length (own_leaf t cap n) + length (flat (map (kid_leaves l n) kid_words)) ≡ length (leaves_from t cap l n)
+  leaves-count l n h z = rw (← leaves_on l n h z, length-append (own_leaf t cap n))
 
-  pub own-few : (l n : ℕ) → (n ≡ 0 → ⊥) → length (own_leaf t cap n) ≤ length (leaves_from t cap l n)
-  own-few l n h = go (dec_le l 0)
-    where
-      go : Dec (l ≤ 0) → length (own_leaf t cap n) ≤ length (leaves_from t cap l n)
-      go (yes z) = omega (arith, ap length (leaves_last l n (omega arith) h))
-      go (no z) = omega (arith, leaves-count l n _ _ _ _ (λ e. omega arith) h refl refl refl refl)
+  -- a row's own, and those of its first kids
+  abbrev pub first_leaves : ℕ → ℕ → ℕ → List ℕ
+  first_leaves l n q = own_leaf t cap n ++ parts (kid_leaves l n) kid_words q
 
-  link-none : (n w : ℕ) → T (eqb (word_of t n w) 0) → 0 ≡ link_of t cap n w
-  unfolding link_of
-  link-none n w h = rw (eqb→eq (word_of t n w) 0 h) (sym (cond_same (leb 0 cap) 0))
+  pub first_more : (l n q k : ℕ) → q < length kid_words → k ≡ link_of t cap n (get_or kid_words q 0) → first_leaves l n q ++ leaves_from t cap (l - 1) k ≡ first_leaves l n (q + 1)
+  first_more l n q k h e =
+      rw e
+      (append_assoc (own_leaf t cap n) (parts (kid_leaves l n) kid_words q) (kid_leaves l n (get_or kid_words q 0))
+      ∙ ap (λ (xs : List ℕ). own_leaf t cap n ++ xs) (parts_more (kid_leaves l n) kid_words q h))
 
-  -- none below a row with no kids
-  pub leaves-bare : (l n : ℕ) → (l ≡ 0 → ⊥) → (n ≡ 0 → ⊥) → bare_row t n ≡ true → own_leaf t cap n ≡ leaves_from t cap l n
-  leaves-bare l n z h b =
-      let none : [] ≡ leaves_from t cap (l - 1) 0 = leaves_none (l - 1) 0 refl in
-      let s = is-yes _ b in
-      let s₂ = and_right (eqb (word_of t n 1) 0) _ s in
-      let s₃ = and_right (eqb (word_of t n 2) 0) _ s₂ in
-      sym (
-      sym (
-      leaves-more l n 0 0 0 0 z h
-      (link-none n 3 (and_left (eqb (word_of t n 3) 0) _ s₃))
-      (link-none n 4 (and_right (eqb (word_of t n 3) 0) _ s₃))
-      (link-none n 2 (and_left (eqb (word_of t n 2) 0) _ s₂))
-      (link-none n 1 (and_left (eqb (word_of t n 1) 0) _ s)))
-      ∙ rw (← none) (simp append-nil))
+  pub first_all : (l n q : ℕ) → n ≢ 0 → l ≢ 0 → length kid_words ≤ q → first_leaves l n q ≡ leaves_from t cap l n
+  first_all l n q h z e = ap (λ (xs : List ℕ). own_leaf t cap n ++ xs) (parts_all (kid_leaves l n) kid_words q e) ∙ leaves_on l n h z
+
+  pub first_few : (l n q k : ℕ) → n ≢ 0 → l ≢ 0 → q < length kid_words → k ≡ link_of t cap n (get_or kid_words q 0)
+      → length (first_leaves l n q) + length (leaves_from t cap (l - 1) k) ≤ length (leaves_from t cap l n)
+  first_few l n q k h z f e =
+      rw e (omega (arith, length-append (own_leaf t cap n) (parts (kid_leaves l n) kid_words q), parts-few (kid_leaves l n) kid_words q f, leaves-count l n h z))
+
+  pub own-few : (l n : ℕ) → n ≢ 0 → length (own_leaf t cap n) ≤ length (leaves_from t cap l n)
+  own-few zero n h = rw (← leaves_end zero n h refl) (omega arith)
+  own-few (suc l) n h = omega (arith, leaves-count (suc l) n h (λ e. omega arith))
 
   pub own-one : (n : ℕ) → leaf_row t cap n ≡ true → (n ∷ []) ≡ own_leaf t cap n
   unfolding own_leaf
@@ -88,18 +80,6 @@ module _ (t : List ℤ) (cap : ℕ) where
   pub own-none : (n : ℕ) → leaf_row t cap n ≡ false → [] ≡ own_leaf t cap n
   unfolding own_leaf
   own-none n h = rw h
-
-  -- a row's own, and those of its four kids
-  pub put-row : (l n a b c e : ℕ) → (l ≡ 0 → ⊥) → (n ≡ 0 → ⊥) → a ≡ link_of t cap n 3 → b ≡ link_of t cap n 4 → c ≡ link_of t cap n 2 → e ≡ link_of t cap n 1
-      → {d₀ d₁ d₂ d₃ d₄ d₅ : List ℕ} {p₀ p₁ p₂ p₃ p₄ p₅ : ℕ}
-      → Put d₀ p₀ (own_leaf t cap n) d₁ p₁
-      → Put d₁ p₁ (leaves_from t cap (l - 1) a) d₂ p₂
-      → Put d₂ p₂ (leaves_from t cap (l - 1) b) d₃ p₃
-      → Put d₃ p₃ (leaves_from t cap (l - 1) c) d₄ p₄
-      → Put d₄ p₄ (leaves_from t cap (l - 1) e) d₅ p₅
-      → Put d₀ p₀ (leaves_from t cap l n) d₅ p₅
-  put-row l n a b c e z h ia ib ic ie w₀ w₁ w₂ w₃ w₄ =
-      put_as (leaves-more l n a b c e z h ia ib ic ie) (put-more (put-more (put-more (put-more w₀ w₁) w₂) w₃) w₄)
 
   -- ---- they are rows of the table
 
@@ -111,6 +91,10 @@ module _ (t : List ℤ) (cap : ℕ) where
   within-append (x ∷ xs) ys f g zero = f zero
   within-append (x ∷ xs) ys f g (suc i) = within-append xs ys (λ k. f (suc k)) g i
 
+  within-flat : (part : ℕ → List ℕ) (o : List ℕ) → ((w : ℕ) → Within (part w)) → Within (flat (map part o))
+  within-flat part [] f = λ i. omega arith
+  within-flat part (w ∷ o) f = within-append (part w) (flat (map part o)) (f w) (within-flat part o f)
+
   own-within : (n : ℕ) → n ≤ cap → Within (own_leaf t cap n)
   unfolding own_leaf
   own-within n h = go (leaf_row t cap n)
@@ -120,24 +104,25 @@ module _ (t : List ℤ) (cap : ℕ) where
       go true (suc i) = omega arith
       go false i = omega arith
 
-  within-kids : (l n : ℕ) → n ≤ cap → ((l ≡ 0 → ⊥) → (w : ℕ) → Within (leaves_from t cap (l - 1) (link_of t cap n w))) → Dec (n ≤ 0) → Dec (l ≤ 0)
-      → Within (leaves_from t cap l n)
-  within-kids l n b kid (yes z) q = rw (← leaves_none l n (omega arith)) (λ i. omega arith)
-  within-kids l n b kid (no z) (yes q) = rw (← leaves_last l n (omega arith) (λ e. omega arith)) (own-within n b)
-  within-kids l n b kid (no z) (no q) =
-      let more : l ≡ 0 → ⊥ = λ e. omega arith in
-      let o : List ℕ = own_leaf t cap n in
-      let k : ℕ → List ℕ = λ w. leaves_from t cap (l - 1) (link_of t cap n w) in
-      rw (← leaves-more l n (link_of t cap n 3) (link_of t cap n 4) (link_of t cap n 2) (link_of t cap n 1) more (λ e. omega arith) refl refl refl refl)
-      (within-append (o ++ k 3 ++ k 4 ++ k 2) (k 1)
-      (within-append (o ++ k 3 ++ k 4) (k 2) (within-append (o ++ k 3) (k 4) (within-append o (k 3) (own-within n b) (kid more 3)) (kid more 4)) (kid more 2)) (kid more 1))
-
-  within-levels : (k l n : ℕ) → l ≤ k → n ≤ cap → Within (leaves_from t cap l n)
-  within-levels zero l n h b = within-kids l n b (λ q w. absurd (q (omega arith))) (dec_le n 0) (dec_le l 0)
-  within-levels (suc k) l n h b =
-      within-kids l n b (λ q w. within-levels k (l - 1) (link_of t cap n w) (omega arith) (link-within t cap n w)) (dec_le n 0) (dec_le l 0)
+  within-levels : (l n : ℕ) → n ≤ cap → Dec (n ≤ 0) → Within (leaves_from t cap l n)
+  within-levels l n b (yes z) = rw (← leaves_none l n (omega arith)) (λ i. omega arith)
+  within-levels zero n b (no z) = rw (← leaves_end zero n (λ e. omega arith) refl) (own-within n b)
+  within-levels (suc l) n b (no z) =
+      let one_less : suc l - 1 ≡ l = omega arith in
+      rw (← leaves_on (suc l) n (λ e. omega arith) (λ e. omega arith))
+      (within-append (own_leaf t cap n) (flat (map (kid_leaves (suc l) n) kid_words)) (own-within n b)
+      (within-flat (kid_leaves (suc l) n) kid_words (λ w. rw one_less (within-levels l (link_of t cap n w) (link-within t cap n w) (dec_le (link_of t cap n w) 0)))))
 
   pub leaves-within : (l n : ℕ) → n ≤ cap → (i : ℕ) → get_or (leaves_from t cap l n) i 0 ≤ cap
-  leaves-within l n b = within-levels l l n (omega arith) b
+  leaves-within l n b = within-levels l n b (dec_le n 0)
 
--- a part that is one element
+-- ---- added one after the other
+
+pub none_also : (s : Found) → FoundAlso s [] s
+none_also s = record { same = refl; put = record { stored = refl; next = omega arith } }
+
+pub more_also : {s e f : Found} {xs ys : List ℕ} → FoundAlso s xs e → FoundAlso e ys f → FoundAlso s (xs ++ ys) f
+more_also w u = record { same = u.same ∙ w.same; put = put-more w.put u.put }
+
+pub also_as : {s e : Found} {xs ys : List ℕ} → xs ≡ ys → FoundAlso s xs e → FoundAlso s ys e
+also_as h w = record { same = w.same; put = put_as h w.put }

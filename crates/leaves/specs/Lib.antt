@@ -1,2 +1,3 @@
 -- The leaves by the rows of a table.
 pub mod LeavesFrom
+pub mod Founds

@@ -1,6 +1,7 @@
 -- What is put piece by piece is put in one, and a digit that is put before those above it stands where it belongs.
 -- Assumes nothing.
-use Rattle.std.proofs.Common.{◌≡◌, ℕ, zero, suc, ◌+◌, ◌-◌, ◌/◌, ◌%◌, ◌<◌, ◌≤◌, List, [], ◌∷◌, ◌++◌, length, get_or, take, set, sym, refl, ap, ◌∙◌, append_assoc, add-one, arith, length-append, take-suc}
+use Rattle.std.proofs.Common.{◌≡◌, ℕ, zero, suc, ◌+◌, ◌-◌, ◌/◌, ◌%◌, ◌<◌, ◌≤◌, List, [], ◌∷◌, ◌++◌, length, get_or, take, set, sym, refl, ap, ◌∙◌, append_assoc, arith, length-append}
+use Rattle.std.proofs.lemmas.List.{take_more}
 use lib.Seq.{sets, length-sets, set_comm, take-append_seam, sets-eq}
 use borrow.Rule.Slice.PartMut.{put_mid, Post-is}
 use Rattle.place_laws.proofs.Lists.{sets-append}
@@ -13,20 +14,10 @@ pub total-append : (xs ys : List ℕ) → total (xs ++ ys) ≡ total xs + total 
 total-append [] ys = omega arith
 total-append (x ∷ xs) ys = omega (arith, total-append xs ys)
 
--- the front of a list, and one element more
-pub take_more : (l : List ℕ) (i : ℕ) → i < length l → take (i + 1) l ≡ take i l ++ (get_or l i 0 ∷ [])
-take_more l i h = rw add-one (take-suc l i 0 h)
-
 pub total-more : (l : List ℕ) (i : ℕ) → i < length l → total (take (i + 1) l) ≡ total (take i l) + get_or l i 0
-total-more l i h = ap total (take_more l i h) ∙ total-append (take i l) (get_or l i 0 ∷ []) ∙ omega arith
+total-more l i h = ap total (take_more l i 0 h) ∙ total-append (take i l) (get_or l i 0 ∷ []) ∙ omega arith
 
 -- ---- pieces
-
-pub put-none : (d : List ℕ) (at : ℕ) → Put d at [] d at
-put-none d at = record { stored = refl; next = omega arith }
-
-pub put_one : (d : List ℕ) (at b : ℕ) → Put d at (b ∷ []) (set d at b) (at + 1)
-put_one d at b = record { stored = refl; next = omega arith }
 
 -- a part that is copied whole
 pub copied : (xs d : List ℕ) (at : ℕ) → at + length xs ≤ length d → put_mid at (at + length xs - at) d xs ≡ sets d at xs

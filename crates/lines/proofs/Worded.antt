@@ -10,7 +10,8 @@ use Rattle.table.specs.Words.{word_of}
 use Rattle.carried.specs.Carried.{carried_of, status_of}
 use Rattle.carried.specs.declared.Carried.{Carried}
 use Rattle.lines.specs.LineRows.{bits_of, line_end, row_line, lines_of}
-use Rattle.lines.proofs.Puts.{total-append, take_more}
+use Rattle.std.proofs.lemmas.List.{take_more}
+use Rattle.lines.proofs.Puts.{total-append}
 use Rattle.lines.proofs.Decimals.{hex-long, decimal-long}
 
 -- ---- words of a line
@@ -109,7 +110,7 @@ module _ (t : List ℤ) (v : List Float) where
   -- the lines of some, and one line more
   pub lines_more : (ns : List ℕ) (i : ℕ) → i < length ns → lines_of t v (take i ns) ++ row_line t v (get_or ns i 0) ≡ lines_of t v (take (i + 1) ns)
   lines_more ns i h =
-      sym (ap (lines_of t v) (take_more ns i h) ∙ lines-append (take i ns) (get_or ns i 0 ∷ []) ∙ ap (λ (z : List ℕ). lines_of t v (take i ns) ++ z) (lines-one (get_or ns i 0)))
+      sym (ap (lines_of t v) (take_more ns i 0 h) ∙ lines-append (take i ns) (get_or ns i 0 ∷ []) ∙ ap (λ (z : List ℕ). lines_of t v (take i ns) ++ z) (lines-one (get_or ns i 0)))
 
   pub lines-longer : (ns : List ℕ) (i : ℕ) → i < length ns → length (lines_of t v (take (i + 1) ns)) ≡ length (lines_of t v (take i ns)) + length (row_line t v (get_or ns i 0))
   lines-longer ns i h = ap length (sym (lines_more ns i h)) ∙ length-append (lines_of t v (take i ns)) (row_line t v (get_or ns i 0))

@@ -12,7 +12,7 @@ ghost use Rattle.leaves.specs.LeavesFrom.{leaves_from};
 ghost use Rattle.page.specs.PageRows.{body_of, page_of, row_out};
 
 use header::{Header, is_ring};
-use leaves::find_leaves;
+use leaves::{Found, find_leaves};
 use lines::leaf_lines::{lines_size, lines_sum, put_lines};
 use lines::numerals::digits;
 use lines::sheets::Sheet;
@@ -140,7 +140,12 @@ pub fn write_page(header: Header, t: &[i32], v: &[f64], cap: usize, d: u32, out:
     requires { Sized t.now cap × (1 ≤ cap) × (cap < length v.now) × (length (leaves_from t.now cap (d + 12) 1) ≤ 4096) }
     ensures { wrote_of result out.new ≡ row_out (header_of header) t.now v.now cap d out.old }
 {
-    let mut found = [0u16; 4096];
-    let m = find_leaves(t, cap, d as usize + 12, 1, &mut found, 0);
-    write_leaves(header, t, v, cap, &found[..m], out)
+    let mut rows = [0u16; 4096];
+    let mut found = Found {
+        rows: &mut rows,
+        count: 0,
+    };
+    find_leaves(t, cap, d as usize + 12, 1, &mut found);
+    let count = found.count;
+    write_leaves(header, t, v, cap, &found.rows[..count], out)
 }

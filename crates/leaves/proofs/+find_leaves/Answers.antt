@@ -1,73 +1,41 @@
--- `leaves::find_leaves` meets its contract: a row itself, and then the leaves of its four kids. The measure is the number of levels left.
+-- `leaves::find_leaves` meets its contract: a row itself, and then the leaves of its kids.
 use native.Mathlib.Omega.{arith}
 use mathlib.Core.Path.{sym, ◌∙◌}
-use Rattle.lines.proofs.Puts.{put-none, put_as, text-put}
-use Rattle.leaves.proofs.LeafRows.{leaves_none, leaves_last, leaves-bare, leaves-count, own-few, put-row}
+use borrow.Author.Tests.{eq-eqb, ne_eqb}
+use Rattle.lines.proofs.Puts.{text-put}
+use Rattle.leaves.proofs.LeafRows.{first_more, first_all, first_few, leaves_none, leaves_end, own-few, none_also, more_also, also_as}
 use Rattle.leaves.proofs.+find_leaves.Goals as goal
+use Rattle.leaves.proofs.+find_leaves.Goals.{then-l-eq0-via-then-l-eq0, then-l-eq0-via-else-l-eq0+then-is_bare}
 
 pub returns-then-n-eq0 : goal.returns-then-n-eq0
-returns-then-n-eq0 t c = put_as (leaves_none _ _ c.args.l _ c.if-n-eq0.true) (put-none _ _)
+returns-then-n-eq0 t c = also_as (leaves_none _ _ c.args.l _ c.if-n-eq0.true) (none_also _)
 
-pub put_own-a-requires : goal.put_own-a-requires
-put_own-a-requires t c =
+pub add_own-requires : goal.add_own-requires
+add_own-requires t c =
     let a = c.args in
-    omega (arith, own-few a.t.now a.cap a.l a.n c.if-n-eq0.false)
-
-pub shape_of-found-then-l-eq0 : goal.shape_of-found-then-l-eq0
-shape_of-found-then-l-eq0 t c = c.put_own-a.auto.found
+    (c.requires.0, c.requires.1, omega (arith, c.requires, own-few a.t.now a.cap a.l a.n c.if-n-eq0.false))
 
 pub returns-then-l-eq0 : goal.returns-then-l-eq0
-returns-then-l-eq0 t c = put_as (leaves_last _ _ c.args.l _ c.if-l-eq0.true c.if-n-eq0.false) c.put_own-a.ensures
-
-pub is_bare-requires : goal.is_bare-requires
-is_bare-requires t c = omega (arith, c.requires)
-
-pub shape_of-found-then-is_bare : goal.shape_of-found-then-is_bare
-shape_of-found-then-is_bare t c = c.put_own-a.auto.found
-
-pub returns-then-is_bare : goal.returns-then-is_bare
-returns-then-is_bare t c = put_as (leaves-bare _ _ c.args.l _ c.if-l-eq0.false c.if-n-eq0.false (sym c.is_bare.ensures ∙ c.if-is_bare.true)) c.put_own-a.ensures
-
-pub overflow_sub-k : goal.overflow_sub-k
-overflow_sub-k t c = omega (arith, c.if-l-eq0.false)
-
-pub link-sw-requires : goal.link-sw-requires
-link-sw-requires t c = omega (arith, c.requires)
-
-pub link-nw-requires : goal.link-nw-requires
-link-nw-requires t c = omega (arith, c.requires)
-
-pub link-se-requires : goal.link-se-requires
-link-se-requires t c = omega (arith, c.requires)
-
-pub link-ne-requires : goal.link-ne-requires
-link-ne-requires t c = omega (arith, c.requires)
-
-pub find_leaves-b-requires : goal.find_leaves-b-requires
-find_leaves-b-requires t c =
-    omega (arith, c.requires, c.if-l-eq0.false, c.link-sw.ensures.0, text-put c.put_own-a.ensures, leaves-count _ _ c.args.l _ _ _ _ _ c.if-l-eq0.false c.if-n-eq0.false c.link-sw.ensures.1 c.link-nw.ensures.1 c.link-se.ensures.1 c.link-ne.ensures.1)
-
-pub find_leaves-c-requires : goal.find_leaves-c-requires
-find_leaves-c-requires t c =
-    omega (arith, c.requires, c.if-l-eq0.false, c.link-nw.ensures.0, text-put c.put_own-a.ensures, text-put c.find_leaves-b.ensures, leaves-count _ _ c.args.l _ _ _ _ _ c.if-l-eq0.false c.if-n-eq0.false c.link-sw.ensures.1 c.link-nw.ensures.1 c.link-se.ensures.1 c.link-ne.ensures.1)
-
-pub find_leaves-e-requires : goal.find_leaves-e-requires
-find_leaves-e-requires t c =
-    omega (arith, c.requires, c.if-l-eq0.false, c.link-se.ensures.0, text-put c.put_own-a.ensures, text-put c.find_leaves-b.ensures, text-put c.find_leaves-c.ensures, leaves-count _ _ c.args.l _ _ _ _ _ c.if-l-eq0.false c.if-n-eq0.false c.link-sw.ensures.1 c.link-nw.ensures.1 c.link-se.ensures.1 c.link-ne.ensures.1)
+returns-then-l-eq0 t c =
+    elim c.then-l-eq0.branch [
+      | then-l-eq0-via-then-l-eq0 w ↦ also_as (leaves_end _ _ c.args.l _ c.if-n-eq0.false (rw (eq-eqb c.args.l 0 w.if-l-eq0.true))) c.add_own.ensures
+      | then-l-eq0-via-else-l-eq0+then-is_bare w ↦
+          also_as (leaves_end _ _ c.args.l _ c.if-n-eq0.false (rw (ne_eqb c.args.l 0 w.if-l-eq0.false) (sym w.is_bare.ensures ∙ w.if-is_bare.true))) c.add_own.ensures
+    ]
 
 pub find_leaves-requires : goal.find_leaves-requires
 find_leaves-requires t c =
-    omega (arith, c.requires, c.if-l-eq0.false, c.link-ne.ensures.0, text-put c.put_own-a.ensures, text-put c.find_leaves-b.ensures, text-put c.find_leaves-c.ensures, text-put c.find_leaves-e.ensures, leaves-count _ _ c.args.l _ _ _ _ _ c.if-l-eq0.false c.if-n-eq0.false c.link-sw.ensures.1 c.link-nw.ensures.1 c.link-se.ensures.1 c.link-ne.ensures.1)
+    let a = c.args in (
+      omega (arith, c.requires, c.if-l-eq0.false),
+      (
+        c.requires.0,
+        c.link.ensures.0,
+        omega (arith, c.requires, text-put c.loop-w.invariant.put, first_few a.t.now a.cap a.l a.n c.loop-w.w-index _ c.if-n-eq0.false c.if-l-eq0.false c.loop-w-test.true c.link.ensures.1),
+      ),
+    )
 
-pub shape_of-found : goal.shape_of-found
-shape_of-found t c =
-    c.find_leaves.auto.found
-    ∙ c.find_leaves-e.auto.found
-    ∙ c.find_leaves-c.auto.found
-    ∙ c.find_leaves-b.auto.found
-    ∙ c.put_own-a.auto.found
+pub loop-w-preserved : goal.loop-w-preserved
+loop-w-preserved t c = also_as (first_more _ _ c.args.l c.args.n c.loop-w.w-index _ c.loop-w-test.true c.link.ensures.1) (more_also c.loop-w.invariant c.find_leaves.ensures)
 
 pub returns : goal.returns
-returns t c =
-    put-row _ _ c.args.l _ _ _ _ _ c.if-l-eq0.false c.if-n-eq0.false c.link-sw.ensures.1 c.link-nw.ensures.1 c.link-se.ensures.1 c.link-ne.ensures.1
-    c.put_own-a.ensures c.find_leaves-b.ensures c.find_leaves-c.ensures c.find_leaves-e.ensures c.find_leaves.ensures
+returns t c = also_as (first_all _ _ c.args.l _ c.loop-w.w-index c.if-n-eq0.false c.if-l-eq0.false c.loop-w-test.false) c.loop-w.invariant
