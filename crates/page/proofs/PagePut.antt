@@ -4,20 +4,19 @@ use Prim.Native.Nat.{ℕ, ◌+◌, ◌%◌, ◌^◌, ◌≤◌, ◌<◌}
 use native.Mathlib.Nat.{zero-add}
 use native.Mathlib.Omega.{arith}
 use mathlib.Core.Path.{◌≡◌, sym, ap, ◌∙◌}
-use mathlib.Core.Bool.{Bool, true, false, not}
+use mathlib.Core.Bool.{Bool, true, false}
 use mathlib.Core.List.{List}
 use lib.Dec.{leb}
 use lib.ListN.{length, get_or, take, length-append}
 use lib.Seq.{sets-eq}
 use lib.IntN.{ℤ}
 use lib.Ieee.{Float}
-use borrow.Author.Tests.{leb-true, leb-false, not-true, not-false, lt-ltb, le-ltb}
+use borrow.Author.Tests.{leb-true, leb-false, lt-ltb, le-ltb}
 use Rattle.mesh.specs.State.{Header}
 use Rattle.mesh.specs.Page.{decimal, head_line, total, foot_line}
 use Rattle.mesh.specs.Call.{unless, over, writing}
 use Rattle.mesh.specs.Refusal.{refusal}
 use Rattle.lines.specs.Puts.{Put}
-use Rattle.output.specs.OutputLists.{wrote_of}
 use Rattle.lines.specs.LineRows.{lines_of}
 use Rattle.page.specs.PageRows.{body_of, page_of}
 use Rattle.lines.proofs.Puts.{total-append, put-more, put_as, put_front}
@@ -89,17 +88,17 @@ module _ {ns d e : List ℕ} {r : ℕ} (w : Put d 0 ns e r) (room : length ns �
 -- ---- refused, or written
 
 module _ (xs out : List ℕ) where
-  pub page-over : {b : Bool} → not b ≡ true → b ≡ leb (length xs) (length out) → length out < length xs
-  page-over {b} h e = leb-false (length xs) (length out) (sym e ∙ not-true b h)
+  pub page-over : {b : Bool} → b ≡ false → b ≡ leb (length xs) (length out) → length out < length xs
+  page-over h e = leb-false (length xs) (length out) (sym e ∙ h)
 
-  pub page-room : {b : Bool} → not b ≡ false → b ≡ leb (length xs) (length out) → length xs ≤ length out
-  page-room {b} h e = leb-true (length xs) (length out) (sym e ∙ not-false b h)
+  pub page-room : {b : Bool} → b ≡ true → b ≡ leb (length xs) (length out) → length xs ≤ length out
+  page-room h e = leb-true (length xs) (length out) (sym e ∙ h)
 
-  pub page-refused : length out < length xs → wrote_of (record { refusal = 18; count = 0 }) out ≡ writing xs out
+  pub page-refused : length out < length xs → record { refusal = 18; count = 0; out = out } ≡ writing xs out
   unfolding refusal unless
   page-refused h = rw (lt-ltb (length out) (length xs) h)
 
-  pub page-written : {e : List ℕ} {r : ℕ} → length xs ≤ length out → Put out 0 xs e r → wrote_of (record { refusal = 0; count = r }) e ≡ writing xs out
+  pub page-written : {e : List ℕ} {r : ℕ} → length xs ≤ length out → Put out 0 xs e r → record { refusal = 0; count = r; out = e } ≡ writing xs out
   unfolding refusal unless
   page-written {e} {r} k w =
       let c : r ≡ length xs = omega (arith, w.next) in

@@ -6,17 +6,17 @@ ghost use Rattle.mesh.specs.Call.{writing};
 ghost use Rattle.table.specs.Plain.{Sized};
 ghost use Rattle.lines.specs.Puts.{Put};
 ghost use Rattle.lines.specs.Sheets.{HasRoom, PutOn};
-ghost use Rattle.output.specs.OutputLists.{wrote_of};
+ghost use Rattle.answer.specs.OutputLists.{wrote_of};
 ghost use Rattle.lines.specs.LineRows.{Listed};
 ghost use Rattle.leaves.specs.LeavesFrom.{leaves_from};
 ghost use Rattle.page.specs.PageRows.{body_of, page_of, row_out};
 
+use answer::{Refusal, refuse_if};
 use header::{Header, is_ring};
 use leaves::{Found, find_leaves};
 use lines::leaf_lines::{lines_size, lines_sum, put_lines};
 use lines::numerals::digits;
 use lines::sheets::Sheet;
-use output::Wrote;
 
 // No last line is longer.
 const LONGEST_FOOT: usize = 52;
@@ -121,22 +121,26 @@ fn write_leaves(
     cap: usize,
     leaves: &[u16],
     out: &mut [u8],
-) -> Wrote
+) -> Result<usize, Refusal>
     requires { Listed t.now v.now cap leaves.now }
     ensures { wrote_of result out.new ≡ writing (page_of (header_of header) t.now v.now leaves.now) out.old }
 {
-    if !fits(header, t, v, cap, leaves, out.len()) {
-        return Wrote {
-            refusal: 18,
-            count: 0,
-        };
-    }
-    let count = put_page(header, t, v, cap, leaves, out);
-    Wrote { refusal: 0, count }
+    refuse_if(
+        !fits(header, t, v, cap, leaves, out.len()),
+        Refusal::TooShort,
+    )?;
+    Ok(put_page(header, t, v, cap, leaves, out))
 }
 
 // Writes the page, if the output is long enough.
-pub fn write_page(header: Header, t: &[i32], v: &[f64], cap: usize, d: u32, out: &mut [u8]) -> Wrote
+pub fn write_page(
+    header: Header,
+    t: &[i32],
+    v: &[f64],
+    cap: usize,
+    d: u32,
+    out: &mut [u8],
+) -> Result<usize, Refusal>
     requires { Sized t.now cap × (1 ≤ cap) × (cap < length v.now) × (length (leaves_from t.now cap (d + 12) 1) ≤ 4096) }
     ensures { wrote_of result out.new ≡ row_out (header_of header) t.now v.now cap d out.old }
 {
