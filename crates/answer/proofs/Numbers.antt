@@ -4,7 +4,7 @@ use Rattle.std.specs.Prelude.{◌≡◌, ◌≢◌, ℕ, ◌-◌, ◌<◌, List,
 use Rattle.std.proofs.Common.{refl, sym, ap, ap₂, ◌∙◌, arith}
 use Rattle.answer.specs.declared.Refusal.{Refusal}
 use Rattle.answer.specs.declared.Refusal.TheVariants.{BadLengths, BadHeader, Unsound, CutOff, UnknownKind, NoPatch, NoCell, HasKids, TopLevel, IsSentenced, TooFewFree, WrongLevel, NoKids, KidsNotSentenced, LastCell, NotFinite, BadScan, TooShort, NotFound, TooLong, CoarserBeside, FinerBeside, NoSuchCount}
-use Rattle.answer.specs.Refusals.{number, refusal_of, value_or}
+use Rattle.answer.specs.Refusals.{number, refusal_of, value_or, stop_of}
 
 -- in the order of the numbers
 all : List Refusal
@@ -114,3 +114,15 @@ read-answer x (Err r) = read-back r x
 
 pub same-answer : {A : Type 0} (x : A) (r s : Result A Refusal) → refusal_of r ≡ refusal_of s → value_or x r ≡ value_or x s → r ≡ s
 same-answer x r s e f = sym (read-answer x r) ∙ ap₂ read e f ∙ read-answer x s
+
+-- a check answers no more than its refusal
+pub same-check : (r s : Result (Unit {0}) Refusal) → refusal_of r ≡ refusal_of s → r ≡ s
+same-check r s e = same-answer tt r s e refl
+
+-- ---- a stop on the way
+
+pub same-stop : (r s : Option Refusal) → stop_of r ≡ stop_of s → r ≡ s
+same-stop None None e = refl
+same-stop None (Some s) e = absurd (not-zero s (sym e))
+same-stop (Some r) None e = absurd (not-zero r e)
+same-stop (Some r) (Some s) e = ap Some (same-number r s e)

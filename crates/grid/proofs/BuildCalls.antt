@@ -28,6 +28,10 @@ use Rattle.place_laws.proofs.Bools.{cond_same}
 use Rattle.place_laws.proofs.Ranges.{fits-sizes}
 use Rattle.number_laws.proofs.Checks.{passes}
 use Rattle.demand_laws.proofs.PicturedCalls.{Buildable, build-checked}
+use Rattle.std.specs.Prelude.{Ok, Err}
+use Rattle.answer.specs.declared.Refusal.{Refusal}
+use Rattle.answer.specs.Refusals.{number}
+use Rattle.answer.proofs.Numbers.{not-zero}
 use Rattle.grid.specs.Calls.{built_of, asked, Builds}
 
 -- ---- the refusal
@@ -73,9 +77,9 @@ module _ (l : Counted) (cap columns rows mode : ℕ) {new : Header} (New-is : ne
   checked : n ≡ refusal (build_checks cap l (asked columns rows mode))
   checked = any-header ∙ ap (λ (g : Grid). refusal (build_checks cap l g)) grid-is
 
-  pub build-refused : n ≢ 0 → Builds l cap columns rows mode l (record { refusal = n; used = 0 })
+  pub build-refused : (r : Refusal) → n ≡ number r → Builds l cap columns rows mode l (Err r)
   unfolding build_call
-  build-refused some = record { is = sym (rw (sym checked) (unless-refused _ _ n some)) }
+  build-refused r e = record { is = sym (rw (sym (sym e ∙ checked)) (unless-refused _ _ (number r) (not-zero r))) }
 
   module _ (none : n ≡ 0) where
     pub sized : Sizes cap l.lent
@@ -96,7 +100,7 @@ module _ (l : Counted) (cap columns rows mode : ℕ) {new : Header} (New-is : ne
     pub few-cells : columns * rows < 4294967296
     few-cells = let (_, a, _, b, _, _) = subst Rectangle grid-is buildable.rectangle in omega (arith, mul-le-mul {n₁ = columns} {m₁ = rows} {n₂ = 32} {m₂ = 32} a b)
 
-    pub build-made : (t : List ℤ) (v : List Float) (c : List ℕ) (k : ℕ) → Made cap (lent_of new t v) k → c ≡ built_counts (columns * rows) → Builds l cap columns rows mode (counted_of new t v c) (record { refusal = 0; used = k })
+    pub build-made : (t : List ℤ) (v : List Float) (c : List ℕ) (k : ℕ) → Made cap (lent_of new t v) k → c ≡ built_counts (columns * rows) → Builds l cap columns rows mode (counted_of new t v c) (Ok k)
     unfolding build_call built
     build-made t v c k m e = record { is = made ∙ sym (unless-accepted _ _ _ (sym checked ∙ none)) }
       where
@@ -106,5 +110,5 @@ module _ (l : Counted) (cap columns rows mode : ℕ) {new : Header} (New-is : ne
         its : Made cap (lent_of (fresh_header columns rows mode) t v) k
         its = subst (λ (h : Header). Made cap (lent_of h t v) k) New-is m
 
-        made : built_of (record { refusal = 0; used = k }) (counted_of new t v c) ≡ record { refusal = 0; in_use = State.in_use (built (asked columns rows mode) cap).entries; lent = counted (built (asked columns rows mode) cap) }
+        made : built_of (Ok k) (counted_of new t v c) ≡ record { refusal = 0; in_use = State.in_use (built (asked columns rows mode) cap).entries; lent = counted (built (asked columns rows mode) cap) }
         made = λ i. record { refusal = 0; in_use = its.in-use-is i; lent = record { lent = record { header = header_of (New-is i); words = its.words_are i; values = its.values-are i }; counts = counts i } }

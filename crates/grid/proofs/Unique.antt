@@ -11,16 +11,17 @@ use Rattle.mesh.specs.LeafCounts.{Counted}
 use Rattle.mesh.specs.Call as Call
 use Rattle.header.specs.Headers.{counted_of}
 use Rattle.header.specs.declared.Header.{Header}
-use Rattle.lookup.specs.declared.Found.{Found}
+use Rattle.lookup.specs.declared.Leaf.{Leaf}
 use Rattle.lookup.specs.declared.Reading.{Reading}
 use Rattle.lookup.specs.declared.Reading.TheVariants.{Measured, Carried, Blank}
-use Rattle.lookup.specs.LookupRows.{value_of_reading, found_of}
-use Rattle.output.specs.declared.Wrote.{Wrote}
-use Rattle.grid.specs.declared.Built.{Built}
+use Rattle.lookup.specs.LookupRows.{value_of_reading, no_leaf, found_of}
+use Rattle.std.specs.Prelude.{Result}
+use Rattle.answer.specs.declared.Refusal.{Refusal}
+use Rattle.answer.specs.Refusals.{value_or}
+use Rattle.answer.proofs.Numbers.{same-answer, same-check, same-stop}
 use Rattle.grid.specs.declared.Taped.{Taped}
 use Rattle.grid.specs.declared.BuildOut.{BuildOut}
 use Rattle.grid.specs.declared.TapeOut.{TapeOut}
-use Rattle.grid.specs.declared.HowMany.{HowMany}
 use base.Logic.{ent}
 use contract.Lifetimes.{Lfts}
 use contract.Monad.{fact, fact_i, fact_use}
@@ -36,7 +37,7 @@ use Rattle.grid.proofs.build_core.Reads as build-core
 use Rattle.grid.proofs.tape_core.Reads as tape-core
 use Rattle.grid.specs.contracts.build as build
 use Rattle.grid.specs.contracts.tape as tape
-use Rattle.output.specs.OutputLists.{wrote_of}
+use Rattle.answer.specs.OutputLists.{wrote_of}
 use Rattle.grid.specs.Calls.{Builds, Tapes, count_of}
 
 -- ---- what is lent
@@ -49,11 +50,10 @@ counted_same h h' t t' v v' c c' e =
 
 -- ---- scan and page
 
-pub wrote-unique : (r s : Wrote) (out out' : List ℕ) {w : Call.Wrote} → wrote_of r out ≡ w → wrote_of s out' ≡ w → (r ≡ s) × (out ≡ out')
+pub wrote-unique : (r s : Result ℕ Refusal) (out out' : List ℕ) {w : Call.Wrote} → wrote_of r out ≡ w → wrote_of s out' ≡ w → (r ≡ s) × (out ≡ out')
 wrote-unique r s out out' a b =
     let e : wrote_of r out ≡ wrote_of s out' = a ∙ sym b in
-    let x : r ≡ s = λ i. record { refusal = (e i).refusal; count = (e i).count } in
-    (x, λ i. (e i).out)
+    (same-answer 0 r s (λ i. (e i).refusal) (λ i. (e i).count), λ i. (e i).out)
 
 -- ---- lookup
 
@@ -68,48 +68,50 @@ back (Measured x) = refl
 back (Carried x) = refl
 back Blank = refl
 
-pub found-unique : (r s : Found) {w : Call.Found} → found_of r ≡ w → found_of s ≡ w → r ≡ s
+pub found-unique : (r s : Result Leaf Refusal) {w : Call.Found} → found_of r ≡ w → found_of s ≡ w → r ≡ s
 found-unique r s a b =
     let e : found_of r ≡ found_of s = a ∙ sym b in
-    let x : r.reading ≡ s.reading = sym (back r.reading) ∙ ap (λ (w : Call.Found). reading_of w.value) e ∙ back s.reading in
-    λ i. record { refusal = (e i).refusal; leaf = (e i).leaf; reading = x i }
+    let p = value_or no_leaf r in
+    let q = value_or no_leaf s in
+    let x : p.reading ≡ q.reading = sym (back p.reading) ∙ ap (λ (w : Call.Found). reading_of w.value) e ∙ back q.reading in
+    same-answer no_leaf r s (λ i. (e i).refusal) (λ i. record { number = (e i).leaf; reading = x i })
 
 -- ---- build and tape
 
 module _ {l : Counted} {cap : ℕ} (l₁ l₂ : Counted) where
-  pub build-unique : {columns rows mode : ℕ} (r s : Built) → Builds l cap columns rows mode l₁ r → Builds l cap columns rows mode l₂ s → (r ≡ s) × (l₁ ≡ l₂)
+  pub build-unique : {columns rows mode : ℕ} (r s : Result ℕ Refusal) → Builds l cap columns rows mode l₁ r → Builds l cap columns rows mode l₂ s → (r ≡ s) × (l₁ ≡ l₂)
   build-unique r s a b =
       let e = a.is ∙ sym b.is in
-      let x : r ≡ s = λ i. record { refusal = (e i).refusal; used = (e i).in_use } in
-      (x, λ i. (e i).lent)
+      (same-answer 0 r s (λ i. (e i).refusal) (λ i. (e i).in_use), λ i. (e i).lent)
 
   pub tape-unique : {bytes : List ℕ} (r s : Taped) → Tapes l cap bytes l₁ r → Tapes l cap bytes l₂ s → (r ≡ s) × (l₁ ≡ l₂)
   tape-unique r s a b =
       let e = a.is ∙ sym b.is in
-      let x : r ≡ s = λ i. record { done = (e i).done; refusal = (e i).refusal; offset = (e i).offset } in
+      let stop = same-stop r.refusal s.refusal (λ i. (e i).refusal) in
+      let x : r ≡ s = λ i. record { done = (e i).done; refusal = stop i; offset = (e i).offset } in
       (x, λ i. (e i).lent)
 
 -- ---- the question
 
-pub count-unique : (r s : HowMany) {w : Call.Count} → count_of r ≡ w → count_of s ≡ w → r ≡ s
-count-unique r s a b = let e : count_of r ≡ count_of s = a ∙ sym b in λ i. record { refusal = (e i).refusal; count = (e i).count }
+pub count-unique : (r s : Result ℕ Refusal) {w : Call.Count} → count_of r ≡ w → count_of s ≡ w → r ≡ s
+count-unique r s a b = let e : count_of r ≡ count_of s = a ∙ sym b in same-answer 0 r s (λ i. (e i).refusal) (λ i. (e i).count)
 
 -- ---- the contracts themselves: any two outcomes that one allows are equal
 
 module _ (c : Bor (List ℕ)) (level status : ℕ) (κs : Lfts 1) where
-  abbrev CountAllows : HowMany → Type 0
+  abbrev CountAllows : Result ℕ Refusal → Type 0
   CountAllows r = count.Post κs (c, (level, (status, tt))) r (c, (level, (status, tt)))
 
-  pub count-once : (r s : HowMany) → CountAllows r → CountAllows s → r ≡ s
+  pub count-once : (r s : Result ℕ Refusal) → CountAllows r → CountAllows s → r ≡ s
   count-once r s p q = count-unique r s p q
 
 module _ (h : Header) (t : Bor (List ℤ)) (v : Bor (List Float)) (c : Bor (List ℕ)) (cap : ℕ) where
   module _ (κs : Lfts 3) where
-    abbrev CheckAllows : ℕ → Type 0
+    abbrev CheckAllows : Result (Unit {0}) Refusal → Type 0
     CheckAllows r = check.Post κs (h, (t, (v, (c, (cap, tt))))) r (h, (t, (v, (c, (cap, tt)))))
 
-    pub check-once : (r s : ℕ) → CheckAllows r → CheckAllows s → r ≡ s
-    check-once r s p q = p ∙ sym q
+    pub check-once : (r s : Result (Unit {0}) Refusal) → CheckAllows r → CheckAllows s → r ≡ s
+    check-once r s p q = same-check r s (p ∙ sym q)
 
 module _ (h : Header) (t : MutBor (List ℤ)) (v : MutBor (List Float)) (c : MutBor (List ℕ)) (cap : ℕ) where
   module _ (κs : Lfts 3) where
@@ -131,25 +133,25 @@ module _ (h : Header) (t : MutBor (List ℤ)) (v : MutBor (List Float)) (c : Mut
 
 module _ (h : Header) (t : Bor (List ℤ)) (v : Bor (List Float)) (cap : ℕ) where
   module _ (κs : Lfts 2) (x y : ℕ) where
-    abbrev LookupAllows : Found → Type 0
+    abbrev LookupAllows : Result Leaf Refusal → Type 0
     LookupAllows r = lookup.Post κs (h, (t, (v, (cap, (x, (y, tt)))))) r (h, (t, (v, (cap, (x, (y, tt))))))
 
-    pub lookup-once : (r s : Found) → LookupAllows r → LookupAllows s → r ≡ s
+    pub lookup-once : (r s : Result Leaf Refusal) → LookupAllows r → LookupAllows s → r ≡ s
     lookup-once r s p q = found-unique r s p q
 
   module _ (κs : Lfts 3) (out : MutBor (List ℕ)) where
-    abbrev PageAllows : Wrote → List ℕ → Type 0
+    abbrev PageAllows : Result ℕ Refusal → List ℕ → Type 0
     PageAllows r xs = page.Post κs (h, (t, (v, (cap, (out, tt))))) r (h, (t, (v, (cap, (at_last out xs, tt)))))
 
-    pub page-once : (r s : Wrote) (xs ys : List ℕ) → PageAllows r xs → PageAllows s ys → (r ≡ s) × (xs ≡ ys)
+    pub page-once : (r s : Result ℕ Refusal) (xs ys : List ℕ) → PageAllows r xs → PageAllows s ys → (r ≡ s) × (xs ≡ ys)
     page-once r s xs ys p q = wrote-unique r s xs ys p q
 
     module _ (n : ℕ) (o : List ℕ) (k : ℕ) (from to : ℤ) where
-      abbrev ScanAllows : Wrote → List ℕ → Type 0
+      abbrev ScanAllows : Result ℕ Refusal → List ℕ → Type 0
       ScanAllows r xs =
           scan.Post κs (h, (t, (v, (cap, (n, (o, (k, (from, (to, (out, tt)))))))))) r (h, (t, (v, (cap, (n, (o, (k, (from, (to, (at_last out xs, tt))))))))))
 
-      pub scan-once : (r s : Wrote) (xs ys : List ℕ) → ScanAllows r xs → ScanAllows s ys → (r ≡ s) × (xs ≡ ys)
+      pub scan-once : (r s : Result ℕ Refusal) (xs ys : List ℕ) → ScanAllows r xs → ScanAllows s ys → (r ≡ s) × (xs ≡ ys)
       scan-once r s xs ys p q = wrote-unique r s xs ys p q
 
 -- ---- the contracts of the entries that are lent the header, at any model `w` as in their statements: one says at exit that
@@ -161,15 +163,15 @@ both_told w P F G {D} k p q = fact_use w.𝓤 F p (λ x. fact_use w.𝓤 G q (λ
 
 module _ (w : World) (h : MutBor Header) (t : MutBor (List ℤ)) (v : MutBor (List Float)) (c : MutBor (List ℕ)) (cap : ℕ) where
   module _ (κs : Lfts 4) (columns rows mode : ℕ) where
-    abbrev BuildSays : Built → Header → List ℤ → List Float → List ℕ → Pr w
+    abbrev BuildSays : Result ℕ Refusal → Header → List ℤ → List Float → List ℕ → Pr w
     BuildSays r h' t' v' c' =
         (build.clauses w.𝓛 w.𝓜.mem w.𝓡.run κs (h, (t, (v, (c, (cap, (columns, (rows, (mode, tt))))))))).ensures tt r (at_last h h', (at_last t t', (at_last v v', (at_last c c', (cap, (columns, (rows, (mode, tt))))))))
 
-    pub build-says : (r : Built) → (build.spec w.𝓛 w.𝓜.mem w.𝓡.run κs (h, (t, (v, (c, (cap, (columns, (rows, (mode, tt))))))))).ensures tt r
+    pub build-says : (r : Result ℕ Refusal) → (build.spec w.𝓛 w.𝓜.mem w.𝓡.run κs (h, (t, (v, (c, (cap, (columns, (rows, (mode, tt))))))))).ensures tt r
         ≡ exits w.𝓛 build.signature (build.ended).kept κs (h, (t, (v, (c, (cap, (columns, (rows, (mode, tt)))))))) (λ e. fact w.𝓤 (Builds (counted_of h.now t.now v.now c.now) cap columns rows mode (counted_of e.0.now e.1.0.now e.1.1.0.now e.1.1.1.0.now) r))
     build-says r = refl
 
-    pub build-entry-once : (P : Pr w) (r s : Built) (h₁ h₂ : Header) (t₁ t₂ : List ℤ) (v₁ v₂ : List Float) (c₁ c₂ : List ℕ) → ent w.𝓤 P (BuildSays r h₁ t₁ v₁ c₁) → ent w.𝓤 P (BuildSays s h₂ t₂ v₂ c₂)
+    pub build-entry-once : (P : Pr w) (r s : Result ℕ Refusal) (h₁ h₂ : Header) (t₁ t₂ : List ℤ) (v₁ v₂ : List Float) (c₁ c₂ : List ℕ) → ent w.𝓤 P (BuildSays r h₁ t₁ v₁ c₁) → ent w.𝓤 P (BuildSays s h₂ t₂ v₂ c₂)
         → ent w.𝓤 P (fact w.𝓤 ((r ≡ s) × (counted_of h₁ t₁ v₁ c₁ ≡ counted_of h₂ t₂ v₂ c₂)))
     build-entry-once P r s h₁ h₂ t₁ t₂ v₁ v₂ c₁ c₂ p q = both_told w P _ _ (build-unique (counted_of h₁ t₁ v₁ c₁) (counted_of h₂ t₂ v₂ c₂) r s) p q
 
