@@ -62,10 +62,10 @@ mapped-few {f} h = let t = total-le f 4096 in omega (arith, h.counts)
 mapped-some : {f : ℕ → Bool} {m : List ℕ} {top count : ℕ} → Mapped f m top count → (n : ℕ) → n < 4096 → f n ≡ true → 0 < count
 mapped-some {f} h n l e = let t = rw e at (total-switched f n false 4096 l) in omega (arith, h.counts)
 
-pub maps-same : {f g : ℕ → Bool} {m : List ℕ} → Maps m f → ((n : ℕ) → n < 4096 → f n ≡ g n) → Maps m g
+maps-same : {f g : ℕ → Bool} {m : List ℕ} → Maps m f → ((n : ℕ) → n < 4096 → f n ≡ g n) → Maps m g
 maps-same h e = record { each = λ n l. h.each n l ∙ ap (λ (c : Bool). cond c 1 0) (e n l) }
 
-mapped-same : {f g : ℕ → Bool} {m : List ℕ} {top count : ℕ} → Mapped f m top count → ((n : ℕ) → n < 4096 → f n ≡ g n) → Mapped g m top count
+pub mapped-same : {f g : ℕ → Bool} {m : List ℕ} {top count : ℕ} → Mapped f m top count → ((n : ℕ) → n < 4096 → f n ≡ g n) → Mapped g m top count
 mapped-same {f} {g} h e = record {
   kept = h.kept;
   maps = maps-same h.maps e;
@@ -89,13 +89,13 @@ opened h k = mapped-same k (known h)
 pub closed : {f : ℕ → Bool} {m : List ℕ} {top count : ℕ} → Mapped f m top count → Mapped (free_in m) m top count
 closed h = mapped-same h (λ n l. sym (known h.maps n l))
 
-bit-free : (m : List ℕ) (n : ℕ) → map_bit m n ≡ 1 → free_in m n ≡ true
-unfolding free_in
-bit-free m n e = rw e
-
 -- there is one to take
-pub some_free : {m : List ℕ} {top count : ℕ} → Mapped (free_in m) m top count → (n : ℕ) → n < 4096 → map_bit m n ≡ 1 → 0 < count
-some_free {m} h n l e = mapped-some h n l (bit-free m n e)
+pub some_free : {f : ℕ → Bool} {m : List ℕ} {top count : ℕ} → Mapped f m top count → (n : ℕ) → n < 4096 → map_bit m n ≡ 1 → 0 < count
+some_free {f} {m} {count = count} h n l e = go (f n) refl (h.maps.each n l)
+  where
+    go : (c : Bool) → f n ≡ c → map_bit m n ≡ cond c 1 0 → 0 < count
+    go true z i = mapped-some h n l z
+    go false z i = absurd (omega arith)
 
 -- ---- one bit of a word
 
@@ -149,10 +149,9 @@ module _ (m : List ℕ) (top n v r : ℕ) (c : Bool) (p : 0 < n) (l : n < 4096) 
 
 -- ---- a number given, and a number taken
 
-module _ {m u : List ℕ} {top n x r count : ℕ} (l : n < 4096) (known : Mapped (free_in m) m top count) (e : u ≡ set m (n / 64) x) where
-  pub given : (more : ℕ) → 0 < n → x ≡ on (get_or m (n / 64) 0) (n % 64) → r ≡ on top (n / 64) → more + map_bit m n ≡ 1
-      → (f : ℕ → Bool) → Maps m f → Mapped (switched f n true) u r (count + more)
-  given more p a b i f h = rw e (set-mapped m top n x r true p l known.kept word (rw b over) f count (count + more) (opened h known) (sum (f n) (h.each n l)))
+module _ {f : ℕ → Bool} {m u : List ℕ} {top n x r count : ℕ} (l : n < 4096) (h : Mapped f m top count) (e : u ≡ set m (n / 64) x) where
+  pub given : (more : ℕ) → 0 < n → x ≡ on (get_or m (n / 64) 0) (n % 64) → r ≡ on top (n / 64) → more + map_bit m n ≡ 1 → Mapped (switched f n true) u r (count + more)
+  given more p a b i = rw e (set-mapped m top n x r true p l h.kept word (rw b over) f count (count + more) h (sum (f n) (h.maps.each n l)))
     where
       sum : (y : Bool) → map_bit m n ≡ cond y 1 0 → count + more + cond y 1 0 ≡ count + 1
       sum true j = omega arith
@@ -167,16 +166,16 @@ module _ {m u : List ℕ} {top n x r count : ℕ} (l : n < 4096) (known : Mapped
           record { here = rw (ne_eqb x 0 (λ q. omega arith)) (on-here top (n / 64)); there = on-there top (n / 64) }
 
   pub taken : map_bit m n ≡ 1 → x ≡ off (get_or m (n / 64) 0) (n % 64) → (x ≡ 0 → r ≡ off top (n / 64)) × (0 < x → r ≡ top)
-      → (f : ℕ → Bool) → Maps m f → Mapped (switched f n false) u r (count - 1)
-  taken z a b f h = rw e (set-mapped m top n x r false (above (ℕ_discrete n 0)) l known.kept word (over (ℕ_discrete x 0)) f count (count - 1) (opened h known) (sum (f n) (h.each n l)))
+      → Mapped (switched f n false) u r (count - 1)
+  taken z a b = rw e (set-mapped m top n x r false (above (ℕ_discrete n 0)) l h.kept word (over (ℕ_discrete x 0)) f count (count - 1) h (sum (f n) (h.maps.each n l)))
     where
       -- the bit of the number 0 is not set
       above : Dec (n ≡ 0) → 0 < n
-      above (yes q) = let o : ◌≡◌ {A = ℕ} 1 0 = sym z ∙ ap (map_bit m) q ∙ known.kept.none in absurd (omega arith)
+      above (yes q) = let o : ◌≡◌ {A = ℕ} 1 0 = sym z ∙ ap (map_bit m) q ∙ h.kept.none in absurd (omega arith)
       above (no q) = omega (arith, q)
 
       sum : (y : Bool) → map_bit m n ≡ cond y 1 0 → count - 1 + cond y 1 0 ≡ count + 0
-      sum true j = let some = some_free known n l z in omega arith
+      sum true j = let some = some_free h n l z in omega arith
       sum false j = absurd (omega arith)
 
       word : Word (get_or m (n / 64) 0) (n % 64) false x
@@ -189,6 +188,6 @@ module _ {m u : List ℕ} {top n x r count : ℕ} (l : n < 4096) (known : Mapped
           let o : 0 < get_or m (n / 64) 0 = off-pos _ (n % 64) (rw a at s) in
           rw (b.1 s)
           (record {
-            here = known.kept.tops (n / 64) (omega arith) ∙ rw (ne_eqb x 0 q, ne_eqb (get_or m (n / 64) 0) 0 (λ y. omega arith)) refl;
+            here = h.kept.tops (n / 64) (omega arith) ∙ rw (ne_eqb x 0 q, ne_eqb (get_or m (n / 64) 0) 0 (λ y. omega arith)) refl;
             there = λ j i. refl;
           })

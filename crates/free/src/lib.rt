@@ -1,5 +1,4 @@
 // Free numbers, kept in a map along a tape.
 #![tactic(auto)]
 
-pub mod load;
 pub mod map;

@@ -1,8 +1,11 @@
 // The free numbers from 1 to 4095, kept along a tape.
-ghost use Rattle.std.specs.Prelude.{◌≡◌, Bool, true, false, ℕ, ◌+◌, ◌/◌, ◌^◌, ◌<◌, List};
+ghost use Rattle.std.specs.Prelude.{◌≡◌, Bool, true, false, ℕ, ◌+◌, ◌*◌, ◌/◌, ◌^◌, ◌<◌, ◌≤◌, List, length};
+ghost use Rattle.mesh.specs.Picture.{row_words};
+ghost use Rattle.table.specs.Words.{free_at};
 ghost use Rattle.free.specs.FreeMap.{on, off, Low, map_bit, switched, total, First, first_from, free_in, Maps, Mapped};
 
 use std::marker::Model;
+use table::words::is_free;
 
 // Bit n % 64 of word n / 64 is set if n is free, bit w of `top` if word w is not 0, and `count` numbers are free.
 #[derive(Drop)]
@@ -63,15 +66,22 @@ fn high(x: u64, b: usize) -> u64
 }
 
 impl FreeMap {
-    // No number is free.
-    pub fn new() -> FreeMap
-        ensures { Maps result (λ n. false) }
+    // The map of the free rows of a table.
+    pub fn load(t: &[i32], cap: usize) -> FreeMap
+        requires { (length t.now ≡ row_words * (cap + 1)) × (cap ≤ 4095) × (free_at t.now 0 ≡ false) }
+        ensures { Maps result (free_at t.now) }
     {
-        FreeMap {
-            words: [0; 64],
-            top: 0,
-            count: 0,
+        let mut words = [0; 64];
+        let mut top = 0;
+        let mut count = 0;
+        for n in (1..cap + 1).rev() {
+            if is_free(t, n) {
+                words[n / 64] = set_bit(words[n / 64], n % 64);
+                top = set_bit(top, n / 64);
+                count += 1;
+            }
         }
+        FreeMap { words, top, count }
     }
 
     // How many numbers are free.

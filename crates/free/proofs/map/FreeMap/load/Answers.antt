@@ -1,18 +1,27 @@
--- `free::map::FreeMap::load` meets its contract: the map has the free rows below n.
+-- `free::map::FreeMap::load` meets its contract: the map has the free rows from n on.
 use native.Mathlib.Omega.{arith}
-use mathlib.Core.Path.{sym, ◌∙◌}
-use Rattle.free.proofs.LoadingMap.{load-start, load-free, load-taken, load-end}
+use mathlib.Core.Path.{refl, sym, ◌∙◌}
+use Rattle.free.proofs.Switching.{mapped-few, closed, given}
+use Rattle.free.proofs.LoadingMap.{load-start, load-bit, load-free, load-taken, load-end}
 use Rattle.free.proofs.map.FreeMap.load.Goals as goal
-use Rattle.free.proofs.map.FreeMap.load.Goals.{then-is_free, else-is_free}
 
 pub loop-n-init : goal.loop-n-init
-loop-n-init c = load-start _ c.requires.2 c.new-map.ensures
+loop-n-init c = load-start _ _ c.requires.0
+
+pub overflow_add-count : goal.overflow_add-count
+overflow_add-count c = let few = mapped-few c.loop-n.invariant in omega arith
+
+pub loop-n-preserved-then-is_free : goal.loop-n-preserved-then-is_free
+loop-n-preserved-then-is_free c =
+    let none = load-bit _ c.loop-n.n (omega arith) (omega arith) c.loop-n.invariant in
+    let more = given (omega arith) c.loop-n.invariant refl 1 (omega arith) c.set_bit.ensures c.set_bit-top.ensures (omega arith) in
+    load-free _ _ (omega arith) (sym c.is_free.ensures ∙ c.if-is_free.true) more
 
 pub loop-n-preserved : goal.loop-n-preserved
-loop-n-preserved c = elim c.if-is_free.branch [
-  | then-is_free w ↦ rw w.map-is (load-free _ _ (sym c.is_free.ensures ∙ w.if-is_free.true) (w.give.ensures _ c.loop-n.invariant))
-  | else-is_free w ↦ rw w.map-is (load-taken _ _ (sym c.is_free.ensures ∙ w.if-is_free.false) c.loop-n.invariant)
-]
+loop-n-preserved c = load-taken _ _ (omega arith) (sym c.is_free.ensures ∙ c.if-is_free.false) c.loop-n.invariant
+
+pub invariant_of-result : goal.invariant_of-result
+invariant_of-result c = closed (load-end _ c.loop-n.n c.requires.2 (omega arith) c.loop-n.invariant)
 
 pub returns : goal.returns
-returns c = load-end _ _ c.loop-n.n c.requires.0 (omega arith) c.loop-n.invariant
+returns c = (load-end _ c.loop-n.n c.requires.2 (omega arith) c.loop-n.invariant).maps
