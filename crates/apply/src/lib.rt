@@ -1,5 +1,5 @@
-// One request on a table: it is decided first, and a refused one writes nothing. The map of free numbers and the leaf counts go along: the counts
-// move by the rows as they are before the request writes.
+// One request on a table: it is decided first, and a refused one writes nothing. Each function answers the refusal, 0 for none. The map of free numbers
+// and the leaf counts go along: the counts move by the rows as they are before the request writes.
 #![tactic(auto)]
 
 ghost use Rattle.std.specs.Prelude.{◌≡◌};
