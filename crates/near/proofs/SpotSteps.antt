@@ -13,8 +13,8 @@ use Rattle.carried.specs.declared.Carried.{Carried}
 use Rattle.edit_laws.specs.PatchSteps.{put_word}
 use Rattle.edit_laws.specs.Anew.{wall_row, point_row}
 use Rattle.edit_laws.specs.Tables.{Spot, kid_at, kid_spots, wanted_spots, outside_spots, over_spots, at_kid, each_at, refresh_near, put_cell, put_cell_amount, put_amounts}
-use Rattle.near.specs.declared.around.Around.{Around}
-use Rattle.near.specs.Around.{IsAround}
+use Rattle.worked.specs.declared.around.Around.{Around}
+use Rattle.worked.specs.Around.{IsAround}
 use Rattle.near.specs.NearSpots.{corner_spots, side_spots}
 
 -- ---- a cell

@@ -1,17 +1,17 @@
 // Steps at the kids near a cell: its own four; the corners north, east and north-east; the sides south and west.
 ghost use Rattle.std.specs.Prelude.{◌≡◌, ◌++◌, ◌<◌, ◌≤◌, length};
 ghost use Rattle.edit_laws.specs.Tables.{kid_at, kid_spots, each_at, refresh_near, put_cell, put_cell_amount, put_cells, put_amounts};
-ghost use Rattle.near.specs.Around.{Within};
+ghost use Rattle.worked.specs.Around.{Within};
 ghost use Rattle.near.specs.NearSpots.{kid_spot, corner_spots, side_spots};
 ghost use Rattle.table.specs.Plain.{Plain};
 
-use crate::around::{Around, rows_around};
 use anew::pass::{Pass, Points, Walls};
 use carried::{Carried, put_carried};
 use table::plain;
 use table::words::FLAGS;
 use table::writes::put;
 use winds::{NE, NW, SE, SW};
+use worked::around::{Around, rows_around};
 
 // The kid of the row p in the wind at place w of the table of winds, or 0.
 pub fn kid(t: &[i32], cap: usize, p: usize, w: usize) -> usize

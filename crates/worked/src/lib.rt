@@ -1,6 +1,7 @@
 // The words that are worked out from other rows' words: neighbours, whether there are kids and cells nearby, and flags by their weights.
 #![tactic(auto)]
 
+pub mod around;
 pub mod down;
 pub mod pairs;
 

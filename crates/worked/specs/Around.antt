@@ -3,7 +3,7 @@
 use Rattle.std.specs.Prelude.{ℕ, ◌≡◌, ◌≤◌, List, ℤ}
 use Rattle.mesh.specs.Picture.{east_word, north_word, south_word, west_word}
 use Rattle.table.specs.Words.{link_of}
-use Rattle.near.specs.declared.around.Around.{Around}
+use Rattle.worked.specs.declared.around.Around.{Around}
 
 pub record IsAround (t : List ℤ) (cap n : ℕ) (a : Around) : Type 0 where
   pub north : a.north ≡ link_of t cap n north_word

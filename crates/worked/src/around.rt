@@ -1,5 +1,5 @@
 // The rows around a cell.
-ghost use Rattle.near.specs.Around.{IsAround, Within};
+ghost use Rattle.worked.specs.Around.{IsAround, Within};
 ghost use Rattle.std.specs.Prelude.{◌≤◌};
 ghost use Rattle.table.specs.Plain.{Plain};
 
