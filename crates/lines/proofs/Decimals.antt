@@ -1,13 +1,9 @@
 -- Digits are put lowest first, and the definitions put the lowest last: the digits of a number are those of its quotient, and then the last.
 -- Assumes nothing.
-use Rattle.std.proofs.Common.{◌≡◌, ℕ, zero, suc, ◌+◌, ◌*◌, ◌/◌, ◌%◌, ◌^◌, ◌<◌, ◌≤◌, Bool, true, false, ◌&&◌, T, eqb, ltb, List, [], ◌∷◌, ◌++◌, length, get_or, sym, refl, ap, ◌∙◌, append_assoc, add-zero, pow-suc, zero-add, arith, eqb→eq, length-append, le-ltb, lt-ltb, eqb-true}
+use Rattle.std.proofs.Common.{◌≡◌, ℕ, zero, suc, ◌+◌, ◌*◌, ◌/◌, ◌%◌, ◌^◌, ◌<◌, ◌≤◌, Bool, true, false, ltb, List, [], ◌∷◌, ◌++◌, length, sym, refl, ap, ◌∙◌, append_assoc, pow-suc, arith, length-append, le-ltb, lt-ltb}
 use native.Mathlib.Nat.{one-le-pow}
 use native.Mathlib.Decide.{dec_le}
-use borrow.Author.Tests.{eqb-false}
-use Rattle.mesh.specs.Page.{decimal_in, decimal, hex_in, letter}
-use Rattle.carried.specs.Carried.{status_of, is_blank, is_measured}
-use Rattle.carried.specs.declared.Carried.{Carried}
-use Rattle.place_laws.proofs.Bools.{and_left, and_right}
+use Rattle.mesh.specs.Page.{decimal_in, decimal, hex_in}
 use Rattle.lines.specs.LineRows.{hex_digit}
 use Rattle.lines.proofs.Puts.{places, length-places}
 
@@ -34,39 +30,6 @@ hex-append zero n r = refl
 hex-append (suc f) n r =
     let x : ℕ = hex_digit (n % 16) in
     hex-append f (n / 16) (hex_digit (n % 16) ∷ r) ∙ sym (rw (hex-append f (n / 16) (hex_digit (n % 16) ∷ []), append_assoc))
-
--- a list that has the digits from k on
-abbrev digits_from : ℕ → List ℕ → Bool
-digits_from k [] = true
-digits_from k (x ∷ xs) = eqb x (hex_digit k) && digits_from (suc k) xs
-
-digit_at : (xs : List ℕ) (k i : ℕ) → T (digits_from k xs) → i < length xs → get_or xs i 0 ≡ hex_digit (k + i)
-digit_at [] k i t h = absurd (omega arith)
-digit_at (x ∷ xs) k zero t h = rw add-zero (eqb→eq x (hex_digit k) (and_left (eqb x (hex_digit k)) (digits_from (suc k) xs) t))
-digit_at (x ∷ xs) k (suc i) t h =
-    let e : suc k + i ≡ k + suc i = omega arith in
-    digit_at xs (suc k) i (and_right (eqb x (hex_digit k)) (digits_from (suc k) xs) t) (omega arith) ∙ ap hex_digit e
-
-pub hex-table : (x : ℕ) → x < 16 → get_or (48 ∷ 49 ∷ 50 ∷ 51 ∷ 52 ∷ 53 ∷ 54 ∷ 55 ∷ 56 ∷ 57 ∷ 97 ∷ 98 ∷ 99 ∷ 100 ∷ 101 ∷ 102 ∷ []) x 0 ≡ hex_digit x
-hex-table x h = digit_at (48 ∷ 49 ∷ 50 ∷ 51 ∷ 52 ∷ 53 ∷ 54 ∷ 55 ∷ 56 ∷ 57 ∷ 97 ∷ 98 ∷ 99 ∷ 100 ∷ 101 ∷ 102 ∷ []) 0 x tt h ∙ ap hex_digit (zero-add x)
-
--- ---- letters
-
-module _ (c : Carried) {a : Bool} (e : a ≡ is_blank c) where
-  pub letter-blank : a ≡ true → 110 ≡ letter (status_of c)
-  letter-blank h = rw (eqb-true (status_of c) 0 (sym e ∙ h))
-
-  module _ (h : a ≡ false) {b : Bool} (f : b ≡ is_measured c) where
-    pub letter-measured : b ≡ true → 109 ≡ letter (status_of c)
-    letter-measured i = rw (eqb-true (status_of c) 1 (sym f ∙ i))
-
-    pub letter-carried : b ≡ false → 99 ≡ letter (status_of c)
-    letter-carried i = go (status_of c) (eqb-false (status_of c) 0 (sym e ∙ h)) (eqb-false (status_of c) 1 (sym f ∙ i))
-      where
-        go : (n : ℕ) → (n ≡ 0 → ⊥) → (n ≡ 1 → ⊥) → 99 ≡ letter n
-        go zero a b = absurd (a refl)
-        go (suc zero) a b = absurd (b refl)
-        go (suc (suc n)) a b = refl
 
 -- ---- digits in their places
 

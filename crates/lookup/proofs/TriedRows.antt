@@ -1,6 +1,6 @@
--- The tries of a lookup as the code meets them: one below 0 is skipped, and the first that finds a leaf is the last.
+-- The tries of a lookup as the code meets them: the first that finds a leaf is the last.
 -- Assumes nothing.
-use Prim.Native.Nat.{ℕ, zero, suc, ◌-◌, ◌≤◌, ◌<◌}
+use Prim.Native.Nat.{ℕ, zero, suc}
 use native.Mathlib.Omega.{arith}
 use mathlib.Core.Path.{◌≡◌, refl, sym, ◌∙◌}
 use mathlib.Core.Logic.{◌≢◌}
@@ -8,28 +8,14 @@ use mathlib.Core.Bool.{cond}
 use mathlib.Core.List.{List}
 use lib.Dec.{eqb}
 use lib.IntN.{ℤ}
-use borrow.Author.Tests.{le-leb, lt-leb, eq-eqb, ne_eqb}
+use borrow.Author.Tests.{eq-eqb, ne_eqb}
 use Rattle.mesh.proofs.Tries.{tried-own}
 use Rattle.mesh.specs.Lookup.{tried, first_found}
 use Rattle.lookup.specs.LookupRows.{row_at, row_found}
 
 module _ (t : List ℤ) (cap d u v : ℕ) where
-  -- ---- one try
-
   abbrev try : ℕ → ℕ → ℕ
   try left down = tried (row_at t cap d) u v (left, down)
-
-  module _ (left down : ℕ) where
-    pub skipped-left : u < left → 0 ≡ try left down
-    skipped-left h = rw (lt-leb left u h)
-
-    pub skipped-down : left ≤ u → v < down → 0 ≡ try left down
-    skipped-down l h = rw (le-leb left u l, lt-leb down v h)
-
-    pub tried-there : left ≤ u → down ≤ v → {r : ℕ} → r ≡ row_at t cap d (u - left) (v - down) → r ≡ try left down
-    tried-there l h e = rw (le-leb left u l, le-leb down v h) e
-
-  -- ---- one after the other
 
   last_one : (n : ℕ) → n ≡ cond (eqb n 0) 0 n
   last_one zero = refl

@@ -1,21 +1,18 @@
--- Orders: a permutation of the words 1 to 4 has no other words, since it has four and each of the four is among them; and one of any length as four
--- bytes.
+-- Orders: a permutation of the words 1 to 4 has no other words, since it has four and each of the four is among them.
 -- Assumes nothing.
 use Prim.Native.Nat.{ℕ, zero, suc, ◌+◌, ◌≤◌}
 use native.Mathlib.Omega.{arith}
-use mathlib.Core.Path.{◌≡◌, refl, sym, ap}
-use mathlib.Core.Logic.{◌≢◌}
-use mathlib.Core.Bool.{Bool, true, false, ◌&&◌, ◌||◌, cond, or-false}
+use mathlib.Core.Path.{◌≡◌, refl}
+use mathlib.Core.Bool.{Bool, true, false, ◌&&◌, cond}
 use mathlib.Core.List.{List, [], ◌∷◌}
 use lib.Dec.{T, eqb, eqb→eq}
-use lib.ListN.{length, get_or}
-use borrow.Author.Tests.{ne_eqb, eq-eqb}
+use lib.ListN.{length}
+use borrow.Author.Tests.{ne_eqb}
 use Rattle.mesh.specs.Tools.{any, all, count}
 use Rattle.mesh.specs.Scan.{permutation}
-use Rattle.place_laws.proofs.Bools.{no-is, and_left, and_right}
+use Rattle.place_laws.proofs.Bools.{and_left, and_right}
 use Rattle.place_laws.proofs.Counting.{count-some}
 use Rattle.walk.specs.WalkRows.{kids_word}
-use Rattle.scan.specs.FourBytes.{four_of}
 
 -- a word is one of the four at most
 one_word : (w : ℕ) → cond (eqb 1 w) 1 0 + cond (eqb 2 w) 1 0 + cond (eqb 3 w) 1 0 + cond (eqb 4 w) 1 0 ≤ cond (kids_word w) 1 0
@@ -72,33 +69,4 @@ permutation-words o t =
 
 -- ---- as the code tests it
 
-module _ (o : List ℕ) (l : length o ≡ 4) where
-  pub any-of-four : (w : ℕ) → (eqb w (get_or o 0 0) || (eqb w (get_or o 1 0) || (eqb w (get_or o 2 0) || eqb w (get_or o 3 0)))) ≡ any (eqb w) o
-  any-of-four w = go o l
-    where
-      go : (o : List ℕ) → length o ≡ 4 → (eqb w (get_or o 0 0) || (eqb w (get_or o 1 0) || (eqb w (get_or o 2 0) || eqb w (get_or o 3 0)))) ≡ any (eqb w) o
-      go (a ∷ b ∷ c ∷ d ∷ []) e = ap (λ (x : Bool). eqb w a || (eqb w b || (eqb w c || x))) (sym (or-false (eqb w d)))
-      go [] e = absurd (omega arith)
-      go (a ∷ []) e = absurd (omega arith)
-      go (a ∷ b ∷ []) e = absurd (omega arith)
-      go (a ∷ b ∷ c ∷ []) e = absurd (omega arith)
-      go (a ∷ b ∷ c ∷ d ∷ e' ∷ o) e = absurd (omega arith)
-
-  pub permutation-four : {a b c d : Bool} → a ≡ any (eqb 1) o → b ≡ any (eqb 2) o → c ≡ any (eqb 3) o → d ≡ any (eqb 4) o → (a && (b && (c && d))) ≡ permutation o
-  permutation-four e f g h = rw (eq-eqb (length o) 4 l, e, f, g, h)
-
 -- ---- an order of any length as four bytes
-
-pub four-none : (o : List ℕ) → length o ≢ 4 → 0 ∷ 0 ∷ 0 ∷ 0 ∷ [] ≡ four_of o
-four-none o h = rw (no-is (eqb (length o) 4) (λ t. h (eqb→eq (length o) 4 t)))
-
-pub four_bytes : (o : List ℕ) → length o ≡ 4 → get_or o 0 0 ∷ get_or o 1 0 ∷ get_or o 2 0 ∷ get_or o 3 0 ∷ [] ≡ four_of o
-four_bytes o l = rw (eq-eqb (length o) 4 l) (go o l)
-  where
-    go : (o : List ℕ) → length o ≡ 4 → get_or o 0 0 ∷ get_or o 1 0 ∷ get_or o 2 0 ∷ get_or o 3 0 ∷ [] ≡ o
-    go [] l = absurd (omega (arith, l))
-    go (a ∷ []) l = absurd (omega (arith, l))
-    go (a ∷ b ∷ []) l = absurd (omega (arith, l))
-    go (a ∷ b ∷ c ∷ []) l = absurd (omega (arith, l))
-    go (a ∷ b ∷ c ∷ d ∷ []) l = refl
-    go (a ∷ b ∷ c ∷ d ∷ e ∷ o) l = absurd (omega (arith, l))

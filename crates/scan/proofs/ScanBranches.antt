@@ -23,7 +23,7 @@ use Rattle.walk.specs.WalkRows.{kids_word, row_walk}
 use Rattle.listing.specs.ListedRows.{scans}
 use Rattle.scan.specs.ScanRows.{level_of, start_checks, row_scan, row_scan_out}
 use Rattle.listing.specs.Written.{WroteWhatFits}
-use Rattle.scan.proofs.OrderWords.{permutation-length, permutation-words}
+use Rattle.scan.proofs.OrderWords.{permutation-words}
 use Rattle.scan.proofs.LevelsBetween.{not-below, level-trans}
 use Rattle.listing.proofs.Writing.{wrote-whole}
 
@@ -33,7 +33,6 @@ pub record Open (t : List ℤ) (cap n : ℕ) (o : List ℕ) (k : ℕ) (to : ℤ)
   pub order : T (permutation o)
   pub first : 1 ≤ n
   pub within : n ≤ cap
-  pub four : length o ≡ 4
   pub words : T (all kids_word o)
   pub least : 1 ≤ k
   pub most : k ≤ 6
@@ -71,7 +70,6 @@ module _ (t : List ℤ) (cap n : ℕ) (o : List ℕ) (k : ℕ) (from to : ℤ) w
           order = order;
           first = (taken-within t cap n passed.0).0;
           within = (taken-within t cap n passed.0).1;
-          four = permutation-length o order;
           words = permutation-words o order;
           least = leb→le 1 k (and_left (leb 1 k) (leb k 6) known);
           most = leb→le k 6 (and_right (leb 1 k) (leb k 6) known);

@@ -15,7 +15,6 @@ use borrow.Author.Tests.{eq-eqb, ne_eqb, le-leb, not-true, not-false}
 use Rattle.mesh.specs.Tools.{all, flat}
 use Rattle.table.specs.Words.{word_of, link_of}
 use Rattle.place_laws.proofs.Bools.{is-yes, and_left, and_right}
-use Rattle.place_laws.proofs.Lists.{all-at}
 use Rattle.walk.specs.WalkRows.{kids_word, is_end, row_walk}
 
 -- ---- tests
@@ -28,9 +27,6 @@ pub then-second : (a : Bool) {x y b : Bool} → a ≡ x → not a ≡ false → 
 then-second a e h i = rw (← e, not-false a h) i
 
 -- ---- words
-
-pub word_small : (o : List ℕ) → T (all kids_word o) → (q : ℕ) → q < length o → get_or o q 0 ≤ 4
-word_small o t q l = leb→le (get_or o q 0) 4 (and_right (leb 1 (get_or o q 0)) (leb (get_or o q 0) 4) (all-at kids_word 0 o t q l))
 
 -- ---- parts, one for each element
 
@@ -122,6 +118,3 @@ module _ (t : List ℤ) (cap : ℕ) (f : ℕ → Bool) (o : List ℕ) where
   -- one kid more
   pub kid-more : (l n q k : ℕ) → q < length o → k ≡ link_of t cap n (get_or o q 0) → parts (kid_part l n) o q ++ row_walk t cap f o (l - 1) k ≡ parts (kid_part l n) o (q + 1)
   kid-more l n q k h e = rw e (parts_more (kid_part l n) o q h)
-
-  pub kid-none : (l n q k : ℕ) → q < length o → k ≡ link_of t cap n (get_or o q 0) → k ≡ 0 → parts (kid_part l n) o q ≡ parts (kid_part l n) o (q + 1)
-  kid-none l n q k h e z = sym (append-nil _) ∙ ap (λ (xs : List ℕ). parts (kid_part l n) o q ++ xs) (walk_none (l - 1) k z) ∙ kid-more l n q k h e
