@@ -14,13 +14,13 @@ use Rattle.mesh.specs.LeafCounts.{Counted}
 use Rattle.mesh.specs.Valid.{Valid, finite}
 use Rattle.mesh.specs.Refusal.{refusal}
 use Rattle.mesh.specs.Request.{Request, set_value, checks}
-use Rattle.mesh.specs.Tape.{Kind, kinds, kind, field, number_in, value_in, by_number, asks}
+use Rattle.mesh.specs.Tape.{Kind, kind, field, number_in, value_in, by_number, asks}
 use Rattle.number_laws.proofs.Checks.{passes}
 use Rattle.number_laws.proofs.Naming.{named}
 use Rattle.apply.specs.Applied.{Applied}
 use Rattle.kinds.specs.BodyLengths.{StandsFor}
 use Rattle.apply.specs.Asked.{AppliedAt}
-use Rattle.kinds.proofs.Bodies.{field-body, Misses, unknown}
+use Rattle.kinds.proofs.Bodies.{field-body}
 
 -- ---- a value that stands for a pattern's
 
@@ -63,7 +63,3 @@ module _ {bytes : List ℕ} {at cap d given : ℕ} {l l' : Header → Counted} w
       → Applied (set_value n x) cap d l l' given → AppliedAt bytes at cap d l l' given
   value-applied e i f a =
       row-applied e (rw (field-body 0 2 10 (drop (at + 1) bytes) (omega arith), field-body 2 8 10 (drop (at + 1) bytes) (omega arith), ← i) (standing-applied f a))
-
-  -- no kind
-  pub unknown-applied : Misses Unit (get_or bytes at 0) kinds → AppliedAt bytes at cap d l l' given
-  unknown-applied m = record { by_kind = λ x e. absurd (let z : ◌≡◌ {A = ℕ} 0 1 = cc (unknown (get_or bytes at 0) m) in omega arith) }

@@ -13,6 +13,7 @@ ghost use Rattle.apply.specs.Asked.{Whole, AppliedAt};
 
 use answer::Refusal;
 use free::map::FreeMap;
+use kinds::kind::Kind;
 use kinds::{number_at, value_at};
 use refusals::one_row::{sentence_at, set_at};
 use refusals::requests::{
@@ -122,12 +123,11 @@ pub fn request(
     requires { Standing cap d t.old v.old c.old × Maps map.old (free_at t.old) × Whole tape.now at }
     ensures { AppliedAt tape.now at cap d (lists t.old v.old c.old) (lists t.new v.new c.new) (refusal_of result) × Maps map.new (free_at t.new) }
 {
-    match tape[at] {
-        1 => refine(t, v, c, cap, map, d, number_at(tape, at)),
-        2 => sentence(t, v, c, cap, d, number_at(tape, at)),
-        3 => remove(t, v, c, cap, map, d, number_at(tape, at)),
-        4 => kill(t, v, c, cap, map, d, number_at(tape, at)),
-        5 => set_value(t, v, c, cap, d, number_at(tape, at), value_at(tape, at)),
-        _ => Err(Refusal::UnknownKind),
+    match Kind::try_from(tape[at])? {
+        Kind::Refine => refine(t, v, c, cap, map, d, number_at(tape, at)),
+        Kind::Sentence => sentence(t, v, c, cap, d, number_at(tape, at)),
+        Kind::Remove => remove(t, v, c, cap, map, d, number_at(tape, at)),
+        Kind::Kill => kill(t, v, c, cap, map, d, number_at(tape, at)),
+        Kind::SetValue => set_value(t, v, c, cap, d, number_at(tape, at), value_at(tape, at)),
     }
 }

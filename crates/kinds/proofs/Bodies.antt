@@ -2,7 +2,7 @@
 -- Assumes nothing.
 use Prim.Native.Nat.{ℕ, zero, suc, ◌+◌, ◌≤◌}
 use native.Mathlib.Omega.{arith}
-use mathlib.Core.Path.{◌≡◌, refl, sym, ap}
+use mathlib.Core.Path.{◌≡◌, refl, sym, ap, ◌∙◌}
 use mathlib.Core.Logic.{◌≢◌}
 use mathlib.Core.Option.{none}
 use mathlib.Core.List.{List, [], ◌∷◌}
@@ -11,7 +11,10 @@ use lib.ListN.{take, drop}
 use lib.Seq.{take-take, drop-drop}
 use borrow.Author.Tests.{ne_eqb}
 use Rattle.mesh.specs.Tools.{find}
-use Rattle.mesh.specs.Tape.{high_first, field, Kind, kinds, kind}
+use Rattle.mesh.specs.Tape as Tape
+use Rattle.mesh.specs.Tape.{high_first, field, kinds, kind}
+use Rattle.kinds.specs.declared.kind.Kind.{Kind}
+use Rattle.kinds.specs.BodyLengths.{byte_of}
 
 -- ---- a field of a body
 
@@ -31,14 +34,19 @@ field-behind bytes at from size = let e : at + 1 + from ≡ at + (1 + from) = om
 -- ---- a byte that no row has
 
 -- the byte is none of theirs: what a `match` with an arm for each knows in its last arm
-abbrev pub Misses : Type 0 → ℕ → List Kind → Type 0
+abbrev pub Misses : Type 0 → ℕ → List Tape.Kind → Type 0
 Misses P b [] = P
 Misses P b (x ∷ xs) = Misses (P × (b ≢ x.byte)) b xs
 
-missed : {P : Type 0} (b : ℕ) (xs : List Kind) → Misses P b xs → P × (find (λ x. eqb x.byte b) xs ≡ none)
+missed : {P : Type 0} (b : ℕ) (xs : List Tape.Kind) → Misses P b xs → P × (find (λ x. eqb x.byte b) xs ≡ none)
 missed b [] m = (m, refl)
 missed b (x ∷ xs) m = let ((p, z), e) = missed b xs m in (p, rw (ne_eqb x.byte b (λ i. z (sym i))) e)
 
 pub unknown : (b : ℕ) → Misses Unit b kinds → kind b ≡ none
 unfolding kind
 unknown b m = (missed b kinds m).1
+
+-- ---- a byte that announces a kind
+
+pub announced : {k x : Kind} {b : ℕ} → byte_of k ≡ b → k ≡ x → kind b ≡ kind (byte_of x)
+announced e i = ap kind (sym e ∙ ap byte_of i)

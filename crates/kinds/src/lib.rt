@@ -1,27 +1,20 @@
-// The bytes of a request: the body that its kind byte announces, and the numbers and values in it.
+// The bytes of a request: the kind that its first byte announces, and the numbers and values in its body.
 #![tactic(auto)]
+
+pub mod kind;
 
 ghost use Rattle.std.specs.Prelude.{◌≡◌, ◌+◌, ◌≤◌, ◌<◌, length, drop};
 ghost use Rattle.mesh.specs.Tape.{field, number_in};
-ghost use Rattle.kinds.specs.BodyLengths.{length_in, body_length, StandsFor};
-
-// A byte as a number of 64 bits.
-fn wide(b: u8) -> u64
-    ensures { (result ≡ b) × (result < 256) }
-{
-    b as u64
-}
+ghost use Rattle.kinds.specs.BodyLengths.{StandsFor};
 
 // The number that k bytes from `at` on are, high byte first.
 pub fn high_first(s: &[u8], at: usize, k: usize) -> u64
     requires { (at + k ≤ length s.now) × (k ≤ 8) }
     ensures { result ≡ field at k s.now }
 {
-    let mut n: u64 = 0;
-    let mut i = 0;
-    while i < k {
-        n = 256 * n + wide(s[at + i]);
-        i += 1;
+    let mut n = 0;
+    for byte in &s[at..at + k] {
+        n = 256 * n + u64::from(*byte);
     }
     n
 }
@@ -50,25 +43,4 @@ pub fn value_at(tape: &[u8], at: usize) -> f64
     ensures { StandsFor (field 2 8 (drop (at + 1) tape.now)) result }
 {
     value_of(high_first(tape, at + 3, 8))
-}
-
-// The body that a kind byte announces: so many bytes, and none of an unknown kind.
-#[derive(Clone, Copy)]
-pub enum Body {
-    Bytes(usize),
-    Unknown,
-}
-
-// The body by the kind byte.
-pub fn body_of(k: u8) -> Body
-    ensures { length_in result ≡ body_length k }
-{
-    match k {
-        1 => Body::Bytes(2),
-        2 => Body::Bytes(2),
-        3 => Body::Bytes(2),
-        4 => Body::Bytes(2),
-        5 => Body::Bytes(10),
-        _ => Body::Unknown,
-    }
 }

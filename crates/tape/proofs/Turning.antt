@@ -9,7 +9,7 @@ use native.Mathlib.Omega.{arith}
 use native.Mathlib.Numerals.{add-one}
 use mathlib.Core.Path.{◌≡◌, refl, sym, ap, ◌∙◌}
 use mathlib.Core.Logic.{◌≢◌}
-use mathlib.Core.Option.{none, some, map-eq-none_iff, map-eq-some_iff}
+use mathlib.Core.Option.{none, some, map-eq-some_iff}
 use mathlib.Core.List.{List, [], ◌∷◌}
 use lib.ListN.{length, drop, get_or, length-drop}
 use lib.Seq.{drop-cons, drop-drop}
@@ -43,10 +43,6 @@ row_of : (k len : ℕ) → some len ≡ body_length k → RowOf k len
 unfolding body_length
 row_of k len e = let (x, a, b) = (map-eq-some_iff (λ (x : Kind). x.len) (kind k)).0 (sym e) in record { its = x; is-kind = a; is-length = b }
 
-no_row : (k : ℕ) → none ≡ body_length k → kind k ≡ none
-unfolding body_length
-no_row k e = (map-eq-none_iff (λ (x : Kind). x.len) (kind k)).0 (sym e)
-
 -- ---- a run over a body
 
 run-body : (l : ℕ) (s : State) (n o : ℕ) (bs : List ℕ) → l ≤ length bs → run_from l s n o bs ≡ run_from 0 s n (o + l) (drop l bs)
@@ -78,8 +74,8 @@ module _ (bytes : List ℕ) (at k : ℕ) (inside : at < length bytes) (is : k �
       further = λ e. absurd (z e);
     }
 
-    pub turned-unknown : none ≡ body_length k → Turned bytes at cap d l l 5 at
-    turned-unknown e = turned-stop 5 (λ x. omega arith) (λ s. rw (no_row k e))
+    pub turned-unknown : kind k ≡ none → Turned bytes at cap d l l 5 at
+    turned-unknown e = turned-stop 5 (λ x. omega arith) (λ s. rw e)
 
     pub turned-short : {len : ℕ} → some len ≡ body_length k → length bytes - at ≤ len → Turned bytes at cap d l l 4 at
     turned-short {len} e few-left =

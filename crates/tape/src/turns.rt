@@ -10,7 +10,7 @@ use answer::{Refusal, refuse_if};
 use apply::request;
 use free::map::FreeMap;
 use header::next_mark;
-use kinds::{Body, body_of};
+use kinds::kind::Kind;
 
 // The request whose kind byte stands at `at`; the offset of the next kind byte.
 fn turn_at(
@@ -26,9 +26,7 @@ fn turn_at(
     requires { Standing cap d t.old v.old c.old × Maps map.old (free_at t.old) × (at < length tape.now) }
     ensures { Turned tape.now at cap d (lists t.old v.old c.old) (lists t.new v.new c.new) (refusal_of result) (value_or at result) × Maps map.new (free_at t.new) }
 {
-    let Body::Bytes(len) = body_of(tape[at]) else {
-        return Err(Refusal::UnknownKind);
-    };
+    let len = Kind::try_from(tape[at])?.body_length();
     refuse_if(tape.len() - at <= len, Refusal::CutOff)?;
     request(t, v, c, cap, map, d, tape, at)?;
     Ok(at + 1 + len)
