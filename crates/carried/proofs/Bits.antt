@@ -10,6 +10,7 @@ use lib.IntN.{ℤ, pos, negsuc}
 use lib.Ieee.{Float, nan, inf, fin, binary64, fits, is_nan, odd, of_fields, of_bits, to_bits, hid, prec, low, eq, ne}
 use lib.Ieee.Bits.{of_bits-to_bits}
 use lib.Ieee.Compare.{differs_from_itself}
+use Rattle.std.specs.Float.{float_is_finite}
 use Rattle.mesh.specs.State.{plus_zero}
 use Rattle.mesh.specs.Valid.{finite}
 use Rattle.mesh.specs.Test.{same_int, same_float}
@@ -53,9 +54,13 @@ pattern w = go (finite_bits w) refl
     go true e = sym (fields-finite _ _ _ (field_below w (ltb-true _ _ e)))
     go false e = sym (fields-other _ _ _ (field-ones w (ltb-false _ _ e)))
 
--- a float's bits are a finite pattern exactly where it is finite
-pub bits-finite : (x : Float) → T (fits binary64 x) → finite_bits (to_bits binary64 x) ≡ finite x
-bits-finite x f = pattern (to_bits binary64 x) ∙ ap finite (of_bits-to_bits binary64 x f)
+-- ---- finite floats
+
+pub finite-is : (x : Float) → float_is_finite x ≡ finite x
+unfolding float_is_finite
+finite-is nan = refl
+finite-is (inf s) = refl
+finite-is (fin s m e) = refl
 
 -- ---- NaN
 

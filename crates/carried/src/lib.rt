@@ -10,6 +10,13 @@ ghost use Rattle.carried.specs.Carried.{carried_of, nothing, measured_as, passed
 use crate::values::{is_plus_zero, put_value, same_bits, value};
 use table::words::{ROW_WORDS, STATUS, raw};
 
+// The three statuses, by the numbers that stand in a row.
+const BLANK: i32 = 0;
+
+const MEASURED: i32 = 1;
+
+const CARRIED_DOWN: i32 = 2;
+
 // The status is the word as it stands: a table that is checked may say any.
 #[derive(Clone, Copy)]
 pub struct Carried {
@@ -31,8 +38,7 @@ pub fn put_carried(t: &mut [i32], v: &mut [f64], n: usize, c: Carried)
     requires { (n * row_words + row_words ≤ length t.old) × (n < length v.old) }
     ensures { (t.new ≡ put_status t.old n c) × (v.new ≡ put_amount v.old n c) }
 {
-    let status = c.status;
-    t[n * ROW_WORDS + STATUS] = status;
+    t[n * ROW_WORDS + STATUS] = c.status;
     put_value(v, n, c.value);
 }
 
@@ -41,7 +47,7 @@ pub fn blank() -> Carried
     ensures { result ≡ nothing }
 {
     Carried {
-        status: 0,
+        status: BLANK,
         value: 0.0,
     }
 }
@@ -51,7 +57,7 @@ pub fn measured(x: f64) -> Carried
     ensures { result ≡ measured_as x }
 {
     Carried {
-        status: 1,
+        status: MEASURED,
         value: x,
     }
 }
@@ -67,19 +73,19 @@ pub fn status(c: Carried) -> u32
 pub fn is_blank(c: Carried) -> bool
     ensures { result ≡ is_blank c }
 {
-    c.status == 0
+    c.status == BLANK
 }
 
 pub fn is_measured(c: Carried) -> bool
     ensures { result ≡ is_measured c }
 {
-    c.status == 1
+    c.status == MEASURED
 }
 
 pub fn is_carried_down(c: Carried) -> bool
     ensures { result ≡ is_carried_down c }
 {
-    c.status == 2
+    c.status == CARRIED_DOWN
 }
 
 // What the kids of a refined cell carry: "kids of a blank cell are blank, otherwise carried".
@@ -90,7 +96,7 @@ pub fn passed_down(c: Carried) -> Carried
         return blank();
     }
     Carried {
-        status: 2,
+        status: CARRIED_DOWN,
         value: c.value,
     }
 }

@@ -16,11 +16,7 @@ pub fn value(v: &[f64], n: usize) -> f64
 pub fn is_finite(x: f64) -> bool
     ensures { result ≡ finite x }
 {
-    if x == x {
-        let w = f64::to_bits(x);
-        return w % 0x8000_0000_0000_0000 < 0x7ff0_0000_0000_0000;
-    }
-    false
+    x.is_finite()
 }
 
 // Whether x and y are finite and have the same bits.
@@ -33,7 +29,7 @@ pub fn same_bits(x: f64, y: f64) -> bool
     if !is_finite(y) {
         return false;
     }
-    f64::to_bits(x) == f64::to_bits(y)
+    x.to_bits() == y.to_bits()
 }
 
 // Whether x has the bits of +0.
