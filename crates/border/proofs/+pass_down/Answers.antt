@@ -1,8 +1,8 @@
 -- `border::pass_down` meets its contract.
-use Rattle.std.proofs.Common.{arith, refl, sym, ◌∙◌, ◌-◌}
+use Rattle.std.proofs.Common.{arith, sym, ◌∙◌, ◌-◌}
 use Rattle.place_laws.proofs.Bools.{neither}
 use Rattle.edit_laws.specs.Tables.{each_down}
-use Rattle.border.proofs.Borders.{word_in, kid-more, kid-last, down-last, down-nil, down-on, bare-nil, quiet-first, quiet-more, quiet-last, not-met}
+use Rattle.border.proofs.Borders.{word_in, kid-more, kid-last, down-last, down-nil, down-on, bare-nil, quiet-more, quiet-last, not-met}
 use Rattle.border.proofs.+pass_down.Goals as goal
 
 pub returns-then-n-eq0 : goal.returns-then-n-eq0
@@ -16,9 +16,6 @@ pub returns-then-e-eq0 : goal.returns-then-e-eq0
 returns-then-e-eq0 g t c =
     let a = c.args in
     (down-last (g.P.Pass.step a.pass a.cap) a.cap a.ws.now a.t.now a.n a.e c.if-e-eq0.true c.row.ensures.0, c.row.ensures.1, λ z. not-met z)
-
-pub loop-w-init : goal.loop-w-init
-loop-w-init g t c = record { plain = c.requires.0; left = refl; quiet = λ z. quiet-first _ _ _ _ _ }
 
 pub link-k-requires : goal.link-k-requires
 link-k-requires g t c = (c.loop-w.invariant.plain, omega arith, word_in c.args.ws.now c.requires.2 c.loop-w.w-index c.loop-w-test.true)

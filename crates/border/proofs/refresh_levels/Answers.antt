@@ -1,13 +1,7 @@
 -- `border::refresh_levels` meets its contract.
-use Rattle.std.proofs.Common.{arith, refl, sym, ◌∙◌}
+use Rattle.std.proofs.Common.{arith, sym, ◌∙◌}
 use Rattle.border.proofs.Borders.{levels-on, levels-done, levels-end}
 use Rattle.border.proofs.refresh_levels.Goals as goal
-
-pub loop-e-init : goal.loop-e-init
-loop-e-init c = record { left = refl; plain = c.requires.0 }
-
-pub refresh_level-requires : goal.refresh_level-requires
-refresh_level-requires c = (c.loop-e.invariant.plain, omega arith, c.requires.2)
 
 pub returns-then-not-refresh_level : goal.returns-then-not-refresh_level
 returns-then-not-refresh_level c =

@@ -1,13 +1,7 @@
 -- `build::ground::pass_rows` meets its contract.
-use Rattle.std.proofs.Common.{arith, refl, sym, ◌∙◌}
+use Rattle.std.proofs.Common.{arith, sym, ◌∙◌}
 use Rattle.build.proofs.RowTurns.{rows_on, rows-done}
 use Rattle.build.proofs.ground.pass_rows.Goals as goal
-
-pub loop-n-init : goal.loop-n-init
-loop-n-init g c = record { left = refl; plain = c.requires.0 }
-
-pub row-requires : goal.row-requires
-row-requires g c = (c.loop-n.invariant.plain, omega arith)
 
 pub loop-n-preserved : goal.loop-n-preserved
 loop-n-preserved g c =

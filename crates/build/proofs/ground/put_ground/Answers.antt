@@ -1,10 +1,7 @@
 -- `build::ground::put_ground` meets its contract.
-use Rattle.std.proofs.Common.{arith, refl, sym, ◌∙◌}
+use Rattle.std.proofs.Common.{arith, sym, ◌∙◌}
 use Rattle.build.proofs.RowTurns.{rows_on, rows-done}
 use Rattle.build.proofs.ground.put_ground.Goals as goal
-
-pub loop-n-init : goal.loop-n-init
-loop-n-init c = refl
 
 pub loop-n-preserved : goal.loop-n-preserved
 loop-n-preserved c =

@@ -1,12 +1,9 @@
 -- `build::grow::grow_level` meets its contract.
-use Rattle.std.proofs.Common.{rules, arith, refl, sym, ◌∙◌}
+use Rattle.std.proofs.Common.{rules, arith, sym, ◌∙◌}
 use Rattle.build.specs.BuildSteps.{growth}
 use Rattle.build.proofs.RowTurns.{rows_on, rows-done}
 use Rattle.build.proofs.Growths.{row-kids, row-rest}
 use Rattle.build.proofs.grow.grow_level.Goals as goal
-
-pub loop-q-init : goal.loop-q-init
-loop-q-init c = record { left = refl; room = c.requires.3 }
 
 pub grow_kids-k-requires : goal.grow_kids-k-requires
 grow_kids-k-requires c =

@@ -1,12 +1,9 @@
 -- `build::grow::grow_levels` meets its contract.
-use Rattle.std.proofs.Common.{rules, arith, refl, ◌∙◌}
+use Rattle.std.proofs.Common.{rules, arith, ◌∙◌}
 use Rattle.edit_laws.proofs.Sprouts.{levels-bounds}
 use Rattle.build.specs.BuildSteps.{growth}
 use Rattle.build.proofs.Growths.{next_level, levels-on, ground-on, levels-left, reached}
 use Rattle.build.proofs.grow.grow_levels.Goals as goal
-
-pub loop-up-init : goal.loop-up-init
-loop-up-init c = record { left = refl; from = refl; room = c.requires.1 }
 
 pub grow_level-next-requires : goal.grow_level-next-requires
 grow_level-next-requires c =

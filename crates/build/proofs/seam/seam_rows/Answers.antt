@@ -1,16 +1,7 @@
 -- `build::seam::seam_rows` meets its contract.
-use Rattle.std.proofs.Common.{arith, refl, sym, ◌∙◌}
+use Rattle.std.proofs.Common.{arith, sym, ◌∙◌}
 use Rattle.build.proofs.RowTurns.{rows_on, rows-done}
 use Rattle.build.proofs.seam.seam_rows.Goals as goal
-
-pub returns-then-not-is_ring : goal.returns-then-not-is_ring
-returns-then-not-is_ring c = rw (sym c.is_ring.ensures ∙ c.if-not-is_ring.true)
-
-pub loop-n-init : goal.loop-n-init
-loop-n-init c = record { left = refl; plain = c.requires.0 }
-
-pub seam_row-requires : goal.seam_row-requires
-seam_row-requires c = (c.loop-n.invariant.plain, omega arith, omega arith, omega arith, omega arith)
 
 pub loop-n-preserved : goal.loop-n-preserved
 loop-n-preserved c =
