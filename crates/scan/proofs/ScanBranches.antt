@@ -9,7 +9,7 @@ use mathlib.Core.List.{List, [], ◌∷◌, ◌++◌}
 use lib.Dec.{T, leb, leb→le}
 use lib.ListN.{length}
 use lib.IntN.{ℤ, ◌-ℤ◌, nat_abs}
-use lib.Signed.{le_z, lt_z}
+use lib.Signed.{lt_z}
 use borrow.Author.Tests.{lt-ltb, le-ltb, leb-true, leb-false, not-false}
 use Rattle.mesh.specs.Tools.{all}
 use Rattle.mesh.specs.Refusal.{Check, refusal}
@@ -24,11 +24,10 @@ use Rattle.listing.specs.ListedRows.{scans}
 use Rattle.scan.specs.ScanRows.{level_of, start_checks, row_scan, row_scan_out}
 use Rattle.listing.specs.Written.{WroteWhatFits}
 use Rattle.scan.proofs.OrderWords.{permutation-words}
-use Rattle.scan.proofs.LevelsBetween.{not-below, level-trans}
 use Rattle.listing.proofs.Writing.{wrote-whole}
 
 -- what a scan that is not refused by 6 or 17 has
-pub record Open (t : List ℤ) (cap n : ℕ) (o : List ℕ) (k : ℕ) (to : ℤ) : Type 0 where
+pub record Open (t : List ℤ) (cap n : ℕ) (o : List ℕ) (k : ℕ) : Type 0 where
   pub used : taken t cap n ≡ true
   pub order : T (permutation o)
   pub first : 1 ≤ n
@@ -36,7 +35,6 @@ pub record Open (t : List ℤ) (cap n : ℕ) (o : List ℕ) (k : ℕ) (to : ℤ)
   pub words : T (all kids_word o)
   pub least : 1 ≤ k
   pub most : k ≤ 6
-  pub low : T (le_z (level_of t n) to)
 
 module _ (t : List ℤ) (cap n : ℕ) (o : List ℕ) (k : ℕ) (from to : ℤ) where
   abbrev start : List Check
@@ -58,11 +56,10 @@ module _ (t : List ℤ) (cap n : ℕ) (o : List ℕ) (k : ℕ) (from to : ℤ) w
         let (y, _) = passes 17 _ _ (λ z. omega arith) h in
         (not-false (taken t cap n) x, y)
 
-    pub opened : Open t cap n o k to
+    pub opened : Open t cap n o k
     opened =
         let (p, h) = neither (not (permutation o)) _ passed.1 in
         let (q, h') = neither (not (leb 1 k && leb k 6)) _ h in
-        let (u, w) = neither (lt_z from (level_of t n)) (lt_z to from) h' in
         let order = is-yes (permutation o) (not-false (permutation o) p) in
         let known = is-yes (leb 1 k && leb k 6) (not-false (leb 1 k && leb k 6) q) in
         record {
@@ -73,7 +70,6 @@ module _ (t : List ℤ) (cap n : ℕ) (o : List ℕ) (k : ℕ) (from to : ℤ) w
           words = permutation-words o order;
           least = leb→le 1 k (and_left (leb 1 k) (leb k 6) known);
           most = leb→le k 6 (and_right (leb 1 k) (leb k 6) known);
-          low = level-trans (level_of t n) from to (not-below from (level_of t n) u) (not-below to from w);
         }
 
   module _ (d : ℕ) (out : List ℕ) where

@@ -1,8 +1,7 @@
 // Scan as a call that passed the first checks: refused by a number, or the numbers written.
 #![tactic(auto)]
 
-ghost use Rattle.std.specs.Prelude.{◌≡◌, ◌+◌, ◌≤◌, T, eqb, leb, length, ◌-ℤ◌, nat_abs};
-ghost use Rattle.std.specs.Int.Signed.{le_z};
+ghost use Rattle.std.specs.Prelude.{◌≡◌, ◌+◌, ◌≤◌, T, eqb, leb, length};
 ghost use Rattle.mesh.specs.Tools.{any, all};
 ghost use Rattle.mesh.specs.Refusal.{refusal};
 ghost use Rattle.mesh.specs.Scan.{permutation};
@@ -17,7 +16,7 @@ ghost use Rattle.walk.specs.Walkable.{Walkable};
 use answer::{Refusal, refuse_if};
 use listing::kinds::Kind;
 use listing::scans::Scan;
-use table::words::{LEVEL, coded, is_taken, raw};
+use table::words::{LEVEL, is_taken, raw};
 
 // The order as four bytes; a list of another length is no permutation, and neither are four zeros.
 pub fn four(order: &[u8]) -> [u8; 4]
@@ -41,22 +40,6 @@ fn is_order(order: [u8; 4]) -> bool
     ensures { result ≡ permutation order }
 {
     names(order, 1) & (names(order, 2) & (names(order, 3) & names(order, 4)))
-}
-
-// How many levels lie from a level to one that is not below it.
-fn levels(level: i32, to: i32) -> u32
-    requires { T (le_z level to) }
-    ensures { result ≡ nat_abs (to -ℤ level) }
-{
-    let a = coded(level);
-    let b = coded(to);
-    if a < 2147483648 {
-        return b - a;
-    }
-    if b < 2147483648 {
-        return b + (a - 2147483648) + 1;
-    }
-    a - b
 }
 
 // The refusals of a scan that its length has no part in.
@@ -106,7 +89,7 @@ pub fn scan_out(
 {
     let n = start as usize;
     scan_refusal(t, cap, n, order, kind, from, to)?;
-    let left = levels(raw(t, n, LEVEL), to);
+    let left = to.abs_diff(raw(t, n, LEVEL));
     let kind = Kind::of(kind).unwrap();
     let scan = Scan {
         t,

@@ -21,7 +21,6 @@ use Rattle.scan.specs.ScanRows.{level_of, start_checks, row_scan}
 use Rattle.walk.specs.WalkRows.{row_walk}
 use Rattle.scan.proofs.ScanBranches.{Open, same-checks, opened, refused-scan, short-scan, whole-scan, scan-rows-are}
 use Rattle.listing.proofs.Writing.{wrote_as}
-use Rattle.scan.proofs.LevelsBetween.{level-as}
 use Rattle.std.proofs.Common.{rules, Err}
 use Rattle.std.proofs.lemmas.Bool.{not-true, not-false}
 use Rattle.answer.specs.declared.Refusal.{Refusal}
@@ -44,11 +43,11 @@ module _ (t : List ℤ) (cap n : ℕ) (o : List ℕ) (k : ℕ) (from to : ℤ) w
   clear : SFits w32 from → SFits w32 to → {r : ℕ} → r ≡ refusal (start_checks t cap n o k (passed from) (passed to)) → r ≡ 0 → refusal (start_checks t cap n o k from to) ≡ 0
   clear f g e z = sym (checked f g e) ∙ z
 
-  open_at : SFits w32 from → SFits w32 to → {r : ℕ} → r ≡ refusal (start_checks t cap n o k (passed from) (passed to)) → r ≡ 0 → Open t cap n o k to
+  open_at : SFits w32 from → SFits w32 to → {r : ℕ} → r ≡ refusal (start_checks t cap n o k (passed from) (passed to)) → r ≡ 0 → Open t cap n o k
   open_at f g e z = opened t cap n o k from to (clear f g e z)
 
   -- the rows that are walked are those of the scan, and so is their count
-  walk_is : (d left : ℕ) (kind : Kind) → SFits w32 from → SFits w32 to → Open t cap n o k to → {known : Option Kind} → known ≡ kind_of k → known ≡ Some kind
+  walk_is : (d left : ℕ) (kind : Kind) → SFits w32 from → SFits w32 to → Open t cap n o k → {known : Option Kind} → known ≡ kind_of k → known ≡ Some kind
       → {level : ℤ} → SFits w32 level → level ≡ level_of t n → left ≡ nat_abs (passed to -ℤ passed level)
       → row_walk t cap (scans t cap d (passed from) (number_of kind)) o left n ≡ row_scan t cap d n o k from to
   walk_is d left kind f g h q p l e i =
@@ -70,12 +69,6 @@ raw-requires c =
     let o = open_at a.t.now a.cap a.start a.order a.kind a.from a.to c.ranges.from c.ranges.to c.in_ok-scan_refusal.ensures refl in
     omega (arith, o.within, c.requires.0.plain.sized.words)
 
-pub levels-left-requires : goal.levels-left-requires
-levels-left-requires c =
-    let a = c.args in
-    let o = open_at a.t.now a.cap a.start a.order a.kind a.from a.to c.ranges.from c.ranges.to c.in_ok-scan_refusal.ensures refl in
-    level-as (to_z-of_z {w = w32} (sfits_of c.raw.type_inv) ∙ c.raw.ensures) (to_z-of_z c.ranges.to) o.low
-
 pub unwrap-kind-requires : goal.unwrap-kind-requires
 unwrap-kind-requires c =
     let a = c.args in
@@ -94,7 +87,7 @@ has_room-requires c =
     let f = c.ranges in
     let z = clear a.t.now a.cap a.start a.order a.kind a.from a.to f.from f.to c.in_ok-scan_refusal.ensures refl in
     let o = opened a.t.now a.cap a.start a.order a.kind a.from a.to z in
-    let w = walk_is a.t.now a.cap a.start a.order a.kind a.from a.to a.d c.levels-left.result c.unwrap-kind.result f.from f.to o c.of.ensures c.unwrap-kind.ensures (sfits_of {w = w32} c.raw.type_inv) c.raw.ensures c.levels-left.ensures in
+    let w = walk_is a.t.now a.cap a.start a.order a.kind a.from a.to a.d c.abs_diff-left.result c.unwrap-kind.result f.from f.to o c.of.ensures c.unwrap-kind.ensures (sfits_of {w = w32} c.raw.type_inv) c.raw.ensures c.abs_diff-left.ensures in
     (o.within, o.first, omega (arith, c.requires.1 z, ap length w))
 
 pub returns-in_err-refuse_if : goal.returns-in_err-refuse_if
@@ -103,7 +96,7 @@ returns-in_err-refuse_if c =
     let f = c.ranges in
     let z = clear a.t.now a.cap a.start a.order a.kind a.from a.to f.from f.to c.in_ok-scan_refusal.ensures refl in
     let o = opened a.t.now a.cap a.start a.order a.kind a.from a.to z in
-    let w = walk_is a.t.now a.cap a.start a.order a.kind a.from a.to a.d c.levels-left.result c.unwrap-kind.result f.from f.to o c.of.ensures c.unwrap-kind.ensures (sfits_of {w = w32} c.raw.type_inv) c.raw.ensures c.levels-left.ensures in
+    let w = walk_is a.t.now a.cap a.start a.order a.kind a.from a.to a.d c.abs_diff-left.result c.unwrap-kind.result f.from f.to o c.of.ensures c.unwrap-kind.ensures (sfits_of {w = w32} c.raw.type_inv) c.raw.ensures c.abs_diff-left.ensures in
     let room = c.has_room.ensures ∙ ap (λ (xs : List ℕ). leb (length xs) (length a.out.now)) w in
     let (short, same) = refuses _ TooShort c.in_err-refuse_if.ensures in
     let r : wrote_of c.from_residual-in_err-refuse_if.result a.out.now ≡ wrote_of (Err c.in_err-refuse_if.field-0.0) a.out.now = search rules in
@@ -121,6 +114,6 @@ returns c =
     let f = c.ranges in
     let z = clear a.t.now a.cap a.start a.order a.kind a.from a.to f.from f.to c.in_ok-scan_refusal.ensures refl in
     let o = opened a.t.now a.cap a.start a.order a.kind a.from a.to z in
-    let w = walk_is a.t.now a.cap a.start a.order a.kind a.from a.to a.d c.levels-left.result c.unwrap-kind.result f.from f.to o c.of.ensures c.unwrap-kind.ensures (sfits_of {w = w32} c.raw.type_inv) c.raw.ensures c.levels-left.ensures in
+    let w = walk_is a.t.now a.cap a.start a.order a.kind a.from a.to a.d c.abs_diff-left.result c.unwrap-kind.result f.from f.to o c.of.ensures c.unwrap-kind.ensures (sfits_of {w = w32} c.raw.type_inv) c.raw.ensures c.abs_diff-left.ensures in
     let room = c.has_room.ensures ∙ ap (λ (xs : List ℕ). leb (length xs) (length a.out.now)) w in
     whole-scan a.t.now a.cap a.start a.order a.kind a.from a.to a.d a.out.now z (sym room ∙ not-false _ (passes _ TooShort c.in_ok-refuse_if.ensures)) _ _ (wrote_as w c.write.ensures)
