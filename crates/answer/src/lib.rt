@@ -2,7 +2,7 @@
 #![tactic(auto)]
 
 ghost use Rattle.std.specs.Prelude.{◌≡◌, cond, Ok, Err};
-ghost use Rattle.answer.specs.Refusals.{number, refusal_of};
+ghost use Rattle.answer.specs.Refusals.{number, refusal_of, stop_of};
 
 /// What a call or a request is refused for, in the order of the numbers.
 #[derive(Clone, Copy, Debug, PartialEq, Eq, Hash)]
@@ -47,6 +47,16 @@ pub fn number_of<T: Drop>(answer: Result<T, Refusal>) -> u32
     match answer {
         Ok(_) => 0,
         Err(refusal) => u32::from(refusal),
+    }
+}
+
+/// The number of the refusal that something stopped at, 0 for none.
+pub fn stop_number(stop: Option<Refusal>) -> u32
+    ensures { result ≡ stop_of stop }
+{
+    match stop {
+        None => 0,
+        Some(refusal) => u32::from(refusal),
     }
 }
 

@@ -119,6 +119,14 @@ pub struct Leaf {
     pub reading: Reading,
 }
 
+impl Leaf {
+    // "number 0 and blank": what is told where none is found.
+    pub const NONE: Leaf = Leaf {
+        number: 0,
+        reading: Reading::Blank,
+    };
+}
+
 // The value that is carried, by its status.
 fn value_of(c: Carried) -> Reading
     ensures { value_of_reading result ≡ value_carried c }
