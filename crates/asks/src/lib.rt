@@ -44,11 +44,7 @@ fn lacks(t: &[i32], cap: usize, n: usize, w: usize) -> usize
     requires { Plain t.now cap × (n ≤ cap) × (w < 9) }
     ensures { (result ≤ 1) × (result ≡ cond (eqb (link_of t.now cap n w) 0) 1 0) }
 {
-    if table::plain::link(t, cap, n, w) == 0 {
-        1
-    } else {
-        0
-    }
+    usize::from(table::plain::link(t, cap, n, w) == 0)
 }
 
 // How many of the nine patches that a refinement of the cell n wants are missing.

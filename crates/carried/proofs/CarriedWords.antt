@@ -1,16 +1,14 @@
 -- What a row carries, by its word and its value.
 -- Assumes nothing.
-use Prim.Native.Nat.{ℕ, ◌≤◌}
-use native.Mathlib.Omega.{arith}
+use Prim.Native.Nat.{ℕ}
 use mathlib.Core.Path.{◌≡◌, refl}
 use mathlib.Core.List.{List}
 use lib.ListN.{get_or}
-use lib.IntN.{ℤ, pos, negsuc}
+use lib.IntN.{ℤ}
 use lib.Ieee.{Float}
 use Rattle.mesh.specs.State.{plus_zero}
 use Rattle.mesh.specs.Picture.{status_word}
-use Rattle.table.specs.Words.{code, word_of}
-use Rattle.table.proofs.Signed.{Plus}
+use Rattle.table.specs.Words.{word_of}
 use Rattle.carried.specs.Carried.{carried_of, status_of}
 
 module _ (t : List ℤ) (v : List Float) (n : ℕ) where
@@ -21,8 +19,3 @@ module _ (t : List ℤ) (v : List Float) (n : ℕ) where
   pub value-listed : get_or v n plus_zero ≡ (carried_of t v n).value
   unfolding carried_of
   value-listed = refl
-
--- a status that is one of the three has no sign
-pub no_sign : (z : ℤ) → code z ≤ 2 → Plus z
-no_sign (pos n) h = record { size = n; is = refl; small = omega arith }
-no_sign (negsuc n) h = absurd (omega arith)

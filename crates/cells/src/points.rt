@@ -88,10 +88,7 @@ fn sentence_if(t: &[i32], cap: usize, d: u32, n: usize, sentenced: bool) -> bool
     requires { Readable t.now cap × Levelled t.now cap d × (n ≤ cap) }
     ensures { result ≡ (not sentenced || sentence_ok t.now cap d n) }
 {
-    if sentenced {
-        return sentence_ok(t, cap, d, n);
-    }
-    true
+    !sentenced || sentence_ok(t, cap, d, n)
 }
 
 // A row from level 0 up.

@@ -34,19 +34,6 @@ use Rattle.readable.proofs.CountingUp.{below_all}
 
 -- ---- one row
 
-pub links-are : (t : List ℤ) (cap n : ℕ) {b0 b1 b2 b3 b4 b5 b6 b7 b8 : Bool} →
-    b0 ≡ eqb (word_of t n parent_word) (link_of t cap n parent_word) →
-    b1 ≡ eqb (word_of t n ne_word) (link_of t cap n ne_word) →
-    b2 ≡ eqb (word_of t n se_word) (link_of t cap n se_word) →
-    b3 ≡ eqb (word_of t n sw_word) (link_of t cap n sw_word) →
-    b4 ≡ eqb (word_of t n nw_word) (link_of t cap n nw_word) →
-    b5 ≡ eqb (word_of t n north_word) (link_of t cap n north_word) →
-    b6 ≡ eqb (word_of t n east_word) (link_of t cap n east_word) →
-    b7 ≡ eqb (word_of t n south_word) (link_of t cap n south_word) →
-    b8 ≡ eqb (word_of t n west_word) (link_of t cap n west_word) →
-    (b0 && b1 && b2 && b3 && b4 && b5 && b6 && b7 && b8) ≡ linked t cap n
-links-are t cap n e0 e1 e2 e3 e4 e5 e6 e7 e8 = rw (e0, e1, e2, e3, e4, e5, e6, e7, e8)
-
 module _ (t : List ℤ) (cap : ℕ) where
   abbrev Names : ℕ → ℕ → Type 0
   Names n w = eqb (word_of t n w) (link_of t cap n w) ≡ true

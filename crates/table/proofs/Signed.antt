@@ -1,65 +1,24 @@
 -- A signed word and its code: each law goes by the two signs.
 -- Assumes nothing.
-use mathlib.Core.Path.{◌≡◌, refl, ap, sym, subst, ◌∙◌}
+use mathlib.Core.Path.{◌≡◌, refl, ap, sym, ◌∙◌}
 use mathlib.Core.Bool.{true, false, ◌&&◌, cond}
 use Prim.Native.Nat.{ℕ, suc, ◌+◌, ◌-◌, ◌<◌, ◌≤◌}
 use native.Mathlib.Omega.{arith}
-use lib.Dec.{T, eqb, leb}
-use borrow.Author.Tests.{leb-true, leb-false, lt-ltb, le-ltb, le-leb, lt-leb, ne_eqb}
-use lib.IntN.{ℤ, pos, negsuc, nat_abs, sub_ℕ, ◌+ℤ◌}
+use lib.Dec.{eqb, leb}
+use borrow.Author.Tests.{leb-true, lt-ltb, le-ltb, le-leb, lt-leb, ne_eqb}
+use lib.IntN.{ℤ, pos, negsuc, nat_abs, ◌+ℤ◌}
 use lib.Signed.{le_z}
 use mir.Syntax.{w32}
 use mir.Val.{SFits, to_z, of_z}
-use mir.Facts.{to_z-of_z, to_z_pos, to_z-neg}
+use mir.Facts.{to_z-of_z, to_z_pos}
 use Rattle.table.specs.Words.{code, depth_from}
 
--- ---- what the test `x >= 0` leaves, in each arm
+-- ---- a word without a sign
 
 pub record Plus (z : ℤ) : Type 0 where
   pub size : ℕ
   pub is : z ≡ pos size
   pub small : size < 2147483648
-
-pub record Minus (z : ℤ) : Type 0 where
-  pub size : ℕ
-  pub is : z ≡ negsuc size
-  pub small : size < 2147483648
-
-plus-of : (z : ℤ) → SFits w32 z → le_z (pos 0) z ≡ true → Plus z
-plus-of (pos n) f e = record { size = n; is = refl; small = f.sfits }
-plus-of (negsuc n) f e = absurd (subst T (sym e) tt)
-
-minus-of : (z : ℤ) → SFits w32 z → le_z (pos 0) z ≡ false → Minus z
-minus-of (pos n) f e = absurd (omega (arith, leb-false 0 n e))
-minus-of (negsuc n) f e = record { size = n; is = refl; small = f.sfits }
-
-pub plus : {z : ℤ} → SFits w32 z → le_z (pos 0) (to_z w32 (of_z w32 z)) ≡ true → Plus z
-plus {z} f e = plus-of z f (rw (to_z-of_z f) at e)
-
-pub minus : {z : ℤ} → SFits w32 z → le_z (pos 0) (to_z w32 (of_z w32 z)) ≡ false → Minus z
-minus {z} f e = minus-of z f (rw (to_z-of_z f) at e)
-
--- the bits of `!x` at a negative x
-pub flipped : {z : ℤ} (m : Minus z) → to_z w32 (4294967295 - of_z w32 z) ≡ pos m.size
-flipped {z} m =
-    let h : 4294967295 - (4294967296 - suc m.size) ≡ m.size = omega arith in
-    rw (m.is, h, to_z_pos w32 m.small)
-
-pub minus-code : {z : ℤ} (m : Minus z) → code z ≡ 2147483648 + m.size
-minus-code m = ap code m.is
-
--- ---- a difference as a signed word
-
-pub level-below : (a b : ℕ) → a < b → b < 2147483648 → to_z w32 (4294967295 - (b - 1 - a)) ≡ sub_ℕ a b
-level-below a b h k =
-    let e : 4294967295 - (b - 1 - a) ≡ 4294967296 - suc (b - suc a) = omega arith in
-    let l : b - suc a < 2147483648 = omega arith in
-    rw (e, lt-ltb a b h) (to_z-neg w32 (b - suc a) l)
-
-pub level-above : (a b : ℕ) → b ≤ a → a < 2147483648 → to_z w32 (a - b) ≡ sub_ℕ a b
-level-above a b h k =
-    let l : a - b < 2147483648 = omega arith in
-    rw (le-ltb a b h) (to_z_pos w32 l)
 
 -- ---- what is known of a word by comparisons of the signed word
 
