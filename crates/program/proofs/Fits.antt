@@ -13,8 +13,10 @@ use Rattle.mesh.specs.Call as Call
 use Rattle.mesh.specs.Call.{unless, over, wrote, writing}
 use Rattle.mesh.specs.Program.{head_checks, tape_page, program, program_call}
 use Rattle.call_laws.proofs.Rowed.{leaves-few}
-use Rattle.output.specs.declared.Wrote.{Wrote}
-use Rattle.output.specs.OutputLists.{wrote_of}
+use Rattle.std.specs.Prelude.{Result}
+use Rattle.answer.specs.declared.Refusal.{Refusal}
+use Rattle.answer.specs.Refusals.{value_or}
+use Rattle.answer.specs.OutputLists.{wrote_of}
 use Rattle.program.proofs.LineLengths.{refused-long, page-long}
 use Rattle.program.proofs.PrintedTape.{ran, ran-valid}
 
@@ -43,8 +45,8 @@ printed-count m xs out h = go (ltb (length out) (length xs))
     go true = omega arith
     go false = h
 
-module _ (r : Wrote) (input out exit : List ℕ) (called : wrote_of r exit ≡ program_call input out) where
-  pub count_fits : r.count ≤ 104000
+module _ (r : Result ℕ Refusal) (input out exit : List ℕ) (called : wrote_of r exit ≡ program_call input out) where
+  pub count_fits : value_or 0 r ≤ 104000
   unfolding program_call
   count_fits = omega (arith, ap (λ (w : Call.Wrote). w.count) called, printed-count 104000 (program input) out (program-fits input))
 

@@ -6,13 +6,14 @@ use mathlib.Core.Path.{◌≡◌}
 use mathlib.Core.List.{List}
 use contract.Lifetimes.{Lfts}
 use denote.Ref.{Bor, MutBor, at_last}
-use Rattle.output.specs.declared.Wrote.{Wrote}
+use Rattle.std.specs.Prelude.{Result}
+use Rattle.answer.specs.declared.Refusal.{Refusal}
 use Rattle.grid.proofs.Unique.{wrote-unique}
 use Rattle.program.proofs.print.Reads as print
 
 module _ (κs : Lfts 2) (input : Bor (List ℕ)) (out : MutBor (List ℕ)) where
-  abbrev PrintAllows : Wrote → List ℕ → Type 0
+  abbrev PrintAllows : Result ℕ Refusal → List ℕ → Type 0
   PrintAllows r xs = print.Post κs (input, (out, tt)) r (input, (at_last out xs, tt))
 
-  pub print-once : (r s : Wrote) (xs ys : List ℕ) → PrintAllows r xs → PrintAllows s ys → (r ≡ s) × (xs ≡ ys)
+  pub print-once : (r s : Result ℕ Refusal) (xs ys : List ℕ) → PrintAllows r xs → PrintAllows s ys → (r ≡ s) × (xs ≡ ys)
   print-once r s xs ys p q = wrote-unique r s xs ys p q

@@ -28,7 +28,9 @@ use Rattle.demand_laws.proofs.Prefixes.{run-offset}
 use Rattle.demand_laws.proofs.Refusals.{unless-accepted, unless-refused, unless-names}
 use Rattle.demand_laws.proofs.PicturedCalls.{tape-runs}
 use Rattle.call_laws.proofs.Called.{checks-after}
-use Rattle.grid.specs.declared.Built.{Built}
+use Rattle.std.specs.Prelude.{Result}
+use Rattle.answer.specs.declared.Refusal.{Refusal}
+use Rattle.answer.specs.Refusals.{refusal_of, stop_of}
 use Rattle.grid.specs.declared.Taped.{Taped}
 use Rattle.grid.specs.Calls.{taped_of, Builds, Tapes}
 use Rattle.input.proofs.Head.{head-sizes}
@@ -63,19 +65,19 @@ module _ (input : List ℕ) where
 
     -- ---- the build
 
-    module _ {l l₁ : Counted} {b : Built} (built-as : Builds l 1000 (grid_in input).columns (grid_in input).rows 0 l₁ b) (size : length l.lent.words ≡ row_words * 1001) (places : length l.lent.values ≡ 1001) (long : length l.counts ≡ count_places) where
+    module _ {l l₁ : Counted} {b : Result ℕ Refusal} (built-as : Builds l 1000 (grid_in input).columns (grid_in input).rows 0 l₁ b) (size : length l.lent.words ≡ row_words * 1001) (places : length l.lent.values ≡ 1001) (long : length l.counts ≡ count_places) where
       checks-same : refusal (build_checks 1000 l (grid_in input)) ≡ refusal (head_checks input)
       unfolding build_checks grid_checks refusal
       checks-same = rw (eq-eqb (length l.counts) count_places long) (sized 1000 l.lent (grid_checks input) (record { words = size; values = places; low = omega arith; high = omega arith }) ∙ sym after-head)
 
-      build-why : b.refusal ≡ refusal (head_checks input)
+      build-why : refusal_of b ≡ refusal (head_checks input)
       unfolding build_call
       build-why = ap (λ (r : Call.Built). r.refusal) built-as.is ∙ unless-names _ _ (λ (r : Call.Built). r.refusal) (λ n. refl) refl _ ∙ checks-same
 
-      pub build-refused : b.refusal ≢ 0 → refused_line b.refusal 0 ≡ program input
-      build-refused = refused b.refusal build-why
+      pub build-refused : refusal_of b ≢ 0 → refused_line (refusal_of b) 0 ≡ program input
+      build-refused = refused (refusal_of b) build-why
 
-      module _ (none : b.refusal ≡ 0) where
+      module _ (none : refusal_of b ≡ 0) where
         passed : refusal (head_checks input) ≡ 0
         passed = sym build-why ∙ none
 
@@ -99,7 +101,7 @@ module _ (input : List ℕ) where
               ∙ ap (λ (l : Counted). tape_call 1000 l (drop 3 input)) started-lent
               ∙ tape-runs (started input) v 1000 c (drop 3 input)
 
-          same-why : r.refusal ≡ (ran input).refusal
+          same-why : stop_of r.refusal ≡ (ran input).refusal
           same-why = ap (λ (x : Call.Taped). x.refusal) taped
 
           same-offset : r.offset ≡ (ran input).offset
@@ -108,11 +110,11 @@ module _ (input : List ℕ) where
           pub offset-low : r.offset ≤ 60000
           offset-low = omega (arith, same-offset, (run-offset (started input) (drop 3 input)).0, length-drop 3 input, (head-sizes input ok).1)
 
-          pub tape-refused : r.refusal ≢ 0 → refused_line r.refusal (3 + r.offset) ≡ program input
+          pub tape-refused : stop_of r.refusal ≢ 0 → refused_line (stop_of r.refusal) (3 + r.offset) ≡ program input
           unfolding tape_page
           tape-refused some = rw (same-why, same-offset) (sym (program-ran ∙ unless-refused _ _ (ran input).refusal (λ z. some (same-why ∙ z))))
 
-          pub tape-printed : r.refusal ≡ 0 → (out : List ℕ) {w : Call.Wrote} → w ≡ page_call 1000 l₂.lent out → w ≡ program_call input out
+          pub tape-printed : stop_of r.refusal ≡ 0 → (out : List ℕ) {w : Call.Wrote} → w ≡ page_call 1000 l₂.lent out → w ≡ program_call input out
           unfolding tape_page
           tape-printed calm out e =
               let (v, c) = ran-valid input passed in

@@ -8,13 +8,14 @@ ghost use Rattle.mesh.specs.Refusal.{refusal};
 ghost use Rattle.mesh.specs.Program.{refused_line, program_call, input_checks};
 ghost use Rattle.mesh.specs.Call.{writing};
 ghost use Rattle.lines.specs.Sheets.{HasRoom, PutOn};
-ghost use Rattle.output.specs.OutputLists.{wrote_of};
+ghost use Rattle.answer.specs.Refusals.{number};
+ghost use Rattle.answer.specs.OutputLists.{wrote_of};
 
+use answer::{Refusal, refuse_if};
 use header::{OPEN, fresh};
 use input::head_refusal;
 use lines::numerals::digits;
 use lines::sheets::Sheet;
-use output::Wrote;
 use table::words::ROW_WORDS;
 use tally::COUNT_PLACES;
 
@@ -38,23 +39,19 @@ fn put_refused(sheet: &mut Sheet, n: u32, o: u32)
 }
 
 // Writes that line, if the output is long enough.
-fn write_refused(out: &mut [u8], n: u32, o: usize) -> Wrote
+fn write_refused(out: &mut [u8], refusal: Refusal, o: usize) -> Result<usize, Refusal>
     requires { o ≤ 60003 }
-    ensures { wrote_of result out.new ≡ writing (refused_line n o) out.old }
+    ensures { wrote_of result out.new ≡ writing (refused_line (number refusal) o) out.old }
 {
+    let n = u32::from(refusal);
     let offset = o as u32;
-    if out.len() < digits(n) + digits(offset) + 13 {
-        return Wrote {
-            refusal: 18,
-            count: 0,
-        };
-    }
+    refuse_if(
+        out.len() < digits(n) + digits(offset) + 13,
+        Refusal::TooShort,
+    )?;
     let mut sheet = Sheet { out, at: 0 };
     put_refused(&mut sheet, n, offset);
-    Wrote {
-        refusal: 0,
-        count: sheet.at,
-    }
+    Ok(sheet.at)
 }
 
 // Prints on a table, values and counts of their lengths, whose old contents do not matter.
@@ -64,32 +61,38 @@ fn print_on(
     values: &mut [f64],
     counts: &mut [u32],
     out: &mut [u8],
-) -> Wrote
+) -> Result<usize, Refusal>
     requires { (refusal (input_checks input.now) ≡ 0) × (length table.old ≡ row_words * 1001) × (length values.old ≡ 1001) × (length counts.old ≡ count_places) }
     ensures { wrote_of result out.new ≡ program_call input.now out.old }
 {
-    let header = fresh(0, 0, OPEN);
-    let columns = input[1] as u32;
-    let rows = input[2] as u32;
-    let b = grid::build_core(header, table, values, counts, CAPACITY, columns, rows, OPEN);
-    let built = b.answer;
-    if built.refusal != 0 {
-        return write_refused(out, built.refusal, 0);
+    let mut header = fresh(0, 0, OPEN);
+    let columns = u32::from(input[1]);
+    let rows = u32::from(input[2]);
+    let built = grid::build(
+        &mut header,
+        table,
+        values,
+        counts,
+        CAPACITY,
+        columns,
+        rows,
+        OPEN,
+    );
+    if let Err(refusal) = built {
+        return write_refused(out, refusal, 0);
     }
-    let t = grid::tape_core(b.header, table, values, counts, CAPACITY, &input[3..]);
-    let taped = t.answer;
-    if taped.refusal != 0 {
-        return write_refused(out, taped.refusal, 3 + taped.offset);
+    let taped = grid::tape(&mut header, table, values, counts, CAPACITY, &input[3..]);
+    if let Some(refusal) = taped.refusal {
+        return write_refused(out, refusal, 3 + taped.offset);
     }
-    grid::page(t.header, table, values, CAPACITY, out)
+    grid::page(header, table, values, CAPACITY, out)
 }
 
 // Prints what the program prints for the input, if the output is long enough.
-pub fn print(input: &[u8], out: &mut [u8]) -> Wrote
+pub fn print(input: &[u8], out: &mut [u8]) -> Result<usize, Refusal>
     ensures { wrote_of result out.new ≡ program_call input.now out.old }
 {
-    let refusal = head_refusal(input);
-    if refusal != 0 {
+    if let Err(refusal) = head_refusal(input) {
         return write_refused(out, refusal, 0);
     }
     let mut table = [0i32; WORDS];
