@@ -13,8 +13,8 @@ fn complain(rt: &HostRuntime, line: &[u8]) {
 // Prints what the program prints for the input.
 fn answer(rt: &HostRuntime, input: &[u8]) {
     let mut out = [0u8; 104000];
-    let wrote = program::print(input, &mut out);
-    if rt.stdout().write_all(&out[..wrote.count]).is_err() {
+    let k = program::print(input, &mut out).unwrap_or(0);
+    if rt.stdout().write_all(&out[..k]).is_err() {
         complain(rt, b"dossier: standard output cannot be written\n");
     }
 }

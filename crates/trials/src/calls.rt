@@ -4,22 +4,23 @@ ghost use Rattle.std.specs.Prelude.{◌≤◌};
 
 use crate::kind::Call;
 use crate::loan::{Loan, keep, lend};
+use answer::{Refusal, number_of, stop_number};
 use header::Header;
-use lookup::{Found, Reading};
+use lookup::{Leaf, Reading};
 use reports::lists::{Lent, word};
 use reports::report::{Mix, end_line, tell, tell_sum, tell_value};
 use std::io;
 use std::io::Write;
 
 fn check(lines: &mut impl Write, loan: &Loan<'_>) -> io::Result<()> {
-    let refusal = grid::check(
+    let checked = grid::check(
         loan.header,
         loan.words,
         loan.values,
         loan.counts,
         loan.capacity,
     );
-    tell(lines, refusal)
+    tell(lines, number_of(checked))
 }
 
 fn build(lines: &mut impl Write, loan: &mut Loan<'_>) -> io::Result<()> {
@@ -34,8 +35,8 @@ fn build(lines: &mut impl Write, loan: &mut Loan<'_>) -> io::Result<()> {
         rows,
         mode,
     );
-    tell(lines, built.refusal)?;
-    tell(lines, built.used)
+    tell(lines, number_of(built))?;
+    tell(lines, built.unwrap_or(0))
 }
 
 fn tape(lines: &mut impl Write, loan: &mut Loan<'_>, bytes: &[u8]) -> io::Result<()> {
@@ -48,7 +49,7 @@ fn tape(lines: &mut impl Write, loan: &mut Loan<'_>, bytes: &[u8]) -> io::Result
         bytes,
     );
     tell(lines, taped.done)?;
-    tell(lines, taped.refusal)?;
+    tell(lines, stop_number(taped.refusal))?;
     tell(lines, taped.offset)
 }
 
@@ -70,12 +71,12 @@ fn scan(lines: &mut impl Write, loan: &Loan<'_>, order: [u8; 4]) -> io::Result<(
         word(u64::from(to)),
         part,
     );
-    tell(lines, wrote.refusal)?;
-    tell(lines, wrote.count)?;
+    tell(lines, number_of(wrote))?;
+    tell(lines, wrote.unwrap_or(0))?;
     tell_sum(lines, &out)
 }
 
-fn look(loan: &Loan<'_>, speed: u32, load: u32) -> Found {
+fn look(loan: &Loan<'_>, speed: u32, load: u32) -> Result<Leaf, Refusal> {
     grid::lookup(
         loan.header,
         loan.words,
@@ -98,17 +99,19 @@ fn told(reading: Reading) -> (u32, Option<f64>) {
 fn lookup(lines: &mut impl Write, loan: &Loan<'_>) -> io::Result<()> {
     let [speed, load, ..] = loan.arguments;
     let found = look(loan, speed, load);
-    tell(lines, found.refusal)?;
-    tell(lines, found.leaf)?;
-    let (status, value) = told(found.reading);
+    tell(lines, number_of(found))?;
+    let leaf = found.unwrap_or(Leaf::NONE);
+    tell(lines, leaf.number)?;
+    let (status, value) = told(leaf.reading);
     tell(lines, status)?;
     value.map_or(Ok(()), |x| tell_value(lines, x))
 }
 
 // What a lookup found, mixed into a sum.
-fn mixed(found: Found, sum: u64) -> u64 {
-    let (status, value) = told(found.reading);
-    let all = status.mix_into(found.leaf.mix_into(found.refusal.mix_into(sum)));
+fn mixed(found: Result<Leaf, Refusal>, sum: u64) -> u64 {
+    let leaf = found.unwrap_or(Leaf::NONE);
+    let (status, value) = told(leaf.reading);
+    let all = status.mix_into(leaf.number.mix_into(number_of(found).mix_into(sum)));
     value.map_or(all, |x| x.mix_into(all))
 }
 
@@ -134,8 +137,8 @@ fn page(lines: &mut impl Write, loan: &Loan<'_>) -> io::Result<()> {
         return Ok(());
     };
     let wrote = grid::page(loan.header, loan.words, loan.values, loan.capacity, part);
-    tell(lines, wrote.refusal)?;
-    tell(lines, wrote.count)?;
+    tell(lines, number_of(wrote))?;
+    tell(lines, wrote.unwrap_or(0))?;
     tell_sum(lines, &out)
 }
 
@@ -143,8 +146,8 @@ fn page(lines: &mut impl Write, loan: &Loan<'_>) -> io::Result<()> {
 fn count(lines: &mut impl Write, loan: &Loan<'_>) -> io::Result<()> {
     let [level, status, ..] = loan.arguments;
     let many = grid::count(loan.counts, level, status);
-    tell(lines, many.refusal)?;
-    tell(lines, many.count)
+    tell(lines, number_of(many))?;
+    tell(lines, many.unwrap_or(0))
 }
 
 // Makes a call, whose items are the first k bytes of b, and writes what it answered.

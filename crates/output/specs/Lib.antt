@@ -1,2 +1,0 @@
--- What a call that writes leaves.
-pub mod OutputLists
