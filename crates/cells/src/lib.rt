@@ -9,19 +9,18 @@ pub mod points;
 ghost use Rattle.std.specs.Prelude.{◌≡◌, ◌≤◌};
 ghost use Rattle.header.specs.Headers.{header_of};
 ghost use Rattle.checker_laws.specs.Rowwise.{kind_ok};
-ghost use Rattle.readable.specs.Readable.{Readable, Levelled};
 
-use header::Header;
 use readable::is_positive;
+use readable::rows::Rows;
 use table::words::LEVEL;
 
 // A ghost, or a row from level 0 up.
-pub fn kind_ok(t: &[i32], cap: usize, header: Header, d: u32, n: usize) -> bool
-    requires { Readable t.now cap × Levelled t.now cap d × (n ≤ cap) }
-    ensures { result ≡ kind_ok (header_of header).grid t.now cap d n }
+pub fn kind_ok(rows: &Rows, n: usize) -> bool
+    requires { n ≤ rows.now.cap }
+    ensures { result ≡ kind_ok (header_of rows.now.header).grid rows.now.t.now rows.now.cap rows.now.d n }
 {
-    if !is_positive(t, n, LEVEL) {
-        return points::ghost_ok(t, cap, n);
+    if !is_positive(rows.t, n, LEVEL) {
+        return points::ghost_ok(rows, n);
     }
-    points::point_ok(t, cap, header, d, n)
+    points::point_ok(rows, n)
 }

@@ -11,6 +11,7 @@ use crate::rowwise;
 use answer::{Refusal, refuse_if};
 use header::Header;
 use readable::plain;
+use readable::rows::Rows;
 use tally::COUNT_PLACES;
 use tally::full::agree;
 
@@ -38,11 +39,15 @@ fn sound_counts(
     words_fit(t);
     let d = header::ground_depth(header);
     refuse_if(!plain(t, cap, d), Refusal::Unsound)?;
+    let rows = Rows {
+        t,
+        v,
+        cap,
+        header,
+        d,
+    };
     let mut counts = [0u32; COUNT_PLACES];
-    refuse_if(
-        !rowwise(t, v, &mut counts, cap, header, d),
-        Refusal::Unsound,
-    )?;
+    refuse_if(!rowwise(&rows, &mut counts), Refusal::Unsound)?;
     Ok(counts)
 }
 

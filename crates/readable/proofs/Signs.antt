@@ -3,19 +3,21 @@
 use mathlib.Core.Path.{◌≡◌, sym, ◌∙◌}
 use mathlib.Core.Bool.{true, not, ◌&&◌, cond}
 use mathlib.Core.List.{List}
-use Prim.Native.Nat.{ℕ, suc, ◌+◌, ◌-◌, ◌≤◌, ◌<◌}
+use Prim.Native.Nat.{ℕ, suc, ◌+◌, ◌-◌, ◌*◌, ◌≤◌, ◌<◌}
 use native.Mathlib.Omega.{arith}
 use native.Mathlib.Decide.{dec_le, dec_lt, ℕ_discrete}
 use lib.Dec.{eqb, leb, ltb}
 use lib.IntN.{ℤ, pos, negsuc}
+use lib.ListN.{length}
 use lib.Signed.{le_z, lt_z}
 use mir.Syntax.{w32}
 use mir.Val.{SFits, to_z, of_z}
 use mir.Facts.{to_z-of_z, to_z-neg}
 use borrow.Author.Tests.{eq-eqb, ne_eqb, le-leb, lt-leb, lt-ltb, le-ltb}
-use Rattle.mesh.specs.Picture.{level_word}
+use Rattle.mesh.specs.Picture.{level_word, row_words}
 use Rattle.table.specs.Words.{code, word_of, depth_from, depth_of}
-use Rattle.readable.specs.Readable.{Levelled}
+use Rattle.table.proofs.LinkRanges.{level-from}
+use Rattle.readable.specs.Readable.{Readable, Levelled}
 
 -- a test of a sign
 pub sign-is : {z : ℤ} → SFits w32 z → le_z (pos 0) (to_z w32 (of_z w32 z)) ≡ ltb (code z) 2147483648
@@ -79,6 +81,13 @@ module _ (t : List ℤ) (d n : ℕ) (deep : depth_of t d n ≤ d + 12) where
 
 pub levelled-high : {t : List ℤ} {cap d : ℕ} → Levelled t cap d → Levelled t cap 32
 levelled-high {t} {cap} {d} h = record { shallow = omega arith; deep = λ n l. omega (arith, h.deep n l, h.shallow, level-lift t d n (h.deep n l) h.shallow) }
+
+-- what the depth of a row is read by: a level that says a depth is not below that of depth 0
+pub depth-read : {t : List ℤ} {cap d n : ℕ} → Readable t cap → Levelled t cap d → n ≤ cap
+    → (n * row_words + row_words ≤ length t) × (d ≤ 32) × (word_of t n level_word < 2147483648 + d) × (depth_of t d n < 2147483648)
+depth-read {t} {cap} {d} {n} r l h =
+    let deep = l.deep n h in
+    (omega (arith, r.plain.sized.words), l.shallow, level-from t d n (omega (arith, deep)), omega (arith, deep, l.shallow))
 
 -- one level above, counted from either depth
 pub above-is : {t : List ℤ} {cap d p n : ℕ} → Levelled t cap d → p ≤ cap → n ≤ cap → {x y : ℕ} → x ≡ depth_of t 32 p → y ≡ depth_of t 32 n → eqb (x + 1) y ≡ eqb (depth_of t d p + 1) (depth_of t d n)

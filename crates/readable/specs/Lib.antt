@@ -1,3 +1,2 @@
--- Words that are read as they stand, and the grid that they are read under.
+-- Words that are read as they stand.
 pub mod Readable
-pub mod Grounded

@@ -1,14 +1,15 @@
 // Words that are read as they stand, once every row has been looked at.
 #![tactic(auto)]
 
-ghost use Rattle.std.specs.Prelude.{◌≡◌, ◌+◌, ◌*◌, ◌≤◌, ◌<◌, suc, leb, length};
-ghost use Rattle.mesh.specs.Picture.{flags_word, level_word, row_words};
-ghost use Rattle.table.specs.Plain.{Sized};
-ghost use Rattle.table.specs.Words.{code, word_of, depth_from, depth_of};
-ghost use Rattle.checker_laws.specs.Rowwise.{below};
-ghost use Rattle.readable.specs.Readable.{linked, positive, plain_row, Readable, Levelled};
+pub mod rows;
 
-use table::plain::word;
+ghost use Rattle.std.specs.Prelude.{◌≡◌, ◌+◌, ◌*◌, ◌≤◌, ◌<◌, suc, leb, length};
+ghost use Rattle.mesh.specs.Picture.{row_words};
+ghost use Rattle.table.specs.Plain.{Sized};
+ghost use Rattle.table.specs.Words.{code, depth_from};
+ghost use Rattle.checker_laws.specs.Rowwise.{below};
+ghost use Rattle.readable.specs.Readable.{linked, positive, plain_row};
+
 use table::words::{
     EAST, FLAGS, INDEX_I, INDEX_J, LEVEL, NE_KID, NORTH, NW_KID, PARENT, SE_KID, SOUTH, SW_KID,
     WEST, named, raw,
@@ -64,20 +65,4 @@ pub fn plain(t: &[i32], cap: usize, d: u32) -> bool
     ensures { result ≡ below (suc cap) (plain_row t.now cap d) }
 {
     (0..cap + 1).all(|n| plain_row(t, cap, d, n))
-}
-
-// An index of the row n.
-pub fn index(t: &[i32], cap: usize, n: usize, w: usize) -> u32
-    requires { Readable t.now cap × (n ≤ cap) × (level_word < w) × (w < flags_word) }
-    ensures { result ≡ word_of t.now n w }
-{
-    word(t, n, w)
-}
-
-// The depth of the row n.
-pub fn depth(t: &[i32], cap: usize, d: u32, n: usize) -> u32
-    requires { Readable t.now cap × Levelled t.now cap d × (n ≤ cap) }
-    ensures { (result ≤ d + 12) × (result ≡ depth_of t.now d n) }
-{
-    table::plain::depth(t, d, n)
 }

@@ -18,7 +18,7 @@ returns-then-is_free c = (no-root _ _ _ _ c.zero_ok.ensures c.if-not-zero_ok.fal
 
 pub loop-n-init : goal.loop-n-init
 unfolding row_counts
-loop-n-init c = (0, omega arith, refl, c.requires.2)
+loop-n-init c = (0, omega arith, refl, c.requires)
 
 pub returns-then-not-row_ok : goal.returns-then-not-row_ok
 returns-then-not-row_ok c =
@@ -27,9 +27,9 @@ returns-then-not-row_ok c =
 
 pub count_row-requires : goal.count_row-requires
 count_row-requires c =
-    let s = c.requires in
+    let s = c.args.rows.now in
     let (k, next, _, counted) = c.loop-n.invariant in
-    (s.0.readable.plain, s.1, omega arith, row-placed _ _ _ _ _ c.row_ok.ensures c.if-not-row_ok.false, rw counted (rows-roomy _ _ _ k (omega (arith, s.0.readable.plain.sized.small))))
+    (s.readable.plain, s.valued, omega arith, row-placed _ _ _ _ _ c.row_ok.ensures c.if-not-row_ok.false, rw counted (rows-roomy _ _ _ k (omega (arith, s.readable.plain.sized.small))))
 
 pub loop-n-preserved : goal.loop-n-preserved
 loop-n-preserved c =
@@ -39,7 +39,7 @@ loop-n-preserved c =
 pub returns-else-not-row_ok : goal.returns-else-not-row_ok
 returns-else-not-row_ok c =
     let (k, next, passed, counted) = c.loop-n.invariant in
-    let last : k + 1 ≡ c.args.cap = omega arith in (
+    let last : k + 1 ≡ c.args.rows.now.cap = omega arith in (
       all-rows _ _ _ _ c.zero_ok.ensures c.if-not-zero_ok.false c.is_free.ensures c.if-is_free.false (k + 1) last (rows_more _ _ _ _ k passed (rw next at c.row_ok.ensures) c.if-not-row_ok.false),
       λ _. rows-added _ _ _ k counted (rw next at c.count_row.ensures) ∙ ap (row_counts _ _ _) last,
     )

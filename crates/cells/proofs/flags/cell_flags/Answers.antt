@@ -8,8 +8,8 @@ use Rattle.cells.proofs.flags.cell_flags.Goals as goal
 pub internal_flags-requires : goal.internal_flags-requires
 internal_flags-requires c =
     let (x, y) = both-pass _ _ c.if-south-west.true in
-    let f = flag_of c.args.t.now complete_bit in
-    (c.requires.0, c.requires.2, c.requires.3, sym (c.flag-south.ensures ∙ ap f c.link.ensures.1) ∙ x, sym (c.flag-west.ensures ∙ ap f c.link-2.ensures.1) ∙ y)
+    let f = flag_of c.args.rows.now.t.now complete_bit in
+    (c.requires.0, c.requires.1, sym (c.flag-south.ensures ∙ ap f c.link.ensures.1) ∙ x, sym (c.flag-west.ensures ∙ ap f c.link-2.ensures.1) ∙ y)
 
 pub returns-then-south-west : goal.returns-then-south-west
 returns-then-south-west c = c.internal_flags.ensures

@@ -4,7 +4,8 @@ use native.Mathlib.Omega.{arith}
 use Rattle.cells.proofs.flags.internal_flags.Goals as goal
 
 pub returns : goal.returns
-returns c = (
-  omega (arith, c.corner-near.ensures.0, c.corner-far.ensures.0, c.weigh.ensures.0),
-  internal-sum c.args.t.now c.args.cap c.args.d c.args.n c.args.sentenced c.requires.2 c.requires.3 c.requires.4 c.corner-near.ensures.1 c.corner-far.ensures.1 c.weigh.ensures.1,
-)
+returns c =
+    let s = c.args.rows.now in (
+      omega (arith, c.corner-near.ensures.0, c.corner-far.ensures.0, c.weigh.ensures.0),
+      internal-sum s.t.now s.cap s.d c.args.n c.args.sentenced c.requires.1 c.requires.2 c.requires.3 c.corner-near.ensures.1 c.corner-far.ensures.1 c.weigh.ensures.1,
+    )

@@ -14,7 +14,7 @@ returns-then-not-sentence_if c =
 
 pub cell_flags-requires : goal.cell_flags-requires
 cell_flags-requires c =
-    (search rules, search rules, search rules, sym c.flag.ensures ∙ c.if-flag.true)
+    (search rules, sym c.flag.ensures ∙ c.if-flag.true)
 
 pub returns-then-flag : goal.returns-then-flag
 returns-then-flag c =
@@ -30,7 +30,7 @@ returns-then-flag-2 c =
 
 pub bare_flags-requires : goal.bare_flags-requires
 bare_flags-requires c =
-    (search rules, search rules, search rules, sym c.flag.ensures ∙ c.if-flag.false)
+    (search rules, sym c.flag.ensures ∙ c.if-flag.false)
 
 pub returns : goal.returns
 returns c =

@@ -32,23 +32,21 @@ returns-in_err-refuse_if-clause-refused c =
     refused_is _ Unsound _ c.in_err-refuse_if.ensures (search rules)
     (λ h. rows-fail _ _ f r c.words_fit.ensures (not_plain _ _ _ _ (omega (arith, f.low)) r {b = c.plain.result} (rw (← c.ground_depth-d.ensures) c.plain.ensures) (not-true _ h)) refl)
 
-pub rowwise-requires : goal.rowwise-requires
-rowwise-requires c =
+pub invariant_of-rows : goal.invariant_of-rows
+invariant_of-rows c =
     let f = c.in_ok-first_refusal.ensures.sizes refl in
     let r = c.in_ok-first_refusal.ensures.rectangle refl in
     let e = c.ground_depth-d.ensures in
-    let all = sym c.plain.ensures ∙ not-false _ (passes _ Unsound c.in_ok-refuse_if.ensures) in (
-      record {
-        depth = e;
-        shallow = rw e (base-range _ r).1;
-        rooted = omega (arith, f.low);
-        tall = r.2;
-        readable = plain-table _ _ _ all (record { words = omega (arith, f.words); small = f.high });
-        levelled = levelled-table _ _ _ all (rw e (shallow _));
-      },
-      omega (arith, f.values),
-      refl,
-    )
+    let all = sym c.plain.ensures ∙ not-false _ (passes _ Unsound c.in_ok-refuse_if.ensures) in
+    record {
+      readable = plain-table _ _ _ all (record { words = omega (arith, f.words); small = f.high });
+      levelled = levelled-table _ _ _ all (rw e (shallow _));
+      valued = omega (arith, f.values);
+      rooted = omega (arith, f.low);
+      depth_is = e;
+      shallow = rw e (base-range _ r).1;
+      tall = r.2;
+    }
 
 pub returns-in_err-refuse_if-2-clause-refused : goal.returns-in_err-refuse_if-2-clause-refused
 returns-in_err-refuse_if-2-clause-refused c =

@@ -5,7 +5,7 @@ use Rattle.tree.proofs.family.kids_ok.Goals as goal
 
 pub returns-then-kidless : goal.returns-then-kidless
 returns-then-kidless c =
-    kids-bare _ _ _ (kept-as-is c.requires.0.plain c.requires.1) c.kidless.ensures c.if-kidless.true
+    kids-bare _ _ _ (kept-as-is c.args.rows.now.readable.plain c.requires) c.kidless.ensures c.if-kidless.true
 
 pub returns-then-not-kid_ok : goal.returns-then-not-kid_ok
 returns-then-not-kid_ok c =

@@ -6,18 +6,18 @@ use Rattle.tree.proofs.sides.seam_ok.Goals as goal
 
 pub seam_north-requires : goal.seam_north-requires
 seam_north-requires c =
-    let p = c.requires in
-    (p.0, p.1, c.link-p.ensures.0, p.3, omega (arith, c.index-j.ensures, p.0.indices c.args.n j_word p.2 (omega arith) (omega arith)))
+    let s = c.args.rows.now in
+    (c.link-p.ensures.0, omega (arith, c.index-j.ensures, s.readable.indices c.args.n j_word c.requires (omega arith) (omega arith)))
 
 pub overflow_cast-side_by-2 : goal.overflow_cast-side_by-2
 overflow_cast-side_by-2 c =
-    let p = c.requires in
-    omega (arith, c.side_by-2.ensures.0, p.0.plain.sized.small)
+    let s = c.args.rows.now in
+    omega (arith, c.side_by-2.ensures.0, s.readable.plain.sized.small)
 
 pub says-requires-4 : goal.says-requires-4
 says-requires-4 c =
-    let p = c.requires in
-    (omega (arith, p.0.plain.sized.words, p.2), omega (arith, c.side_by-2.ensures.0, p.0.plain.sized.small))
+    let s = c.args.rows.now in
+    (c.requires, omega arith, omega (arith, c.side_by-2.ensures.0, s.readable.plain.sized.small))
 
 pub returns : goal.returns
 returns c =
