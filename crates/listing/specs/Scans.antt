@@ -7,12 +7,12 @@ use Rattle.listing.specs.Kinds.{number_of}
 use Rattle.listing.specs.declared.scans.Scan.{Scan}
 
 abbrev pub lists : Scan → ℕ → Bool
-lists s n = scans s.t.now s.cap s.d s.from (number_of s.kind) n
+lists s n = scans s.rows.t.now s.rows.cap s.rows.d s.from (number_of s.kind) n
 
 -- from the row n on, so many levels down
 abbrev pub rows_from : Scan → ℕ → ℕ → List ℕ
-rows_from s left n = row_walk s.t.now s.cap (lists s) s.order left n
+rows_from s left n = row_walk s.rows.t.now s.rows.cap (lists s) s.order left n
 
 -- those below the row n alone
 abbrev pub rows_under : Scan → ℕ → ℕ → List ℕ
-rows_under s left n = rows_below s.t.now s.cap (lists s) s.order left n
+rows_under s left n = rows_below s.rows.t.now s.rows.cap (lists s) s.order left n

@@ -10,7 +10,7 @@ use lib.Seq.{sets, length-sets, set_out}
 use Rattle.place_laws.proofs.Lists.{sets-append}
 use Rattle.listing.specs.Written.{WroteWhatFits}
 use Rattle.listing.specs.Sinks.{Wrote, Counted}
-use Rattle.listing.specs.declared.sinks.Sheet.{Sheet}
+use Rattle.listing.specs.declared.sinks.Numbers.{Numbers}
 use Rattle.listing.specs.declared.sinks.Count.{Count}
 
 -- ---- lists
@@ -46,11 +46,11 @@ wrote-more {d} {n} {xs} {e} {m} {ys} {f} {k} w v =
 
 -- ---- sinks
 
-pub sheet_none : (s : Sheet) → Wrote s [] s
-sheet_none s = record { same = refl; wrote = λ h. wrote_none _ _ h }
+pub numbers_none : (s : Numbers) → Wrote s [] s
+numbers_none s = record { same = refl; wrote = λ h. wrote_none _ _ h }
 
-pub sheet_more : (s e f : Sheet) (xs ys : List ℕ) → Wrote s xs e → Wrote e ys f → Wrote s (xs ++ ys) f
-sheet_more s e f xs ys w v = record {
+pub numbers_more : (s e f : Numbers) (xs ys : List ℕ) → Wrote s xs e → Wrote e ys f → Wrote s (xs ++ ys) f
+numbers_more s e f xs ys w v = record {
   same = v.same ∙ w.same;
   wrote = λ h. wrote-more (w.wrote h) (v.wrote (omega (arith, wrote-le (w.wrote h), wrote-length (w.wrote h))));
 }

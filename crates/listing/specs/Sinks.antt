@@ -2,11 +2,11 @@
 -- Assumes nothing.
 use Rattle.std.specs.Prelude.{ℕ, ◌+◌, ◌≤◌, min, ◌≡◌, List, length}
 use Rattle.listing.specs.Written.{WroteWhatFits}
-use Rattle.listing.specs.declared.sinks.Sheet.{Sheet}
+use Rattle.listing.specs.declared.sinks.Numbers.{Numbers}
 use Rattle.listing.specs.declared.sinks.Count.{Count}
 
 -- xs written into the same list from the place on, as far as they fit
-pub record Wrote (s : Sheet) (xs : List ℕ) (e : Sheet) : Type 0 where
+pub record Wrote (s : Numbers) (xs : List ℕ) (e : Numbers) : Type 0 where
   pub same : e.out.ghost_name ≡ s.out.ghost_name
   pub wrote : s.at ≤ length s.out.now → WroteWhatFits s.out.now s.at xs e.out.now e.at
 

@@ -1,7 +1,7 @@
 // Where the numbers of a walk go: into a lent list as far as they fit, or into a count up to a bound.
 ghost use Rattle.std.specs.Prelude.{◌≡◌, ℕ, ◌≤◌, List, [], ◌∷◌, ◌++◌, length};
 ghost use Rattle.listing.specs.Sinks.{Wrote, Counted};
-ghost use Rattle.listing.specs.SinkLaws.{sheet_none, sheet_more, count_none, count_more};
+ghost use Rattle.listing.specs.SinkLaws.{numbers_none, numbers_more, count_none, count_more};
 
 /// What takes numbers, one after the other.
 pub trait Sink {
@@ -16,9 +16,9 @@ pub trait Sink {
     ghost took_more: { (s e f : Self) (xs ys : List ℕ) → Took s xs e → Took e ys f → Took s (xs ++ ys) f };
 }
 
-/// A lent list, written up to a place.
+/// A lent list of numbers, written up to a place.
 #[derive(Drop)]
-pub struct Sheet<'a> {
+pub struct Numbers<'a> {
     pub out: &'a mut [u16],
     pub at: usize,
 }
@@ -30,12 +30,12 @@ pub struct Count {
     pub bound: usize,
 }
 
-impl Sink for Sheet<'_> {
+impl Sink for Numbers<'_> {
     ghost Took = { Wrote };
 
-    ghost took_none = { sheet_none };
+    ghost took_none = { numbers_none };
 
-    ghost took_more = { sheet_more };
+    ghost took_more = { numbers_more };
 
     fn take(&mut self, n: u16) {
         if self.at < self.out.len() {

@@ -17,6 +17,7 @@ use answer::{Refusal, refuse_if};
 use listing::kinds::Kind;
 use listing::scans::Scan;
 use table::words::{LEVEL, is_taken, raw};
+use walk::rows::Rows;
 
 // The order as four bytes; a list of another length is no permutation, and neither are four zeros.
 pub fn four(order: &[u8]) -> [u8; 4]
@@ -66,10 +67,10 @@ fn scan_refusal(
 // Whether the output is long enough for what the scan lists from the row n on. That is no longer than the table, so it is counted only where the
 // output is shorter.
 fn has_room(scan: &Scan, n: usize, left: u32, size: usize) -> bool
-    requires { (n ≤ scan.now.cap) × (1 ≤ n) × (length (rows_from scan.now left n) ≤ scan.now.cap + 1) }
+    requires { (n ≤ scan.now.rows.cap) × (1 ≤ n) × (length (rows_from scan.now left n) ≤ scan.now.rows.cap + 1) }
     ensures { result ≡ leb (length (rows_from scan.now left n)) size }
 {
-    scan.cap < size || scan.count(n, left, size + 1) <= size
+    scan.rows.cap < size || scan.count(n, left, size + 1) <= size
 }
 
 // Writes the numbers of the rows that a scan lists, if the output is long enough: that is known before the first is written.
@@ -91,10 +92,9 @@ pub fn scan_out(
     scan_refusal(t, cap, n, order, kind, from, to)?;
     let left = to.abs_diff(raw(t, n, LEVEL));
     let kind = Kind::of(kind).unwrap();
+    let rows = Rows { t, cap, d };
     let scan = Scan {
-        t,
-        cap,
-        d,
+        rows,
         order,
         kind,
         from,

@@ -6,6 +6,8 @@ ghost use Rattle.mesh.specs.Picture.{row_words};
 ghost use Rattle.table.specs.Plain.{Plain, Sized};
 ghost use Rattle.walk.specs.WalkRows.{bare_row, leaf_row};
 
+pub mod rows;
+
 use table::flag_bits::COMPLETE;
 use table::words::{NE_KID, NW_KID, SE_KID, SW_KID, says};
 use table::{plain, words};

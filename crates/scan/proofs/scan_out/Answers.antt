@@ -79,7 +79,7 @@ pub invariant_of-scan : goal.invariant_of-scan
 invariant_of-scan c =
     let a = c.args in
     let o = open_at a.t.now a.cap a.start a.order a.kind a.from a.to c.ranges.from c.ranges.to c.in_ok-scan_refusal.ensures refl in
-    record { walkable = c.requires.0; kids = o.words }
+    record { kids = o.words }
 
 pub has_room-requires : goal.has_room-requires
 has_room-requires c =

@@ -16,9 +16,9 @@ loop-w-preserved g t c =
     let l = c.args.left - 1 in
     let k = c.link-kid.result in
     let after = λ (xs : List ℕ) (e : g.row.S.Denot). g.S.Sink.Took c.loop-w.sink xs e in
-    let kid : after (row_walk s.t.now s.cap (lists s) s.order l k) c.if-kid-ne0.sink = elim c.if-kid-ne0.branch [
+    let kid : after (row_walk s.rows.t.now s.rows.cap (lists s) s.order l k) c.if-kid-ne0.sink = elim c.if-kid-ne0.branch [
       | then-kid-ne0+then-not-is_end w ↦
-          let more = not_end s.t.now l k (sym w.is_end.ensures ∙ w.if-not-is_end.true) in
+          let more = not_end s.rows.t.now l k (sym w.is_end.ensures ∙ w.if-not-is_end.true) in
           let walked = sink.took_more _ _ _ _ _ w.walk_one.ensures w.walk_below.ensures in
           rw w.sink-is (subst (λ (xs : List ℕ). after xs w.walk_below.new.sink) (walk-on _ _ _ _ l k refl w.if-kid-ne0.true more) walked)
       | then-kid-ne0+else-not-is_end w ↦
