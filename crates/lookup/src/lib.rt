@@ -10,81 +10,18 @@ ghost use Rattle.mesh.specs.Lookup as Lookup;
 ghost use Rattle.mesh.specs.Lookup.{tried};
 ghost use Rattle.header.specs.Headers.{header_of};
 ghost use Rattle.lookup.specs.LookupRows.{row_at, row_found, row_lookup, value_of_reading, found_of, row_lookup_out};
-ghost use Rattle.table.specs.Plain.{Plain};
 ghost use Rattle.walk.specs.Walkable.{Walkable};
+
+mod trees;
 
 use answer::{Refusal, refuse_if};
 use carried::{Carried, carried_at, is_blank, is_measured};
 use header::{Header, is_ring};
 use table::plain;
+use trees::Tree;
 use walk::leaf;
+use walk::rows::Rows;
 use worked::kid_word;
-
-// The kid of the row n by the digits of u and v at the place l.
-fn toward(t: &[i32], cap: usize, n: usize, l: u32, u: u32, v: u32) -> usize
-    requires { Plain t.now cap × (n ≤ cap) × (l < 32) }
-    ensures { (result ≤ cap) × (result ≡ link_of t.now cap n (kid_word (u / 2 ^ l % 2) (v / 2 ^ l % 2))) }
-{
-    plain::link(t, cap, n, kid_word((u >> l) % 2, (v >> l) % 2))
-}
-
-// The leaf that holds a point, or 0: down from the root, each kid by the next digits of the two coordinates. From row 0 every way leads to row 0.
-fn leaf_at(t: &[i32], cap: usize, d: u32, u: u32, v: u32) -> usize
-    requires { Walkable t.now cap d × (1 ≤ cap) × (d ≤ 19) }
-    ensures { (result ≤ cap) × (result ≡ row_at t.now cap d u v) }
-{
-    let e = d + 12;
-    if u >> e != 0 {
-        return 0;
-    }
-    if v >> e != 0 {
-        return 0;
-    }
-    let mut l = e;
-    let mut n = 1;
-    while !leaf(t, cap, n) {
-        if l == 0 {
-            return 0;
-        }
-        l -= 1;
-        n = toward(t, cap, n, l, u, v);
-    }
-    n
-}
-
-// The leaf so many units to the left and down of a point, or 0: a try below 0 is skipped.
-fn try_at(t: &[i32], cap: usize, d: u32, u: u32, v: u32, left: u32, down: u32) -> usize
-    requires { Walkable t.now cap d × (1 ≤ cap) × (d ≤ 19) }
-    ensures { (result ≤ cap) × (result ≡ tried (row_at t.now cap d) u v (left, down)) }
-{
-    if u < left {
-        return 0;
-    }
-    if v < down {
-        return 0;
-    }
-    leaf_at(t, cap, d, u - left, v - down)
-}
-
-// The leaf that the tries find, or 0: where one holds the point nothing else is tried.
-fn found_row(t: &[i32], cap: usize, d: u32, u: u32, v: u32) -> usize
-    requires { Walkable t.now cap d × (1 ≤ cap) × (d ≤ 19) }
-    ensures { (result ≤ cap) × (result ≡ row_found t.now cap d u v) }
-{
-    let own = leaf_at(t, cap, d, u, v);
-    if own != 0 {
-        return own;
-    }
-    let left = try_at(t, cap, d, u, v, 1, 0);
-    if left != 0 {
-        return left;
-    }
-    let below = try_at(t, cap, d, u, v, 0, 1);
-    if below != 0 {
-        return below;
-    }
-    try_at(t, cap, d, u, v, 1, 1)
-}
 
 // Whether a load, in 1/4096 of a level-0 cell, lies past the last row of a ring.
 fn beyond(header: Header, load: u32) -> bool
@@ -93,15 +30,84 @@ fn beyond(header: Header, load: u32) -> bool
     is_ring(header) & (header.rows <= load / 4096)
 }
 
-// The leaf that a lookup finds, or 0.
-fn lookup_row(header: Header, t: &[i32], cap: usize, d: u32, u: u32, v: u32) -> usize
-    requires { Walkable t.now cap d × (1 ≤ cap) × (d ≤ 19) }
-    ensures { (result ≤ cap) × (result ≡ row_lookup (header_of header).grid t.now cap d u v) }
-{
-    if beyond(header, v) {
-        return 0;
+impl Tree<'_> {
+    // The kid of the row n by the digits of u and v at the place l.
+    fn toward(&self, n: usize, l: u32, u: u32, v: u32) -> usize
+        requires { (n ≤ self.now.rows.cap) × (l < 32) }
+        ensures { (result ≤ self.now.rows.cap) × (result ≡ link_of self.now.rows.t.now self.now.rows.cap n (kid_word (u / 2 ^ l % 2) (v / 2 ^ l % 2))) }
+    {
+        plain::link(
+            self.rows.t,
+            self.rows.cap,
+            n,
+            kid_word((u >> l) % 2, (v >> l) % 2),
+        )
     }
-    found_row(t, cap, d, u, v)
+
+    // The leaf that holds a point, or 0: down from the root, each kid by the next digits of the two coordinates. From row 0 every way leads to row 0.
+    fn leaf_at(&self, u: u32, v: u32) -> usize
+        ensures { (result ≤ self.now.rows.cap) × (result ≡ row_at self.now.rows.t.now self.now.rows.cap self.now.rows.d u v) }
+    {
+        let e = self.rows.d + 12;
+        if u >> e != 0 {
+            return 0;
+        }
+        if v >> e != 0 {
+            return 0;
+        }
+        let mut l = e;
+        let mut n = 1;
+        while !leaf(self.rows.t, self.rows.cap, n) {
+            if l == 0 {
+                return 0;
+            }
+            l -= 1;
+            n = self.toward(n, l, u, v);
+        }
+        n
+    }
+
+    // The leaf so many units to the left and down of a point, or 0: a try below 0 is skipped.
+    fn try_at(&self, u: u32, v: u32, left: u32, down: u32) -> usize
+        ensures { (result ≤ self.now.rows.cap) × (result ≡ tried (row_at self.now.rows.t.now self.now.rows.cap self.now.rows.d) u v (left, down)) }
+    {
+        if u < left {
+            return 0;
+        }
+        if v < down {
+            return 0;
+        }
+        self.leaf_at(u - left, v - down)
+    }
+
+    // The leaf that the tries find, or 0: where one holds the point nothing else is tried.
+    fn found_row(&self, u: u32, v: u32) -> usize
+        ensures { (result ≤ self.now.rows.cap) × (result ≡ row_found self.now.rows.t.now self.now.rows.cap self.now.rows.d u v) }
+    {
+        let own = self.leaf_at(u, v);
+        if own != 0 {
+            return own;
+        }
+        let left = self.try_at(u, v, 1, 0);
+        if left != 0 {
+            return left;
+        }
+        let below = self.try_at(u, v, 0, 1);
+        if below != 0 {
+            return below;
+        }
+        self.try_at(u, v, 1, 1)
+    }
+
+    // The leaf that a lookup finds, or 0.
+    fn lookup_row(&self, header: Header, u: u32, v: u32) -> usize
+        ensures { (result ≤ self.now.rows.cap) × (result ≡ row_lookup (header_of header).grid self.now.rows.t.now self.now.rows.cap self.now.rows.d u v) }
+    {
+        if beyond(header, v) {
+            return 0;
+        }
+        self.found_row(u, v)
+    }
 }
 
 // A leaf's value, as measured, as carried down from its parent, or none.
@@ -140,26 +146,42 @@ fn value_of(c: Carried) -> Reading
     Reading::Carried(c.value)
 }
 
-// "Status: 0 blank, 1 measured, 2 carried down from the parent."
-pub fn status_of(reading: Reading) -> u32
-    ensures { result ≡ status (value_of_reading reading) }
-{
-    match reading {
-        Reading::Measured(_) => 1,
-        Reading::Carried(_) => 2,
-        Reading::Blank => 0,
+impl Reading {
+    // "Status: 0 blank, 1 measured, 2 carried down from the parent."
+    pub fn status(self) -> u32
+        ensures { result ≡ status (value_of_reading self) }
+    {
+        match self {
+            Reading::Measured(_) => 1,
+            Reading::Carried(_) => 2,
+            Reading::Blank => 0,
+        }
+    }
+
+    // "Status 0 has the bits of +0."
+    pub fn amount(self) -> f64
+        ensures { result ≡ amount (value_of_reading self) }
+    {
+        match self {
+            Reading::Measured(x) => x,
+            Reading::Carried(x) => x,
+            Reading::Blank => 0.0,
+        }
     }
 }
 
-// "Status 0 has the bits of +0."
+// The status, as a function of the reading.
+pub fn status_of(reading: Reading) -> u32
+    ensures { result ≡ status (value_of_reading reading) }
+{
+    reading.status()
+}
+
+// The amount, as a function of the reading.
 pub fn amount_of(reading: Reading) -> f64
     ensures { result ≡ amount (value_of_reading reading) }
 {
-    match reading {
-        Reading::Measured(x) => x,
-        Reading::Carried(x) => x,
-        Reading::Blank => 0.0,
-    }
+    reading.amount()
 }
 
 // The leaf that a lookup finds, and its value.
@@ -175,7 +197,9 @@ pub fn lookup_out(
     requires { Walkable t.now cap d × (cap < length v.now) × (1 ≤ cap) × (d ≤ 19) }
     ensures { found_of result ≡ row_lookup_out (header_of header).grid t.now v.now cap d x y }
 {
-    let n = lookup_row(header, t, cap, d, x, y);
+    let rows = Rows { t, cap, d };
+    let tree = Tree { rows };
+    let n = tree.lookup_row(header, x, y);
     refuse_if(n == 0, Refusal::NotFound)?;
     Ok(Leaf {
         number: n as u32,
