@@ -2,3 +2,4 @@
 pub mod Puts
 pub mod Sheets
 pub mod LineRows
+pub mod LeafLines

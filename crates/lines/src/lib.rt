@@ -2,5 +2,6 @@
 #![tactic(auto)]
 
 pub mod leaf_lines;
+pub mod listed;
 pub mod numerals;
 pub mod sheets;

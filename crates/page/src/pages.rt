@@ -7,14 +7,14 @@ ghost use Rattle.table.specs.Plain.{Sized};
 ghost use Rattle.lines.specs.Puts.{Put};
 ghost use Rattle.lines.specs.Sheets.{HasRoom, PutOn};
 ghost use Rattle.answer.specs.OutputLists.{wrote_of};
-ghost use Rattle.lines.specs.LineRows.{Listed};
 ghost use Rattle.leaves.specs.LeavesFrom.{leaves_from};
-ghost use Rattle.page.specs.PageRows.{body_of, page_of, row_out};
+ghost use Rattle.page.specs.PageRows.{row_out};
+ghost use Rattle.page.specs.WholePage.{body, whole};
 
 use answer::{Refusal, refuse_if};
 use header::{Header, is_ring};
 use leaves::{Found, find_leaves};
-use lines::leaf_lines::{lines_size, lines_sum, put_lines};
+use lines::listed::Leaves;
 use lines::numerals::digits;
 use lines::sheets::Sheet;
 
@@ -57,82 +57,71 @@ fn put_foot(sheet: &mut Sheet, leaves: u32, sum: u32)
     sheet.byte(b'\n');
 }
 
-// The length of all lines but the last.
-fn body_size(header: Header, t: &[i32], v: &[f64], cap: usize, leaves: &[u16]) -> usize
-    requires { Listed t.now v.now cap leaves.now }
-    ensures { (result ≤ 258090) × (result ≡ length (body_of (header_of header) t.now v.now leaves.now)) }
-{
-    let head = digits(header.columns) + digits(header.rows) + digits(header.mark as u32) + 12;
-    head + lines_size(t, v, cap, leaves)
+// The page of listed leaves, below the first line of a header.
+#[derive(Clone, Copy)]
+struct Page<'a> {
+    header: Header,
+    leaves: Leaves<'a>,
 }
 
-// The sum of the bytes of all lines but the last.
-fn body_sum(header: Header, t: &[i32], v: &[f64], cap: usize, leaves: &[u16]) -> u32
-    requires { Listed t.now v.now cap leaves.now }
-    ensures { result ≡ total (body_of (header_of header) t.now v.now leaves.now) % 2 ^ 32 }
-{
-    let mut line = [0u8; 72];
-    let mut head = Sheet {
-        out: &mut line,
-        at: 0,
-    };
-    put_head(&mut head, header);
-    lines_sum(t, v, cap, leaves, head.sum())
-}
-
-// Whether the page has room. Its sum has to be known only where the length of the last line decides.
-fn fits(header: Header, t: &[i32], v: &[f64], cap: usize, leaves: &[u16], room: usize) -> bool
-    requires { Listed t.now v.now cap leaves.now }
-    ensures { result ≡ leb (length (page_of (header_of header) t.now v.now leaves.now)) room }
-{
-    let size = body_size(header, t, v, cap, leaves);
-    if size + LONGEST_FOOT <= room {
-        return true;
+impl Page<'_> {
+    // The length of all lines but the last.
+    fn body_size(&self) -> usize
+        ensures { (result ≤ 258090) × (result ≡ length (body self.now)) }
+    {
+        let header = self.header;
+        let head = digits(header.columns) + digits(header.rows) + digits(header.mark as u32) + 12;
+        head + self.leaves.lines_size()
     }
-    let sum = body_sum(header, t, v, cap, leaves);
-    size + digits(leaves.len() as u32) + digits(sum) + 12 <= room
+
+    // The sum of the bytes of all lines but the last.
+    fn body_sum(&self) -> u32
+        ensures { result ≡ total (body self.now) % 2 ^ 32 }
+    {
+        let mut line = [0u8; 72];
+        let mut head = Sheet {
+            out: &mut line,
+            at: 0,
+        };
+        put_head(&mut head, self.header);
+        self.leaves.lines_sum(head.sum())
+    }
+
+    // Whether the page has room. Its sum has to be known only where the length of the last line decides.
+    fn fits(&self, room: usize) -> bool
+        ensures { result ≡ leb (length (whole self.now)) room }
+    {
+        let size = self.body_size();
+        if size + LONGEST_FOOT <= room {
+            return true;
+        }
+        let sum = self.body_sum();
+        size + digits(self.leaves.rows.len() as u32) + digits(sum) + 12 <= room
+    }
+
+    // Puts the page, and answers its length.
+    fn put(&self, out: &mut [u8]) -> usize
+        requires { length (whole self.now) ≤ length out.old }
+        ensures { Put out.old 0 (whole self.now) out.new result }
+    {
+        let mut sheet = Sheet { out, at: 0 };
+        put_head(&mut sheet, self.header);
+        self.leaves.put_lines(&mut sheet);
+        let sum = sheet.sum();
+        put_foot(&mut sheet, self.leaves.rows.len() as u32, sum);
+        sheet.at
+    }
+
+    // Writes the page, if the output is long enough.
+    fn write(&self, out: &mut [u8]) -> Result<usize, Refusal>
+        ensures { wrote_of result out.new ≡ writing (whole self.now) out.old }
+    {
+        refuse_if(!self.fits(out.len()), Refusal::TooShort)?;
+        Ok(self.put(out))
+    }
 }
 
-// Puts the page, and answers its length.
-fn put_page(
-    header: Header,
-    t: &[i32],
-    v: &[f64],
-    cap: usize,
-    leaves: &[u16],
-    out: &mut [u8],
-) -> usize
-    requires { Listed t.now v.now cap leaves.now × (length (page_of (header_of header) t.now v.now leaves.now) ≤ length out.old) }
-    ensures { Put out.old 0 (page_of (header_of header) t.now v.now leaves.now) out.new result }
-{
-    let mut sheet = Sheet { out, at: 0 };
-    put_head(&mut sheet, header);
-    put_lines(t, v, cap, leaves, &mut sheet);
-    let sum = sheet.sum();
-    put_foot(&mut sheet, leaves.len() as u32, sum);
-    sheet.at
-}
-
-// Writes the page of the leaves, if the output is long enough.
-fn write_leaves(
-    header: Header,
-    t: &[i32],
-    v: &[f64],
-    cap: usize,
-    leaves: &[u16],
-    out: &mut [u8],
-) -> Result<usize, Refusal>
-    requires { Listed t.now v.now cap leaves.now }
-    ensures { wrote_of result out.new ≡ writing (page_of (header_of header) t.now v.now leaves.now) out.old }
-{
-    refuse_if(
-        !fits(header, t, v, cap, leaves, out.len()),
-        Refusal::TooShort,
-    )?;
-    Ok(put_page(header, t, v, cap, leaves, out))
-}
-
-// Writes the page, if the output is long enough.
+// Writes the page of the leaves of a table, if the output is long enough.
 pub fn write_page(
     header: Header,
     t: &[i32],
@@ -151,5 +140,12 @@ pub fn write_page(
     };
     find_leaves(t, cap, d as usize + 12, 1, &mut found);
     let count = found.count;
-    write_leaves(header, t, v, cap, &found.rows[..count], out)
+    let leaves = Leaves {
+        t,
+        v,
+        cap,
+        rows: &found.rows[..count],
+    };
+    let page = Page { header, leaves };
+    page.write(out)
 }

@@ -1,8 +1,8 @@
--- `lines::leaf_lines::lines_size` meets its contract.
+-- `lines::listed::Leaves::lines_size` meets its contract.
 use Rattle.std.proofs.Common.{refl, arith}
 use Rattle.lines.specs.LineRows.{lines_of}
 use Rattle.lines.proofs.Worded.{lines-longer}
-use Rattle.lines.proofs.leaf_lines.lines_size.Goals as goal
+use Rattle.lines.proofs.listed.Leaves.lines_size.Goals as goal
 
 pub loop-n-init : goal.loop-n-init
 unfolding lines_of
@@ -10,6 +10,6 @@ loop-n-init c = record { short = omega arith; measured = refl }
 
 pub loop-n-preserved : goal.loop-n-preserved
 loop-n-preserved c =
-    let a = c.args in
+    let s = c.args.self.now in
     let e = c.line_size-size.ensures in
-    record { short = omega (arith, e.0); measured = omega (arith, c.loop-n.invariant.measured, e.1 a.v.now, lines-longer a.t.now a.v.now a.leaves.now c.loop-n.n-index c.loop-n-test.true) }
+    record { short = omega (arith, e.0); measured = omega (arith, c.loop-n.invariant.measured, e.1, lines-longer s.t.now s.v.now s.rows.now c.loop-n.n-index c.loop-n-test.true) }

@@ -2,7 +2,7 @@
 use Rattle.std.proofs.Common.{◌≡◌, ◌+◌, ◌%◌, ◌^◌, take}
 use Rattle.mesh.specs.Page.{total}
 use Rattle.lines.specs.LineRows.{lines_of}
-use Rattle.lines.proofs.leaf_lines.lines_sum.Given as goal
+use Rattle.lines.proofs.listed.Leaves.lines_sum.Given as goal
 
 abbrev pub invariant-loop-n : goal.invariant-loop-n
-invariant-loop-n l = l.sum ≡ (l.s + total (lines_of l.t l.v (take l.n-index l.leaves))) % 2 ^ 32
+invariant-loop-n l = l.sum ≡ (l.s + total (lines_of l.self.t.now l.self.v.now (take l.n-index l.self.rows.now))) % 2 ^ 32
