@@ -9,70 +9,78 @@ use mathlib.Core.List.{List}
 use lib.Dec.{leb}
 use lib.ListN.{length, get_or, take, length-append}
 use lib.Seq.{sets-eq}
-use lib.IntN.{ℤ}
-use lib.Ieee.{Float}
 use borrow.Author.Tests.{leb-true, leb-false, lt-ltb, le-ltb}
 use Rattle.mesh.specs.State.{Header}
 use Rattle.mesh.specs.Page.{decimal, head_line, total, foot_line}
 use Rattle.mesh.specs.Call.{unless, over, writing}
 use Rattle.mesh.specs.Refusal.{refusal}
 use Rattle.lines.specs.Puts.{Put}
-use Rattle.lines.specs.LineRows.{lines_of}
+use Rattle.lines.specs.LeafLines.{all_lines}
+use Rattle.header.specs.Headers.{header_of}
 use Rattle.page.specs.PageRows.{body_of, page_of}
+use Rattle.page.specs.WholePage.{body, whole}
+use Rattle.page.specs.declared.pages.Page.{Page}
 use Rattle.lines.proofs.Puts.{total-append, put-more, put_as, put_front}
 use Rattle.lines.proofs.Worded.{head-size, foot-size, foot-short}
 
-module _ (h : Header) (t : List ℤ) (v : List Float) (ns : List ℕ) where
-  abbrev body : List ℕ
-  body = body_of h t v ns
+module _ (page : Page) where
+  abbrev h : Header
+  h = header_of page.header
 
-  abbrev page : List ℕ
-  page = page_of h t v ns
+  -- how many leaves it has
+  abbrev count : ℕ
+  count = length page.leaves.rows.now
+
+  abbrev head : List ℕ
+  head = head_line h
+
+  abbrev lines : List ℕ
+  lines = all_lines page.leaves
 
   -- ---- how long it is
 
-  body-parts : length body ≡ length (head_line h) + length (lines_of t v ns)
+  body-parts : length (body page) ≡ length head + length lines
   unfolding body_of
-  body-parts = length-append (head_line h) (lines_of t v ns)
+  body-parts = length-append head lines
 
-  pub body-size : length body ≡ length (decimal h.grid.columns) + length (decimal h.grid.rows) + length (decimal h.mark) + 12 + length (lines_of t v ns)
+  pub body-size : length (body page) ≡ length (decimal h.grid.columns) + length (decimal h.grid.rows) + length (decimal h.mark) + 12 + length lines
   body-size = omega (arith, body-parts, head-size h)
 
-  page-parts : length page ≡ length body + length (foot_line (length ns) (total body % 2 ^ 32))
+  page-parts : length (whole page) ≡ length (body page) + length (foot_line count (total (body page) % 2 ^ 32))
   unfolding page_of
-  page-parts = length-append body (foot_line (length ns) (total body % 2 ^ 32))
+  page-parts = length-append (body page) (foot_line count (total (body page) % 2 ^ 32))
 
   -- by the sum as it was worked out
-  pub page-size : (k s : ℕ) → k ≡ length ns → s ≡ total body % 2 ^ 32 → length page ≡ length body + length (decimal k) + length (decimal s) + 12
-  page-size k s e f = rw (e, f) (omega (arith, page-parts, foot-size (length ns) (total body % 2 ^ 32)))
+  pub page-size : (k s : ℕ) → k ≡ count → s ≡ total (body page) % 2 ^ 32 → length (whole page) ≡ length (body page) + length (decimal k) + length (decimal s) + 12
+  page-size k s e f = rw (e, f) (omega (arith, page-parts, foot-size count (total (body page) % 2 ^ 32)))
 
-  pub page-lines : (k s : ℕ) → k ≡ length ns → s ≡ total body % 2 ^ 32
-      → length page ≡ length (head_line h) + length (lines_of t v ns) + length (foot_line k s)
+  pub page-lines : (k s : ℕ) → k ≡ count → s ≡ total (body page) % 2 ^ 32
+      → length (whole page) ≡ length head + length lines + length (foot_line k s)
   page-lines k s e f = rw (e, f) (omega (arith, page-parts, body-parts))
 
-  pub page-short : length page ≤ length body + 52
-  page-short = omega (arith, page-parts, foot-short (length ns) (total body % 2 ^ 32))
+  pub page-short : length (whole page) ≤ length (body page) + 52
+  page-short = omega (arith, page-parts, foot-short count (total (body page) % 2 ^ 32))
 
-  pub page-long : length (head_line h) + length (lines_of t v ns) ≤ length page
+  pub page-long : length head + length lines ≤ length (whole page)
   page-long = omega (arith, page-parts, body-parts)
 
-  pub body-total : total body ≡ total (head_line h) + total (lines_of t v ns)
+  pub body-total : total (body page) ≡ total head + total lines
   unfolding body_of
-  body-total = total-append (head_line h) (lines_of t v ns)
+  body-total = total-append head lines
 
   -- ---- line by line
 
-  pub body-put : {d e g : List ℕ} {p q : ℕ} → Put d 0 (head_line h) e p → Put e p (lines_of t v ns) g q → Put d 0 body g q
+  pub body-put : {d e g : List ℕ} {p q : ℕ} → Put d 0 head e p → Put e p lines g q → Put d 0 (body page) g q
   unfolding body_of
   body-put w u = put-more w u
 
   -- the sum of what stands before the last line
-  pub body-sum : {d e g : List ℕ} {p q : ℕ} → Put d 0 (head_line h) e p → Put e p (lines_of t v ns) g q → length page ≤ length d
-      → total (take q g) ≡ total body
+  pub body-sum : {d e g : List ℕ} {p q : ℕ} → Put d 0 head e p → Put e p lines g q → length (whole page) ≤ length d
+      → total (take q g) ≡ total (body page)
   body-sum w u f = ap total (put_front (body-put w u) (omega (arith, page-parts)))
 
-  pub page-put : {d e g i : List ℕ} {p q r : ℕ} (k s : ℕ) → k ≡ length ns → s ≡ total body % 2 ^ 32
-      → Put d 0 (head_line h) e p → Put e p (lines_of t v ns) g q → Put g q (foot_line k s) i r → Put d 0 page i r
+  pub page-put : {d e g i : List ℕ} {p q r : ℕ} (k s : ℕ) → k ≡ count → s ≡ total (body page) % 2 ^ 32
+      → Put d 0 head e p → Put e p lines g q → Put g q (foot_line k s) i r → Put d 0 (whole page) i r
   unfolding page_of
   page-put k s e f w u z = put-more (body-put w u) (put_as (rw (e, f)) z)
 

@@ -1,6 +1,5 @@
 -- `page::pages::Page::body_size` meets its contract: the first line, and then the leaves'.
 use native.Mathlib.Omega.{arith}
-use Rattle.header.specs.Headers.{header_of}
 use Rattle.page.proofs.PagePut.{body-size}
 use Rattle.page.proofs.pages.Page.body_size.Goals as goal
 
@@ -10,4 +9,4 @@ overflow_add-result c = omega (arith, c.digits.ensures, c.digits-2.ensures, c.di
 pub returns : goal.returns
 returns c =
     let p = c.args.self.now in
-    omega (arith, c.digits.ensures, c.digits-2.ensures, c.digits-3.ensures, c.lines_size.ensures, body-size (header_of p.header) p.leaves.t.now p.leaves.v.now p.leaves.rows.now)
+    omega (arith, c.digits.ensures, c.digits-2.ensures, c.digits-3.ensures, c.lines_size.ensures, body-size p)

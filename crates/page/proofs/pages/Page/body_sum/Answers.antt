@@ -17,4 +17,4 @@ sum-requires c = omega (arith, wrote_to c.put_head.ensures, head-short (header_o
 pub returns : goal.returns
 returns c =
     let p = c.args.self.now in
-    omega (arith, c.lines_sum.ensures, c.sum.ensures, ap total (wrote_front c.put_head.ensures refl (omega (arith, head-short (header_of p.header)))), body-total (header_of p.header) p.leaves.t.now p.leaves.v.now p.leaves.rows.now)
+    omega (arith, c.lines_sum.ensures, c.sum.ensures, ap total (wrote_front c.put_head.ensures refl (omega (arith, head-short (header_of p.header)))), body-total p)

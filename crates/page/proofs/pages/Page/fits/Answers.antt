@@ -3,17 +3,16 @@ use native.Mathlib.Omega.{arith}
 use mathlib.Core.Path.{refl, sym, ap}
 use lib.Dec.{leb}
 use borrow.Author.Tests.{le-leb}
-use Rattle.header.specs.Headers.{header_of}
 use Rattle.page.proofs.PagePut.{page-short, page-size}
 use Rattle.page.proofs.pages.Page.fits.Goals as goal
 
 pub returns-then-size-room : goal.returns-then-size-room
 returns-then-size-room c =
     let p = c.args.self.now in
-    sym (le-leb _ c.args.room (omega (arith, c.body_size-size.ensures, page-short (header_of p.header) p.leaves.t.now p.leaves.v.now p.leaves.rows.now)))
+    sym (le-leb _ c.args.room (omega (arith, c.body_size-size.ensures, page-short p)))
 
 pub returns : goal.returns
 returns c =
     let p = c.args.self.now in
     ap (λ n. leb n c.args.room)
-    (omega (arith, c.body_size-size.ensures, c.digits.ensures, c.digits-2.ensures, page-size (header_of p.header) p.leaves.t.now p.leaves.v.now p.leaves.rows.now _ _ refl c.body_sum-sum.ensures))
+    (omega (arith, c.body_size-size.ensures, c.digits.ensures, c.digits-2.ensures, page-size p _ _ refl c.body_sum-sum.ensures))
