@@ -1,2 +1,3 @@
 -- Lookup by the rows of a table.
 pub mod LookupRows
+pub mod TreeLeaves

@@ -1,15 +1,14 @@
 // Lookup over the rows of a table: the leaf that holds a point, or one it is tried again at, and its value.
 #![tactic(auto)]
 
-ghost use Rattle.std.specs.Prelude.{◌≡◌, ◌/◌, ◌%◌, ◌^◌, ◌<◌, ◌≤◌, length};
-ghost use Rattle.table.specs.Words.{link_of};
-ghost use Rattle.worked.specs.Worked.{kid_word};
+ghost use Rattle.std.specs.Prelude.{◌≡◌, ◌<◌, ◌≤◌, length};
 ghost use Rattle.carried.specs.Carried.{value_carried};
 ghost use Rattle.mesh.specs.State.{status, amount};
 ghost use Rattle.mesh.specs.Lookup as Lookup;
 ghost use Rattle.mesh.specs.Lookup.{tried};
 ghost use Rattle.header.specs.Headers.{header_of};
-ghost use Rattle.lookup.specs.LookupRows.{row_at, row_found, row_lookup, value_of_reading, found_of, row_lookup_out};
+ghost use Rattle.lookup.specs.LookupRows.{value_of_reading, found_of, row_lookup_out};
+ghost use Rattle.lookup.specs.TreeLeaves.{kid_toward, leaf_holding, leaf_found, leaf_looked_up};
 ghost use Rattle.walk.specs.Walkable.{Walkable};
 
 mod trees;
@@ -34,7 +33,7 @@ impl Tree<'_> {
     // The kid of the row n by the digits of u and v at the place l.
     fn toward(&self, n: usize, l: u32, u: u32, v: u32) -> usize
         requires { (n ≤ self.now.rows.cap) × (l < 32) }
-        ensures { (result ≤ self.now.rows.cap) × (result ≡ link_of self.now.rows.t.now self.now.rows.cap n (kid_word (u / 2 ^ l % 2) (v / 2 ^ l % 2))) }
+        ensures { (result ≤ self.now.rows.cap) × (result ≡ kid_toward self.now n l u v) }
     {
         plain::link(
             self.rows.t,
@@ -46,7 +45,7 @@ impl Tree<'_> {
 
     // The leaf that holds a point, or 0: down from the root, each kid by the next digits of the two coordinates. From row 0 every way leads to row 0.
     fn leaf_at(&self, u: u32, v: u32) -> usize
-        ensures { (result ≤ self.now.rows.cap) × (result ≡ row_at self.now.rows.t.now self.now.rows.cap self.now.rows.d u v) }
+        ensures { (result ≤ self.now.rows.cap) × (result ≡ leaf_holding self.now u v) }
     {
         let e = self.rows.d + 12;
         if u >> e != 0 {
@@ -69,7 +68,7 @@ impl Tree<'_> {
 
     // The leaf so many units to the left and down of a point, or 0: a try below 0 is skipped.
     fn try_at(&self, u: u32, v: u32, left: u32, down: u32) -> usize
-        ensures { (result ≤ self.now.rows.cap) × (result ≡ tried (row_at self.now.rows.t.now self.now.rows.cap self.now.rows.d) u v (left, down)) }
+        ensures { (result ≤ self.now.rows.cap) × (result ≡ tried (leaf_holding self.now) u v (left, down)) }
     {
         if u < left {
             return 0;
@@ -82,7 +81,7 @@ impl Tree<'_> {
 
     // The leaf that the tries find, or 0: where one holds the point nothing else is tried.
     fn found_row(&self, u: u32, v: u32) -> usize
-        ensures { (result ≤ self.now.rows.cap) × (result ≡ row_found self.now.rows.t.now self.now.rows.cap self.now.rows.d u v) }
+        ensures { (result ≤ self.now.rows.cap) × (result ≡ leaf_found self.now u v) }
     {
         let own = self.leaf_at(u, v);
         if own != 0 {
@@ -101,7 +100,7 @@ impl Tree<'_> {
 
     // The leaf that a lookup finds, or 0.
     fn lookup_row(&self, header: Header, u: u32, v: u32) -> usize
-        ensures { (result ≤ self.now.rows.cap) × (result ≡ row_lookup (header_of header).grid self.now.rows.t.now self.now.rows.cap self.now.rows.d u v) }
+        ensures { (result ≤ self.now.rows.cap) × (result ≡ leaf_looked_up (header_of header).grid self.now u v) }
     {
         if beyond(header, v) {
             return 0;
