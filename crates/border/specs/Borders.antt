@@ -4,6 +4,7 @@ use Rattle.std.specs.Prelude.{ℕ, zero, suc, ◌≤◌, Bool, ◌||◌, List, [
 use Rattle.mesh.specs.Tools.{all}
 use Rattle.mesh.specs.Picture.{link_words, ne_word, se_word, sw_word, nw_word}
 use Rattle.table.specs.Words.{link_of}
+use Rattle.worked.specs.Around as Around
 use Rattle.edit_laws.specs.Tables as Tables
 use Rattle.border.specs.declared.Border.{Border}
 
@@ -35,11 +36,7 @@ pub record BareBorder (t : List ℤ) (cap : ℕ) (b : Tables.Border) (e : ℕ) :
 
 pub record Within (cap : ℕ) (b : Border) : Type 0 where
   pub own : b.own ≤ cap
-  pub north : b.north ≤ cap
-  pub east : b.east ≤ cap
-  pub both : b.both ≤ cap
-  pub south : b.south ≤ cap
-  pub west : b.west ≤ cap
+  pub around : Around.Within cap b.around
 
 abbrev pub border_of : Border → Tables.Border
-border_of b = record { own = b.own; north = b.north; east = b.east; both = b.both; south = b.south; west = b.west }
+border_of b = record { own = b.own; north = b.around.north; east = b.around.east; both = b.around.both; south = b.around.south; west = b.around.west }

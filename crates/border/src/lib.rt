@@ -10,6 +10,7 @@ ghost use Rattle.border.specs.Borders.{is_link, bare_down, BareCorners, BareBord
 use anew::pass::{Pass, Points, Walls};
 use table::plain::link;
 use table::words::{NE_KID, NW_KID, SE_KID, SW_KID};
+use worked::around::Around;
 
 // A pass through the rows so many levels down from n, by kids that the words of ws name; whether there is one.
 fn pass_down<P: Pass>(t: &mut [i32], cap: usize, pass: P, ws: &[usize], e: u32, n: usize) -> bool
@@ -32,15 +33,11 @@ fn pass_down<P: Pass>(t: &mut [i32], cap: usize, pass: P, ws: &[usize], e: u32, 
     met
 }
 
-// The rows on and beside the border of a level-0 cell: its own, and those north, east, north-east, south and west of it.
+// The rows on and beside the border of a level-0 cell: its own, and those around it.
 #[derive(Clone, Copy)]
 pub struct Border {
     pub own: usize,
-    pub north: usize,
-    pub east: usize,
-    pub both: usize,
-    pub south: usize,
-    pub west: usize,
+    pub around: Around,
 }
 
 // On one level, a pass through the rows along the border whose walls the cell can be a side of; whether there is one.
@@ -49,9 +46,9 @@ fn pass_corners<P: Pass>(t: &mut [i32], cap: usize, pass: P, b: Border, e: u32) 
     ensures { (t.new ≡ along_corners (P.step pass cap) cap (border_of b) e t.old) × Plain t.new cap × (result ≡ false → BareCorners t.old cap (border_of b) e) }
 {
     let own = pass_down(t, cap, pass, &[SW_KID, SE_KID, NW_KID, NE_KID], e, b.own);
-    let north = pass_down(t, cap, pass, &[SW_KID, SE_KID], e, b.north);
-    let east = pass_down(t, cap, pass, &[SW_KID, NW_KID], e, b.east);
-    let both = pass_down(t, cap, pass, &[SW_KID], e, b.both);
+    let north = pass_down(t, cap, pass, &[SW_KID, SE_KID], e, b.around.north);
+    let east = pass_down(t, cap, pass, &[SW_KID, NW_KID], e, b.around.east);
+    let both = pass_down(t, cap, pass, &[SW_KID], e, b.around.both);
     own | (north | (east | both))
 }
 
@@ -62,8 +59,8 @@ fn refresh_level(t: &mut [i32], cap: usize, d: u32, b: Border, e: u32) -> bool
 {
     pass_corners(t, cap, Walls { d }, b, e);
     let corners = pass_corners(t, cap, Points, b, e);
-    let south = pass_down(t, cap, Points, &[NW_KID, NE_KID], e, b.south);
-    let west = pass_down(t, cap, Points, &[SE_KID, NE_KID], e, b.west);
+    let south = pass_down(t, cap, Points, &[NW_KID, NE_KID], e, b.around.south);
+    let west = pass_down(t, cap, Points, &[SE_KID, NE_KID], e, b.around.west);
     corners | (south | west)
 }
 

@@ -7,8 +7,9 @@ ghost use Rattle.table.specs.Words.{free_at};
 ghost use Rattle.table.specs.Plain.{Plain};
 ghost use Rattle.free.specs.FreeMap.{Maps};
 ghost use Rattle.edit_laws.specs.Tables.{drop_up, drop_corner, cleared, dropped_corners, still_used, kill_table, kill_values};
+ghost use Rattle.worked.specs.Around.{IsAround};
 ghost use Rattle.border.specs.Borders.{Within, border_of};
-ghost use Rattle.kill.specs.KilledCell.{still_border, OtherCorners};
+ghost use Rattle.kill.specs.KilledCell.{still_border};
 
 use border::{Border, refresh_levels};
 use carried::{blank, put_carried};
@@ -16,8 +17,9 @@ use free::map::FreeMap;
 use patch::freed::free_row;
 use table::flag_bits::FREE;
 use table::plain::link;
-use table::words::{EAST, FLAGS, NORTH, PARENT, SOUTH, WEST, word};
+use table::words::{FLAGS, PARENT, word};
 use table::writes::put;
+use worked::around::{Around, rows_around};
 use worked::{kidless, touched};
 
 // A ghost without a kid goes, and then its parent if that has none left, up to so many levels.
@@ -63,51 +65,34 @@ fn still_used(t: &[i32], n: usize) -> usize
     if word(t, n, FLAGS) == FREE { 0 } else { n }
 }
 
-// The border of the cell n, without the rows that are free.
-fn still_border(
-    t: &[i32],
-    cap: usize,
-    n: usize,
-    north: usize,
-    east: usize,
-    both: usize,
-    south: usize,
-    west: usize,
-) -> Border
-    requires { Plain t.now cap × (n ≤ cap) × (north ≤ cap) × (east ≤ cap) × (both ≤ cap) × (south ≤ cap) × (west ≤ cap) }
-    ensures { Within cap result × (border_of result ≡ still_border t.now n north east both south west) }
+// The border b without the rows that are free. South and west of a killed cell nothing goes.
+fn still_border(t: &[i32], cap: usize, b: Border) -> Border
+    requires { Plain t.now cap × Within cap b }
+    ensures { Within cap result × (border_of result ≡ still_border t.now (border_of b)) }
 {
+    let a = b.around;
     Border {
-        own: still_used(t, n),
-        north: still_used(t, north),
-        east: still_used(t, east),
-        both: still_used(t, both),
-        south,
-        west,
+        own: still_used(t, b.own),
+        around: Around {
+            north: still_used(t, a.north),
+            east: still_used(t, a.east),
+            both: still_used(t, a.both),
+            ..a
+        },
     }
 }
 
-// The cell n is none, and those of its corners that no cell touches any more go.
-fn clear_cell(
-    t: &mut [i32],
-    v: &mut [f64],
-    cap: usize,
-    map: &mut FreeMap,
-    d: u32,
-    n: usize,
-    north: usize,
-    east: usize,
-    both: usize,
-)
-    requires { Plain t.old cap × (cap < length v.old) × (n ≤ cap) × OtherCorners t.old cap n north east both × Maps map.old (free_at (cleared t.old n)) }
-    ensures { (t.new ≡ dropped_corners t.old cap d n) × (v.new ≡ kill_values n v.old) × Plain t.new cap × Maps map.new (free_at t.new) }
+// The cell whose border is b is none, and those of its corners that no cell touches any more go.
+fn clear_cell(t: &mut [i32], v: &mut [f64], cap: usize, map: &mut FreeMap, d: u32, b: Border)
+    requires { Plain t.old cap × (cap < length v.old) × Within cap b × IsAround t.old cap b.own b.around × Maps map.old (free_at (cleared t.old b.own)) }
+    ensures { (t.new ≡ dropped_corners t.old cap d b.own) × (v.new ≡ kill_values b.own v.old) × Plain t.new cap × Maps map.new (free_at t.new) }
 {
-    put(t, n, FLAGS, 0);
-    put_carried(t, v, n, blank());
-    drop_corner(t, cap, map, d, both);
-    drop_corner(t, cap, map, d, north);
-    drop_corner(t, cap, map, d, east);
-    drop_corner(t, cap, map, d, n);
+    put(t, b.own, FLAGS, 0);
+    put_carried(t, v, b.own, blank());
+    drop_corner(t, cap, map, d, b.around.both);
+    drop_corner(t, cap, map, d, b.around.north);
+    drop_corner(t, cap, map, d, b.around.east);
+    drop_corner(t, cap, map, d, b.own);
 }
 
 // Kills the cell n. The map is that of the table when it is no cell, and then that of the table without the rows that go.
@@ -115,12 +100,11 @@ pub fn kill(t: &mut [i32], v: &mut [f64], cap: usize, map: &mut FreeMap, d: u32,
     requires { Plain t.old cap × (cap < length v.old) × (n ≤ cap) × (d ≤ 32) × Maps map.old (free_at (cleared t.old n)) }
     ensures { (t.new ≡ kill_table t.old cap d n) × (v.new ≡ kill_values n v.old) × Maps map.new (free_at (dropped_corners t.old cap d n)) }
 {
-    let north = link(t, cap, n, NORTH);
-    let east = link(t, cap, n, EAST);
-    let both = link(t, cap, east, NORTH);
-    let south = link(t, cap, n, SOUTH);
-    let west = link(t, cap, n, WEST);
-    clear_cell(t, v, cap, map, d, n, north, east, both);
-    let b = still_border(t, cap, n, north, east, both, south, west);
-    refresh_levels(t, cap, d, b);
+    let b = Border {
+        own: n,
+        around: rows_around(t, cap, n),
+    };
+    clear_cell(t, v, cap, map, d, b);
+    let still = still_border(t, cap, b);
+    refresh_levels(t, cap, d, still);
 }
