@@ -7,29 +7,22 @@ use lib.IntN.{ℤ}
 use Rattle.mesh.specs.Picture.{flags_word}
 use Rattle.carried.specs.Carried.{put_status, nothing}
 use Rattle.edit_laws.specs.PatchSteps.{put_word}
-use Rattle.edit_laws.specs.Tables.{Border, refresh_levels, drop_corner, cleared, dropped_corners, kill_table}
+use Rattle.edit_laws.specs.Tables.{Border, refresh_levels, cleared, dropped_corners, kill_table}
 use Rattle.worked.specs.declared.around.Around.{Around}
 use Rattle.worked.specs.Around.{IsAround}
 use Rattle.border.specs.Borders.{border_of}
-use Rattle.kill.specs.KilledCell.{still_border}
+use Rattle.kill.specs.KilledCell.{corners_gone, still_border}
 
 pub cell-cleared : (t : List ℤ) (n : ℕ) {t₁ t₂ : List ℤ} → t₁ ≡ put_word t n flags_word 0 → t₂ ≡ put_status t₁ n nothing → t₂ ≡ cleared t n
 cell-cleared t n h1 h2 = rw (h2, h1)
 
 module _ {t : List ℤ} {cap n : ℕ} {a : Around} (i : IsAround t cap n a) (d : ℕ) where
-  pub corners-gone : {t₁ t₂ t₃ t₄ t₅ : List ℤ} →
-      t₁ ≡ cleared t n →
-      t₂ ≡ drop_corner t₁ cap d a.both →
-      t₃ ≡ drop_corner t₂ cap d a.north →
-      t₄ ≡ drop_corner t₃ cap d a.east →
-      t₅ ≡ drop_corner t₄ cap d n →
-      t₅ ≡ dropped_corners t cap d n
-  corners-gone h1 h2 h3 h4 h5 = rw (h5, h4, h3, h2, h1, i.both, i.east, i.north)
+  abbrev around : Border
+  around = border_of (record { own = n; around = a })
 
-  pub killed : {t₁ t₂ : List ℤ} {b : Border} →
-      t₁ ≡ dropped_corners t cap d n →
-      b ≡ still_border t₁ (border_of (record { own = n; around = a })) →
-      t₂ ≡ refresh_levels 13 b 0 t₁ cap d →
-      t₂ ≡ kill_table t cap d n
+  pub corners-dropped : {t₁ t₂ : List ℤ} → t₁ ≡ cleared t n → t₂ ≡ corners_gone t₁ cap d around → t₂ ≡ dropped_corners t cap d n
+  corners-dropped h1 h2 = rw (h2, h1, i.both, i.east, i.north)
+
+  pub killed : {t₁ t₂ : List ℤ} (b : Border) → t₁ ≡ dropped_corners t cap d n → b ≡ still_border t₁ around → t₂ ≡ refresh_levels 13 b 0 t₁ cap d → t₂ ≡ kill_table t cap d n
   unfolding kill_table
-  killed h1 h2 h3 = rw (h3, h2, h1, i.both, i.east, i.north, i.south, i.west)
+  killed b h1 h2 h3 = rw (h3, h2, h1, i.both, i.east, i.north, i.south, i.west)

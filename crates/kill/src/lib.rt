@@ -7,54 +7,52 @@ ghost use Rattle.table.specs.Words.{free_at};
 ghost use Rattle.table.specs.Plain.{Plain};
 ghost use Rattle.free.specs.FreeMap.{Maps};
 ghost use Rattle.edit_laws.specs.Tables.{drop_up, drop_corner, cleared, dropped_corners, still_used, kill_table, kill_values};
-ghost use Rattle.worked.specs.Around.{IsAround};
+ghost use Rattle.patch.specs.Patches.{Stepped};
 ghost use Rattle.border.specs.Borders.{Within, border_of};
-ghost use Rattle.kill.specs.KilledCell.{still_border};
+ghost use Rattle.kill.specs.KilledCell.{corners_gone, still_border};
 
 use border::{Border, refresh_levels};
 use carried::{blank, put_carried};
 use free::map::FreeMap;
-use patch::freed::free_row;
+use patch::patches::Patches;
 use table::flag_bits::FREE;
-use table::plain::link;
 use table::words::{FLAGS, PARENT, word};
 use table::writes::put;
 use worked::around::{Around, rows_around};
-use worked::{kidless, touched};
 
 // A ghost without a kid goes, and then its parent if that has none left, up to so many levels.
-fn drop_up(t: &mut [i32], cap: usize, map: &mut FreeMap, levels: u32, n: usize)
-    requires { Plain t.old cap × (n ≤ cap) × Maps map.old (free_at t.old) }
-    ensures { (t.new ≡ drop_up levels t.old cap n) × Plain t.new cap × Maps map.new (free_at t.new) }
+fn drop_up(p: &mut Patches, levels: u32, n: usize)
+    requires { n ≤ p.old.cap }
+    ensures { Stepped (λ t cap. drop_up levels t cap n) p.old p.new }
 {
     let mut k = n;
     for _level in 0..levels {
         if k == 0 {
             return;
         }
-        if !kidless(t, cap, k) {
+        if !p.kidless(k) {
             return;
         }
-        let p = link(t, cap, k, PARENT);
-        free_row(t, cap, map, k);
-        k = p;
+        let above = p.link(k, PARENT);
+        p.free_row(k);
+        k = above;
     }
 }
 
 // A corner of the killed cell that no cell touches goes, and the ghosts above it that have no kid left.
-fn drop_corner(t: &mut [i32], cap: usize, map: &mut FreeMap, d: u32, n: usize)
-    requires { Plain t.old cap × (n ≤ cap) × Maps map.old (free_at t.old) }
-    ensures { (t.new ≡ drop_corner t.old cap d n) × Plain t.new cap × Maps map.new (free_at t.new) }
+fn drop_corner(p: &mut Patches, d: u32, n: usize)
+    requires { n ≤ p.old.cap }
+    ensures { Stepped (λ t cap. drop_corner t cap d n) p.old p.new }
 {
     if n == 0 {
         return;
     }
-    if touched(t, cap, n) {
+    if p.touched(n) {
         return;
     }
-    let p = link(t, cap, n, PARENT);
-    free_row(t, cap, map, n);
-    drop_up(t, cap, map, d, p);
+    let above = p.link(n, PARENT);
+    p.free_row(n);
+    drop_up(p, d, above);
 }
 
 // The row n, or 0 if it is free.
@@ -82,17 +80,15 @@ fn still_border(t: &[i32], cap: usize, b: Border) -> Border
     }
 }
 
-// The cell whose border is b is none, and those of its corners that no cell touches any more go.
-fn clear_cell(t: &mut [i32], v: &mut [f64], cap: usize, map: &mut FreeMap, d: u32, b: Border)
-    requires { Plain t.old cap × (cap < length v.old) × Within cap b × IsAround t.old cap b.own b.around × Maps map.old (free_at (cleared t.old b.own)) }
-    ensures { (t.new ≡ dropped_corners t.old cap d b.own) × (v.new ≡ kill_values b.own v.old) × Plain t.new cap × Maps map.new (free_at t.new) }
+// Of the corners of the cell whose border is b those go that no cell touches.
+fn drop_corners(p: &mut Patches, d: u32, b: Border)
+    requires { Within p.old.cap b }
+    ensures { Stepped (λ t cap. corners_gone t cap d (border_of b)) p.old p.new }
 {
-    put(t, b.own, FLAGS, 0);
-    put_carried(t, v, b.own, blank());
-    drop_corner(t, cap, map, d, b.around.both);
-    drop_corner(t, cap, map, d, b.around.north);
-    drop_corner(t, cap, map, d, b.around.east);
-    drop_corner(t, cap, map, d, b.own);
+    drop_corner(p, d, b.around.both);
+    drop_corner(p, d, b.around.north);
+    drop_corner(p, d, b.around.east);
+    drop_corner(p, d, b.own);
 }
 
 // Kills the cell n. The map is that of the table when it is no cell, and then that of the table without the rows that go.
@@ -104,7 +100,9 @@ pub fn kill(t: &mut [i32], v: &mut [f64], cap: usize, map: &mut FreeMap, d: u32,
         own: n,
         around: rows_around(t, cap, n),
     };
-    clear_cell(t, v, cap, map, d, b);
+    put(t, n, FLAGS, 0);
+    put_carried(t, v, n, blank());
+    drop_corners(&mut Patches { t, cap, map }, d, b);
     let still = still_border(t, cap, b);
     refresh_levels(t, cap, d, still);
 }

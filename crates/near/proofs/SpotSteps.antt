@@ -12,7 +12,7 @@ use Rattle.carried.specs.Carried.{put_status, put_amount}
 use Rattle.carried.specs.declared.Carried.{Carried}
 use Rattle.edit_laws.specs.PatchSteps.{put_word}
 use Rattle.edit_laws.specs.Anew.{wall_row, point_row}
-use Rattle.edit_laws.specs.Tables.{Spot, kid_at, kid_spots, wanted_spots, outside_spots, over_spots, at_kid, each_at, refresh_near, put_cell, put_cell_amount, put_amounts}
+use Rattle.edit_laws.specs.Tables.{Spot, spot, kid_at, kid_spots, wanted_spots, outside_spots, over_spots, at_kid, each_at, refresh_near, put_cell, put_cell_amount, put_amounts}
 use Rattle.worked.specs.declared.around.Around.{Around}
 use Rattle.worked.specs.Around.{IsAround}
 use Rattle.near.specs.NearSpots.{corner_spots, side_spots}
@@ -63,6 +63,13 @@ module _ (step : Spot → List ℤ → List ℤ) where
 -- ---- the places near a cell
 
 module _ (t : List ℤ) (cap n : ℕ) where
+  -- a step at each place that the kids want, the last outermost
+  pub over-wanted : (step : Spot → List ℤ → List ℤ) {a : Around} → IsAround t cap n a →
+      step (spot a.both 0 0) (step (spot a.east 0 0) (step (spot a.east 0 1) (step (spot a.north 1 0) (step (spot a.north 0 0) (step (spot n 1 1) (step (spot n 0 1) (step (spot n 1 0) (step (spot n 0 0) t))))))))
+      ≡ over_spots step (wanted_spots t cap n) t
+  unfolding over_spots wanted_spots
+  over-wanted step i = rw (i.both, i.east, i.north)
+
   pub wanted-is : {north east both : ℕ} → north ≡ link_of t cap n 5 → east ≡ link_of t cap n 6 → both ≡ link_of t cap east 5 → wanted_spots t cap n ≡ kid_spots t cap n ++ corner_spots north east both
   unfolding wanted_spots
   wanted-is a b e = rw (e, a, b)

@@ -1,2 +1,3 @@
 -- The bounds that the steps ask for.
 pub mod Small
+pub mod Patches

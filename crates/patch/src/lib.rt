@@ -1,5 +1,5 @@
 // The steps of a change on the words of a table: patches linked in and taken out.
 #![tactic(auto)]
 
-pub mod freed;
 pub mod links;
+pub mod patches;

@@ -1,8 +1,12 @@
 -- `remove::drop_near` meets its contract: kid by kid.
-use Rattle.near.proofs.SpotSteps.{over_none}
-use Rattle.remove.proofs.WholeRemoval.{dropped, all-dropped}
+use mathlib.Core.Path.{◌∙◌}
+use Rattle.edit_laws.specs.Tables.{at_kid, drop_untouched}
+use Rattle.near.proofs.SpotSteps.{over-wanted}
+use Rattle.patch.proofs.Steps.{step_then}
 use Rattle.remove.proofs.drop_near.Goals as goal
 
 pub returns : goal.returns
 returns c =
-    (all-dropped _ _ _ c.link-north.ensures.1 c.link-east.ensures.1 c.link-both.ensures.1 (dropped _ _ _ _ c.kid-sw.ensures.1 c.drop_untouched.ensures.0 (dropped _ _ _ _ c.kid-se.ensures.1 c.drop_untouched-2.ensures.0 (dropped _ _ _ _ c.kid-nw.ensures.1 c.drop_untouched-3.ensures.0 (dropped _ _ _ _ c.kid-ne.ensures.1 c.drop_untouched-4.ensures.0 (dropped _ _ _ _ c.kid-north_sw.ensures.1 c.drop_untouched-5.ensures.0 (dropped _ _ _ _ c.kid-north_se.ensures.1 c.drop_untouched-6.ensures.0 (dropped _ _ _ _ c.kid-east_nw.ensures.1 c.drop_untouched-7.ensures.0 (dropped _ _ _ _ c.kid-east_sw.ensures.1 c.drop_untouched-8.ensures.0 (dropped _ _ _ _ c.kid-both_sw.ensures.1 c.drop_untouched-9.ensures.0 (over_none _ _)))))))))), c.drop_untouched-9.ensures.1, c.drop_untouched-9.ensures.2)
+    let own = step_then (step_then (step_then c.drop_kid.ensures c.drop_kid-2.ensures) c.drop_kid-3.ensures) c.drop_kid-4.ensures in
+    let all = step_then (step_then (step_then (step_then (step_then own c.drop_kid-5.ensures) c.drop_kid-6.ensures) c.drop_kid-7.ensures) c.drop_kid-8.ensures) c.drop_kid-9.ensures in
+    record { same = all.same; words = all.words ∙ over-wanted _ _ _ (at_kid (drop_untouched c.args.p.now.cap) c.args.p.now.cap) c.around-a.ensures.0 }
