@@ -1,12 +1,13 @@
 -- A kid that is linked in under the next free number unless it is there, and the map without that number.
 -- Assumes nothing.
-use mathlib.Core.Path.{◌≡◌, sym, ◌∙◌}
+use mathlib.Core.Path.{◌≡◌, refl, sym, ◌∙◌}
 use mathlib.Core.Logic.{◌≢◌}
 use mathlib.Core.Bool.{Bool, false}
 use mathlib.Core.List.{List}
-use Prim.Native.Nat.{ℕ, ◌+◌, ◌*◌, ◌≤◌, ◌<◌}
+use Prim.Native.Nat.{ℕ, zero, suc, ◌+◌, ◌*◌, ◌/◌, ◌≤◌, ◌<◌}
 use native.Mathlib.Omega.{arith}
 use borrow.Author.Tests.{eq-eqb, ne_eqb}
+use lib.Dec.{lit≤}
 use lib.IntN.{ℤ}
 use lib.ListN.{length}
 use Rattle.mesh.specs.Picture.{row_words}
@@ -18,6 +19,9 @@ use Rattle.free.proofs.FreeRows.{next-in, next-within, next-free}
 use Rattle.edit_laws.specs.PatchSteps.{link_in}
 use Rattle.edit_laws.specs.Tables.{spot, kid_at, supplied}
 use Rattle.edit_laws.proofs.FreeNumbers.{link-in-free}
+use Rattle.patch.specs.declared.patches.Patches.{Patches}
+use Rattle.patch.specs.Patches.{Same, Stepped}
+use Rattle.patch.proofs.Steps.{same_then}
 use Rattle.patch.specs.Small.{AllSmall, Doubled}
 use Rattle.refine.proofs.SmallKids.{all_more}
 
@@ -54,17 +58,32 @@ module _ {t : List ℤ} {cap k : ℕ} {m : List ℕ} (h : Plain t cap) (maps : M
 
 -- ---- one patch after the other
 
-pub record Ready (b : ℕ) (t : List ℤ) (cap d : ℕ) (m : List ℕ) : Type 0 where
-  pub plain : Plain t cap
-  pub small : AllSmall b t cap d
-  pub long : length t ≡ row_words * (cap + 1)
-  pub maps : Maps m (free_at t)
+-- from here on so many times the double is within the bound
+abbrev pub room : ℕ → ℕ
+room zero = 1073741824
+room (suc k) = room k / 2
 
--- what the next one asks for
-pub ready : {b : ℕ} {t : List ℤ} {cap d p w : ℕ} {m : List ℕ} → Ready b t cap d m → b ≤ 1073741824 → p ≤ cap → d ≤ 32 → w < 4
-    → Plain t cap × (p ≤ cap) × (d ≤ 32) × (w < 4) × AllSmall 1073741824 t cap d × (length t ≡ row_words * (cap + 1)) × Maps m (free_at t)
-ready {b} r l h i j = (r.plain, h, i, j, all_more b 1073741824 _ _ _ r.small l, r.long, r.maps)
+room-within : (k : ℕ) → room k ≤ 1073741824
+room-within zero = lit≤ tt
+room-within (suc k) = omega (arith, room-within k)
 
-pub after : {b : ℕ} {t u : List ℤ} {cap d : ℕ} {x : List ℤ} {m m' : List ℕ} → Ready b t cap d m → b ≤ 1073741824
-    → (u ≡ x) × Plain u cap × Doubled t u cap d × Maps m' (free_at u) → length u ≡ length t → Ready (2 * b) u cap d m'
-after {b} r l (_, p, s, h) e = record { plain = p; small = s b l r.small; long = e ∙ r.long; maps = h }
+-- so many more can be linked in
+pub record Ready (k d : ℕ) (p q : Patches) : Type 0 where
+  pub same : Same p q
+  pub small : AllSmall (room k) q.t.now q.cap d
+  pub long : length q.t.now ≡ row_words * (q.cap + 1)
+
+pub start : {p : Patches} {d : ℕ} → AllSmall 1048576 p.t.now p.cap d → length p.t.now ≡ row_words * (p.cap + 1) → Ready 10 d p p
+start s l = record { same = record { cap = refl; long = refl; table = refl; numbers = refl }; small = s; long = l }
+
+module _ {k d : ℕ} {p q : Patches} where
+  -- what the next one asks for
+  pub ready : {n w : ℕ} → Ready k d p q → n ≤ p.cap → d ≤ 32 → w < 4 → (n ≤ q.cap) × (d ≤ 32) × (w < 4) × AllSmall 1073741824 q.t.now q.cap d × (length q.t.now ≡ row_words * (q.cap + 1))
+  ready r h i j = (omega (arith, h, r.same.cap), i, j, all_more (room k) 1073741824 _ _ _ r.small (room-within k), r.long)
+
+  pub after : {r : Patches} {f : List ℤ → ℕ → List ℤ} → Ready (suc k) d p q → Stepped f q r × Doubled q.t.now r.t.now q.cap d → Ready k d p r
+  after {r} z (s, double) = record {
+    same = same_then z.same s.same;
+    small = rw s.same.cap (all_more (2 * (room k / 2)) (room k) _ _ _ (double (room k / 2) (omega (arith, room-within k)) z.small) (omega arith));
+    long = rw (s.same.long, s.same.cap) z.long;
+  }

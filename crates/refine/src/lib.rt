@@ -15,6 +15,7 @@ use crate::supply::supply_near;
 use carried::{carried_at, passed_down};
 use free::map::FreeMap;
 use near::spots::{put_cells, refresh_near};
+use patch::patches::Patches;
 
 // Refines the cell n, with numbers off the map.
 pub fn refine(t: &mut [i32], v: &mut [f64], cap: usize, map: &mut FreeMap, d: u32, n: usize)
@@ -22,7 +23,7 @@ pub fn refine(t: &mut [i32], v: &mut [f64], cap: usize, map: &mut FreeMap, d: u3
     ensures { (t.new ≡ refine_table t.old v.old cap d n) × (v.new ≡ refine_values t.old v.old cap d n) × Maps map.new (free_at (supplied_near t.old cap d n)) }
 {
     let c = passed_down(carried_at(t, v, n));
-    supply_near(t, cap, map, d, n);
+    supply_near(&mut Patches { t, cap, map }, d, n);
     put_cells(t, v, cap, n, 1, c);
     refresh_near(t, cap, d, n);
 }
