@@ -19,7 +19,7 @@ use Rattle.number_laws.proofs.Checks.{loosely}
 use Rattle.refusals.specs.Decide.{refine_rows, sentence_rows, remove_rows, kill_rows, set_rows, refine_refusal, sentence_refusal, remove_refusal, kill_refusal, set_refusal}
 use Rattle.refusals.proofs.Arms.{accepted-within}
 use Rattle.refusals.proofs.Refusing.{refine-refusal, sentence-refusal, remove-refusal, kill-refusal, set-refusal}
-use Rattle.apply.specs.Drawn.{lists, Drawn, Standing}
+use Rattle.apply.specs.Drawn.{lists, Drawn, Pictured}
 use Rattle.apply.specs.Applied.{Applied}
 use Rattle.apply.proofs.Drawing.{from-picture}
 
@@ -69,8 +69,8 @@ module _ (t : List ℤ) (cap n : ℕ) where
 
 -- ---- one that is not refused passes the checks that its effect rests on
 
-pub passed : {cap d : ℕ} {t : List ℤ} {v : List Float} {c : List ℕ} (h : Standing cap d t v c) (q : Request) → Decides q cap d (lists t v c) 0 → refusal (loose_checks h.pictured.state q) ≡ 0
-passed h q x = loosely h.pictured.state q (sym (x h.pictured.state h.pictured.drawn))
+pub passed : {cap d : ℕ} {t : List ℤ} {v : List Float} {c : List ℕ} (h : Pictured cap d (lists t v c)) (q : Request) → Decides q cap d (lists t v c) 0 → refusal (loose_checks h.state q) ≡ 0
+passed h q x = loosely h.state q (sym (x h.state h.drawn))
 
 -- ---- a refused request
 

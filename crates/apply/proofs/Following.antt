@@ -22,7 +22,7 @@ use Rattle.edit_laws.proofs.Starting.{free-numbers, free-kept}
 use Rattle.edit_laws.proofs.Refined.{refine-free}
 use Rattle.edit_laws.proofs.Removal as Removal
 use Rattle.edit_laws.proofs.Killing as Killing
-use Rattle.apply.specs.Drawn.{lists, Pictured, Standing}
+use Rattle.apply.specs.Drawn.{lists, Pictured}
 use Rattle.apply.specs.Applied.{Applied}
 use Rattle.apply.proofs.Drawing.{drawn-words, from-picture}
 use Rattle.apply.proofs.Deciding.{Decides, passed}
@@ -31,49 +31,49 @@ use Rattle.apply.proofs.Deciding.{Decides, passed}
 pub nil-taken : {cap d : ℕ} {t : List ℤ} {v : List Float} {c : List ℕ} → Pictured cap d (lists t v c) → free_at t 0 ≡ false
 nil-taken p = rw (drawn-words p.drawn, free-numbers p.state (valid-numbered p.drawn.valid)) (ap is_free p.drawn.valid.zeroth)
 
-module _ {cap d : ℕ} {t : List ℤ} {v : List Float} {c : List ℕ} (h : Standing cap d t v c) where
+module _ {cap d : ℕ} {t : List ℤ} {v : List Float} {c : List ℕ} (h : Pictured cap d (lists t v c)) where
   abbrev s : State
-  s = h.pictured.state
+  s = h.state
 
   numbered : Numbered s.entries
-  numbered = valid-numbered h.pictured.drawn.valid
+  numbered = valid-numbered h.drawn.valid
 
   on-picture : (P : List ℤ → ℕ → ℕ → Type 0) → P (table s) (capacity s) (base (grid_of s)) → P t cap d
-  on-picture P = from-picture h.pictured.drawn P
+  on-picture P = from-picture h.drawn P
 
   module _ {t' : List ℤ} {v' : List Float} {c' : List ℕ} where
     after : (q : Request) → Applied q cap d (lists t v c) (lists t' v' c') 0 → t' ≡ table (effect s q)
     unfolding marked table
-    after q a = drawn-words (a.done s h.pictured.drawn refl)
+    after q a = drawn-words (a.done s h.drawn refl)
 
     module _ (n : ℕ) where
       -- ---- a cell that changes
 
       pub sentence-free : Applied (sentence n) cap d (lists t v c) (lists t' v' c') 0 → free_at t' ≡ free_at t
       unfolding effect
-      sentence-free a = ap free_at (after (sentence n) a) ∙ free-kept s numbered (place_at s.entries n ∷ []) (new_cell s n sentenced_cell) ∙ ap free_at (sym (drawn-words h.pictured.drawn))
+      sentence-free a = ap free_at (after (sentence n) a) ∙ free-kept s numbered (place_at s.entries n ∷ []) (new_cell s n sentenced_cell) ∙ ap free_at (sym (drawn-words h.drawn))
 
       pub set_free : (x : Float) → Applied (set_value n x) cap d (lists t v c) (lists t' v' c') 0 → free_at t' ≡ free_at t
       unfolding effect
-      set_free x a = ap free_at (after (set_value n x) a) ∙ free-kept s numbered (place_at s.entries n ∷ []) (new_cell s n (measured_cell x)) ∙ ap free_at (sym (drawn-words h.pictured.drawn))
+      set_free x a = ap free_at (after (set_value n x) a) ∙ free-kept s numbered (place_at s.entries n ∷ []) (new_cell s n (measured_cell x)) ∙ ap free_at (sym (drawn-words h.drawn))
 
       -- ---- patches that come and go
 
       pub refine-left : Applied (refine n) cap d (lists t v c) (lists t' v' c') 0 → free_at t' ≡ free_at (supplied_near t cap d n)
-      refine-left a = ap free_at (after (refine n) a) ∙ sym (on-picture (λ t cap d. free_at (supplied_near t cap d n) ≡ free_at (table (effect s (refine n)))) (refine-free s h.pictured.drawn.valid n (passed h (refine n) a.decided)))
+      refine-left a = ap free_at (after (refine n) a) ∙ sym (on-picture (λ t cap d. free_at (supplied_near t cap d n) ≡ free_at (table (effect s (refine n)))) (refine-free s h.drawn.valid n (passed h (refine n) a.decided)))
 
       pub remove-left : Applied (remove n) cap d (lists t v c) (lists t' v' c') 0 → free_at t' ≡ free_at (dropped_near t cap n)
-      remove-left a = ap free_at (after (remove n) a) ∙ sym (on-picture (λ t cap d. free_at (dropped_near t cap n) ≡ free_at (table (effect s (remove n)))) (Removal.dropped-free s h.pictured.drawn.valid n (passed h (remove n) a.decided)))
+      remove-left a = ap free_at (after (remove n) a) ∙ sym (on-picture (λ t cap d. free_at (dropped_near t cap n) ≡ free_at (table (effect s (remove n)))) (Removal.dropped-free s h.drawn.valid n (passed h (remove n) a.decided)))
 
       pub kill-left : Applied (kill n) cap d (lists t v c) (lists t' v' c') 0 → free_at t' ≡ free_at (dropped_corners t cap d n)
-      kill-left a = ap free_at (after (kill n) a) ∙ sym (on-picture (λ t cap d. free_at (dropped_corners t cap d n) ≡ free_at (table (effect s (kill n)))) (Killing.dropped-free s h.pictured.drawn.valid n (passed h (kill n) a.decided)))
+      kill-left a = ap free_at (after (kill n) a) ∙ sym (on-picture (λ t cap d. free_at (dropped_corners t cap d n) ≡ free_at (table (effect s (kill n)))) (Killing.dropped-free s h.drawn.valid n (passed h (kill n) a.decided)))
 
   module _ (n : ℕ) where
     pub remove_first : Decides (remove n) cap d (lists t v c) 0 → free_at (emptied t cap n) ≡ free_at t
-    remove_first x = on-picture (λ t cap d. free_at (emptied t cap n) ≡ free_at t) (Removal.emptied-free s h.pictured.drawn.valid n (passed h (remove n) x))
+    remove_first x = on-picture (λ t cap d. free_at (emptied t cap n) ≡ free_at t) (Removal.emptied-free s h.drawn.valid n (passed h (remove n) x))
 
     pub kill-first : Decides (kill n) cap d (lists t v c) 0 → free_at (cleared t n) ≡ free_at t
-    kill-first x = on-picture (λ t cap d. free_at (cleared t n) ≡ free_at t) (Killing.cleared-free s h.pictured.drawn.valid n (passed h (kill n) x))
+    kill-first x = on-picture (λ t cap d. free_at (cleared t n) ≡ free_at t) (Killing.cleared-free s h.drawn.valid n (passed h (kill n) x))
 
 -- ---- the map
 

@@ -5,4 +5,5 @@ pub mod Deciding
 pub mod Tallying
 pub mod Applying
 pub mod Following
+pub mod Keeping
 pub mod Asking

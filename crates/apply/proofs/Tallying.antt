@@ -18,7 +18,7 @@ use Rattle.tally.specs.TallyRows.{Placed, LevelBelow, KidsPlaced, refined_move, 
 use Rattle.tally.proofs.Moving.{Balanced, can-move, moves-on}
 use Rattle.tally.proofs.RequestMoves.{refine-placed, refine-balanced, remove-placed, remove-balanced, kill-placed, kill-balanced, set-placed, set-balanced}
 use Rattle.refusals.specs.Decide.{refine_refusal, remove_refusal, kill_refusal, set_refusal}
-use Rattle.apply.specs.Drawn.{lists, Drawn, Standing}
+use Rattle.apply.specs.Drawn.{lists, Drawn, Pictured}
 use Rattle.apply.proofs.Drawing.{drawn-words, drawn-values, drawn-counts}
 use Rattle.apply.proofs.Deciding.{passed, refine-decides, remove-decides, kill-decides, set-decides}
 
@@ -58,9 +58,9 @@ module _ {s : State} {cap d : ℕ} {t : List ℤ} {v : List Float} {c : List ℕ
 
 -- ---- what the code asks for, once the request is not refused
 
-module _ {cap d : ℕ} {t : List ℤ} {v : List Float} {c : List ℕ} (h : Standing cap d t v c) (n : ℕ) where
-  drawn : Drawn h.pictured.state cap d (lists t v c)
-  drawn = h.pictured.drawn
+module _ {cap d : ℕ} {t : List ℤ} {v : List Float} {c : List ℕ} (h : Pictured cap d (lists t v c)) (n : ℕ) where
+  drawn : Drawn h.state cap d (lists t v c)
+  drawn = h.drawn
 
   module _ {given : ℕ} (z : given ≡ 0) where
     pub refine-asks : given ≡ refine_refusal t cap n → Placed t v n × LevelBelow t n × Movable c (refined_move t v n)

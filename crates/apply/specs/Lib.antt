@@ -2,3 +2,4 @@
 pub mod Drawn
 pub mod Applied
 pub mod Asked
+pub mod Edited

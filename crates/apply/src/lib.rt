@@ -1,15 +1,10 @@
-// One request on a table: it is decided first, and a refused one writes nothing. Each function answers the refusal, 0 for none. The map of free numbers
-// and the leaf counts go along: the counts move by the rows as they are before the request writes.
+// One request on a lent table: it is decided first, and a refused one writes nothing. The counts move by the rows as they are before it writes.
 #![tactic(auto)]
 
-ghost use Rattle.std.specs.Prelude.{◌≡◌};
 ghost use Rattle.mesh.specs.Request.{refine, sentence, remove, kill, set_value};
-ghost use Rattle.table.specs.Words.{free_at};
-ghost use Rattle.free.specs.FreeMap.{Maps};
 ghost use Rattle.answer.specs.Refusals.{refusal_of};
-ghost use Rattle.apply.specs.Drawn.{lists, Standing};
-ghost use Rattle.apply.specs.Applied.{Applied};
 ghost use Rattle.apply.specs.Asked.{Whole, AppliedAt};
+ghost use Rattle.apply.specs.Edited.{held, Ready, Kept, Requested};
 
 use answer::Refusal;
 use free::map::FreeMap;
@@ -21,113 +16,122 @@ use refusals::requests::{
 };
 use tally::moves::{killed, refined, removed, valued};
 
-pub fn refine(
-    t: &mut [i32],
-    v: &mut [f64],
-    c: &mut [u32],
-    cap: usize,
-    map: &mut FreeMap,
-    d: u32,
-    n: usize,
-) -> Result<(), Refusal>
-    requires { Standing cap d t.old v.old c.old × Maps map.old (free_at t.old) }
-    ensures { Applied (refine n) cap d (lists t.old v.old c.old) (lists t.new v.new c.new) (refusal_of result) × Maps map.new (free_at t.new) }
-{
-    refine_refusal(t, cap, n, map.count())?;
-    refined(t, v, c, cap, n);
-    refine::refine(t, v, cap, map, d, n);
-    Ok(())
+/// A lent table while requests edit it: its words, its values and its leaf counts, with level 0 at that depth, and the map of its free numbers.
+#[derive(Drop)]
+pub struct EditedTable<'t, 'v, 'c> {
+    pub words: &'t mut [i32],
+    pub values: &'v mut [f64],
+    pub counts: &'c mut [u32],
+    pub capacity: usize,
+    pub depth: u32,
+    pub map: FreeMap,
 }
 
-pub fn sentence(
-    t: &mut [i32],
-    v: &[f64],
-    c: &[u32],
-    cap: usize,
-    d: u32,
-    n: usize,
-) -> Result<(), Refusal>
-    requires { Standing cap d t.old v.now c.now }
-    ensures { Applied (sentence n) cap d (lists t.old v.now c.now) (lists t.new v.now c.now) (refusal_of result) × (free_at t.new ≡ free_at t.old) }
-{
-    sentence_refusal(t, cap, n)?;
-    sentence_at(t, n);
-    Ok(())
-}
+impl EditedTable<'_, '_, '_> {
+    pub fn refine(&mut self, n: usize) -> Result<(), Refusal>
+        requires { Ready self.old }
+        ensures { Requested (refine n) self.old self.new (refusal_of result) }
+    {
+        let cap = self.capacity;
+        let d = self.depth;
+        let EditedTable {
+            words,
+            values,
+            counts,
+            map,
+            ..
+        } = self;
+        let words = &mut **words;
+        let values = &mut **values;
+        refine_refusal(words, cap, n, map.count())?;
+        refined(words, values, counts, cap, n);
+        refine::refine(words, values, cap, map, d, n);
+        Ok(())
+    }
 
-pub fn remove(
-    t: &mut [i32],
-    v: &mut [f64],
-    c: &mut [u32],
-    cap: usize,
-    map: &mut FreeMap,
-    d: u32,
-    n: usize,
-) -> Result<(), Refusal>
-    requires { Standing cap d t.old v.old c.old × Maps map.old (free_at t.old) }
-    ensures { Applied (remove n) cap d (lists t.old v.old c.old) (lists t.new v.new c.new) (refusal_of result) × Maps map.new (free_at t.new) }
-{
-    remove_refusal(t, cap, n)?;
-    removed(t, v, c, cap, n);
-    remove::remove(t, v, cap, map, d, n);
-    Ok(())
-}
+    pub fn sentence(&mut self, n: usize) -> Result<(), Refusal>
+        requires { Ready self.old }
+        ensures { Requested (sentence n) self.old self.new (refusal_of result) }
+    {
+        let cap = self.capacity;
+        let words = &mut *self.words;
+        sentence_refusal(words, cap, n)?;
+        sentence_at(words, n);
+        Ok(())
+    }
 
-pub fn kill(
-    t: &mut [i32],
-    v: &mut [f64],
-    c: &mut [u32],
-    cap: usize,
-    map: &mut FreeMap,
-    d: u32,
-    n: usize,
-) -> Result<(), Refusal>
-    requires { Standing cap d t.old v.old c.old × Maps map.old (free_at t.old) }
-    ensures { Applied (kill n) cap d (lists t.old v.old c.old) (lists t.new v.new c.new) (refusal_of result) × Maps map.new (free_at t.new) }
-{
-    kill_refusal(t, cap, d, n)?;
-    killed(t, v, c, cap, n);
-    kill::kill(t, v, cap, map, d, n);
-    Ok(())
-}
+    pub fn remove(&mut self, n: usize) -> Result<(), Refusal>
+        requires { Ready self.old }
+        ensures { Requested (remove n) self.old self.new (refusal_of result) }
+    {
+        let cap = self.capacity;
+        let d = self.depth;
+        let EditedTable {
+            words,
+            values,
+            counts,
+            map,
+            ..
+        } = self;
+        let words = &mut **words;
+        let values = &mut **values;
+        remove_refusal(words, cap, n)?;
+        removed(words, values, counts, cap, n);
+        remove::remove(words, values, cap, map, d, n);
+        Ok(())
+    }
 
-pub fn set_value(
-    t: &mut [i32],
-    v: &mut [f64],
-    c: &mut [u32],
-    cap: usize,
-    d: u32,
-    n: usize,
-    x: f64,
-) -> Result<(), Refusal>
-    requires { Standing cap d t.old v.old c.old }
-    ensures { Applied (set_value n x) cap d (lists t.old v.old c.old) (lists t.new v.new c.new) (refusal_of result) × (free_at t.new ≡ free_at t.old) }
-{
-    set_refusal(t, cap, n, x)?;
-    valued(t, v, c, cap, n, x);
-    set_at(t, v, n, x);
-    Ok(())
-}
+    pub fn kill(&mut self, n: usize) -> Result<(), Refusal>
+        requires { Ready self.old }
+        ensures { Requested (kill n) self.old self.new (refusal_of result) }
+    {
+        let cap = self.capacity;
+        let d = self.depth;
+        let EditedTable {
+            words,
+            values,
+            counts,
+            map,
+            ..
+        } = self;
+        let words = &mut **words;
+        let values = &mut **values;
+        kill_refusal(words, cap, d, n)?;
+        killed(words, values, counts, cap, n);
+        kill::kill(words, values, cap, map, d, n);
+        Ok(())
+    }
 
-// The request whose kind byte stands at `at`: each kind reads its own body.
-pub fn request(
-    t: &mut [i32],
-    v: &mut [f64],
-    c: &mut [u32],
-    cap: usize,
-    map: &mut FreeMap,
-    d: u32,
-    tape: &[u8],
-    at: usize,
-) -> Result<(), Refusal>
-    requires { Standing cap d t.old v.old c.old × Maps map.old (free_at t.old) × Whole tape.now at }
-    ensures { AppliedAt tape.now at cap d (lists t.old v.old c.old) (lists t.new v.new c.new) (refusal_of result) × Maps map.new (free_at t.new) }
-{
-    match Kind::try_from(tape[at])? {
-        Kind::Refine => refine(t, v, c, cap, map, d, number_at(tape, at)),
-        Kind::Sentence => sentence(t, v, c, cap, d, number_at(tape, at)),
-        Kind::Remove => remove(t, v, c, cap, map, d, number_at(tape, at)),
-        Kind::Kill => kill(t, v, c, cap, map, d, number_at(tape, at)),
-        Kind::SetValue => set_value(t, v, c, cap, d, number_at(tape, at), value_at(tape, at)),
+    pub fn set_value(&mut self, n: usize, x: f64) -> Result<(), Refusal>
+        requires { Ready self.old }
+        ensures { Requested (set_value n x) self.old self.new (refusal_of result) }
+    {
+        let cap = self.capacity;
+        let EditedTable {
+            words,
+            values,
+            counts,
+            ..
+        } = self;
+        let words = &mut **words;
+        let values = &mut **values;
+        set_refusal(words, cap, n, x)?;
+        valued(words, values, counts, cap, n, x);
+        set_at(words, values, n, x);
+        Ok(())
+    }
+
+    // The request whose kind byte stands at `at`: each kind reads its own body.
+    pub fn request(&mut self, tape: &[u8], at: usize) -> Result<(), Refusal>
+        requires { Ready self.old × Whole tape.now at }
+        ensures { AppliedAt tape.now at self.old.capacity self.old.depth (held self.old) (held self.new) (refusal_of result) × Kept self.old self.new }
+    {
+        match Kind::try_from(tape[at])? {
+            Kind::Refine => self.refine(number_at(tape, at)),
+            Kind::Sentence => self.sentence(number_at(tape, at)),
+            Kind::Remove => self.remove(number_at(tape, at)),
+            Kind::Kill => self.kill(number_at(tape, at)),
+            Kind::SetValue => self.set_value(number_at(tape, at), value_at(tape, at)),
+        }
     }
 }

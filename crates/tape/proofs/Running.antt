@@ -12,9 +12,10 @@ use Rattle.mesh.specs.State.{State, Header}
 use Rattle.mesh.specs.LeafCounts.{Counted}
 use Rattle.mesh.specs.Tape.{run_from, run}
 use Rattle.mesh.proofs.Runs.{run_end}
-use Rattle.apply.specs.Drawn.{lists, Drawn, Pictured, Standing}
+use Rattle.apply.specs.Drawn.{lists, Drawn, Pictured}
+use Rattle.apply.specs.Edited.{held, Ready, Kept}
+use Rattle.apply.specs.declared.EditedTable.{EditedTable}
 use Rattle.tape.specs.Ran.{Turned, Ran}
-use Rattle.apply.proofs.Tamed.{drawn-tame, drawn-ranged}
 
 -- the run from s goes on from a state that is pictured now
 pub record Present (s : State) (cap d : ℕ) (l : Header → Counted) (bytes : List ℕ) (at done mark₀ mark : ℕ) : Type 0 where
@@ -34,9 +35,9 @@ module _ (bytes : List ℕ) (cap d mark₀ : ℕ) (l₀ : Header → Counted) wh
   starts = record { within = omega arith; few = omega arith; present = λ s p. record { state = s; drawn = p; is-mark = λ m. m; goes_on = refl } }
 
   module _ {t : List ℤ} {v : List Float} {c : List ℕ} {at done mark : ℕ} (o : Ongoing (lists t v c) at done mark) where
-    -- what the code asks for, at each request
-    pub asked-for : Pictured cap d l₀ → Standing cap d t v c
-    asked-for p = let x = o.present p.state p.drawn in record { ranged = drawn-ranged x.drawn; tame = drawn-tame x.drawn; pictured = record { state = x.state; drawn = x.drawn } }
+    -- at each request some state is pictured
+    pub still-pictured : Pictured cap d l₀ → Pictured cap d (lists t v c)
+    still-pictured p = let x = o.present p.state p.drawn in record { state = x.state; drawn = x.drawn }
 
     module _ {t' : List ℤ} {v' : List Float} {c' : List ℕ} {given next : ℕ} (u : Turned bytes at cap d (lists t v c) (lists t' v' c') given next) where
       pub goes-next : {mark' : ℕ} → given ≡ 0 → mark' ≡ (mark + 1) % 65536 → Ongoing (lists t' v' c') next (done + 1) mark'
@@ -64,3 +65,22 @@ module _ (bytes : List ℕ) (cap d mark₀ : ℕ) (l₀ : Header → Counted) wh
           rw (x.goes_on, drop_of_length-le bytes h, run_end x.state done at 0) (refl, refl, refl, x.drawn);
       marks = λ s p n. let x = o.present s p in rw (x.goes_on, drop_of_length-le bytes h, run_end x.state done at 0) (x.is-mark n);
     }
+
+-- ---- the table that is edited
+
+module _ {bytes : List ℕ} {mark₀ : ℕ} {e₀ e : EditedTable} {at done mark : ℕ} (o : Ongoing bytes e₀.capacity e₀.depth mark₀ (held e₀) (held e) at done mark) (k : Kept e₀ e) where
+  pub ready : Pictured e₀.capacity e₀.depth (held e₀) → Ready e
+  ready p = record { pictured = rw (k.same-capacity, k.same-depth) (still-pictured _ _ _ _ _ o p); maps = k.maps }
+
+  pub turned-so : {l' : Header → Counted} {given next : ℕ} → Turned bytes at e.capacity e.depth (held e) l' given next → Turned bytes at e₀.capacity e₀.depth (held e) l' given next
+  turned-so u = rw (← k.same-capacity, ← k.same-depth) u
+
+pub kept-on : {e₀ e e' : EditedTable} → Kept e₀ e → Kept e e' → Kept e₀ e'
+kept-on k l = record {
+  same-words = l.same-words ∙ k.same-words;
+  same-values = l.same-values ∙ k.same-values;
+  same-counts = l.same-counts ∙ k.same-counts;
+  same-capacity = l.same-capacity ∙ k.same-capacity;
+  same-depth = l.same-depth ∙ k.same-depth;
+  maps = l.maps;
+}

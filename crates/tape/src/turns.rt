@@ -1,34 +1,24 @@
 // The requests of a tape, one after the other, up to the first that is refused.
 ghost use Rattle.std.specs.Prelude.{◌<◌, length};
-ghost use Rattle.table.specs.Words.{free_at};
-ghost use Rattle.free.specs.FreeMap.{Maps};
 ghost use Rattle.answer.specs.Refusals.{refusal_of, value_or, stop_of};
-ghost use Rattle.apply.specs.Drawn.{lists, Standing, Pictured};
+ghost use Rattle.apply.specs.Drawn.{lists, Pictured};
+ghost use Rattle.apply.specs.Edited.{held, Ready, Kept};
 ghost use Rattle.tape.specs.Ran.{Turned, Ran};
 
 use answer::{Refusal, refuse_if};
-use apply::request;
+use apply::EditedTable;
 use free::map::FreeMap;
 use header::next_mark;
 use kinds::kind::Kind;
 
 // The request whose kind byte stands at `at`; the offset of the next kind byte.
-fn turn_at(
-    t: &mut [i32],
-    v: &mut [f64],
-    c: &mut [u32],
-    cap: usize,
-    map: &mut FreeMap,
-    d: u32,
-    tape: &[u8],
-    at: usize,
-) -> Result<usize, Refusal>
-    requires { Standing cap d t.old v.old c.old × Maps map.old (free_at t.old) × (at < length tape.now) }
-    ensures { Turned tape.now at cap d (lists t.old v.old c.old) (lists t.new v.new c.new) (refusal_of result) (value_or at result) × Maps map.new (free_at t.new) }
+fn turn_at(edited: &mut EditedTable, tape: &[u8], at: usize) -> Result<usize, Refusal>
+    requires { Ready edited.old × (at < length tape.now) }
+    ensures { Turned tape.now at edited.old.capacity edited.old.depth (held edited.old) (held edited.new) (refusal_of result) (value_or at result) × Kept edited.old edited.new }
 {
     let len = Kind::try_from(tape[at])?.body_length();
     refuse_if(tape.len() - at <= len, Refusal::CutOff)?;
-    request(t, v, c, cap, map, d, tape, at)?;
+    edited.request(tape, at)?;
     Ok(at + 1 + len)
 }
 
@@ -60,9 +50,17 @@ pub fn run_tape(
         offset: 0,
         mark,
     };
-    let mut map = FreeMap::load(t, cap);
+    let map = FreeMap::load(t, cap);
+    let mut edited = EditedTable {
+        words: t,
+        values: v,
+        counts: c,
+        capacity: cap,
+        depth: d,
+        map,
+    };
     while run.offset < tape.len() {
-        match turn_at(t, v, c, cap, &mut map, d, tape, run.offset) {
+        match turn_at(&mut edited, tape, run.offset) {
             Ok(next) => {
                 run.done += 1;
                 run.offset = next;

@@ -1,9 +1,10 @@
 -- `tape::turns::run_tape` meets its contract: the invariant is that the rules' run goes on from the state that is pictured now and that the map is of
 -- its free numbers, and the measure how much of the tape is left.
-use Rattle.std.proofs.Common.{refl}
+use Rattle.std.proofs.Common.{rules, refl}
 use Rattle.apply.proofs.Following.{nil-taken}
-use Rattle.tape.proofs.Running.{starts, asked-for, goes-next, ran_over}
+use Rattle.tape.proofs.Running.{starts, goes-next, ran_over, ready, turned-so, kept-on}
 use Rattle.apply.proofs.Tamed.{drawn-ranged}
+use Rattle.apply.proofs.Keeping.{unchanged}
 use Rattle.tape.proofs.turns.run_tape.Goals as goal
 
 pub load-map-requires : goal.load-map-requires
@@ -13,20 +14,24 @@ load-map-requires c =
     (r.words, r.cap-to, nil-taken p)
 
 pub loop-run-init : goal.loop-run-init
-loop-run-init c = (starts _ _ _ _ _, c.load-map.ensures, refl)
+loop-run-init c = (starts _ _ _ _ _, unchanged (record { pictured = c.requires; maps = c.load-map.ensures }), refl)
 
 pub turn_at-requires : goal.turn_at-requires
 turn_at-requires c =
-    let (ongoing, maps, _) = c.loop-run.invariant in
-    (asked-for _ _ _ _ _ ongoing c.requires, maps, c.loop-run-test.true)
+    let (ongoing, kept, _) = c.loop-run.invariant in
+    (ready ongoing kept c.requires, c.loop-run-test.true)
 
 pub loop-run-preserved : goal.loop-run-preserved
 loop-run-preserved c =
-    let (ongoing, _, none) = c.loop-run.invariant in
-    let (turned, maps) = c.in-Ok.ensures in
-    (goes-next _ _ _ _ _ ongoing turned refl c.next_mark.ensures, maps, none)
+    let (ongoing, kept, none) = c.loop-run.invariant in
+    let (turned, on) = c.in-Ok.ensures in
+    (goes-next _ _ _ _ _ ongoing (turned-so ongoing kept turned) refl c.next_mark.ensures, kept-on kept on, none)
 
 pub returns : goal.returns
 returns c =
-    let (ongoing, _, none) = c.loop-run.invariant in
-    rw none (ran_over _ _ _ _ _ ongoing c.loop-run-test.false)
+    let (ongoing, kept, none) = c.loop-run.invariant in
+    let words = kept.same-words in
+    let values = kept.same-values in
+    let counts = kept.same-counts in
+    let ran = ran_over _ _ _ _ _ ongoing c.loop-run-test.false in
+    rw none (search rules)

@@ -4,17 +4,14 @@ use Prim.Native.Nat.{◌-◌}
 use mathlib.Core.Path.{◌≡◌}
 use lib.ListN.{length}
 use Rattle.std.specs.Prelude.{None}
-use Rattle.table.specs.Words.{free_at}
-use Rattle.free.specs.FreeMap.{Maps}
-use Rattle.apply.specs.Drawn.{lists}
+use Rattle.apply.specs.Edited.{held, Kept}
 use Rattle.tape.proofs.Running.{Ongoing}
 use Rattle.tape.proofs.turns.run_tape.Given as goal
 
 abbrev pub invariant-loop-run : goal.invariant-loop-run
 invariant-loop-run l =
     let i = l.initial in
-    Ongoing l.tape l.cap l.d l.mark (lists i.t i.v i.c) (lists l.t l.v l.c) l.run.offset l.run.done l.run.mark
-    × Maps l.map (free_at l.t) × (l.run.refusal ≡ None)
+    Ongoing l.tape l.cap l.d l.mark (held i.edited) (held l.edited) l.run.offset l.run.done l.run.mark × Kept i.edited l.edited × (l.run.refusal ≡ None)
 
 abbrev pub decreases-loop-run : goal.decreases-loop-run
 decreases-loop-run l = length l.tape - l.run.offset
