@@ -3,13 +3,12 @@
 
 ghost use Rattle.mesh.specs.Request.{refine, sentence, remove, kill, set_value};
 ghost use Rattle.answer.specs.Refusals.{refusal_of};
-ghost use Rattle.apply.specs.Asked.{Whole, AppliedAt};
-ghost use Rattle.apply.specs.Edited.{held, Ready, Kept, Requested};
+ghost use Rattle.kinds.specs.Requests.{request_of};
+ghost use Rattle.apply.specs.Edited.{Ready, Requested};
 
 use answer::Refusal;
 use free::map::FreeMap;
-use kinds::kind::Kind;
-use kinds::{number_at, value_at};
+use kinds::requests::Request;
 use refusals::one_row::{sentence_at, set_at};
 use refusals::requests::{
     kill_refusal, refine_refusal, remove_refusal, sentence_refusal, set_refusal,
@@ -121,17 +120,16 @@ impl EditedTable<'_, '_, '_> {
         Ok(())
     }
 
-    // The request whose kind byte stands at `at`: each kind reads its own body.
-    pub fn request(&mut self, tape: &[u8], at: usize) -> Result<(), Refusal>
-        requires { Ready self.old × Whole tape.now at }
-        ensures { AppliedAt tape.now at self.old.capacity self.old.depth (held self.old) (held self.new) (refusal_of result) × Kept self.old self.new }
+    pub fn request(&mut self, asked: Request) -> Result<(), Refusal>
+        requires { Ready self.old }
+        ensures { Requested (request_of asked) self.old self.new (refusal_of result) }
     {
-        match Kind::try_from(tape[at])? {
-            Kind::Refine => self.refine(number_at(tape, at)),
-            Kind::Sentence => self.sentence(number_at(tape, at)),
-            Kind::Remove => self.remove(number_at(tape, at)),
-            Kind::Kill => self.kill(number_at(tape, at)),
-            Kind::SetValue => self.set_value(number_at(tape, at), value_at(tape, at)),
+        match asked {
+            Request::Refine(n) => self.refine(n),
+            Request::Sentence(n) => self.sentence(n),
+            Request::Remove(n) => self.remove(n),
+            Request::Kill(n) => self.kill(n),
+            Request::SetValue(n, x) => self.set_value(n, x),
         }
     }
 }

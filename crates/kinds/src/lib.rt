@@ -2,6 +2,7 @@
 #![tactic(auto)]
 
 pub mod kind;
+pub mod requests;
 
 ghost use Rattle.std.specs.Prelude.{◌≡◌, ◌+◌, ◌≤◌, ◌<◌, length, drop};
 ghost use Rattle.mesh.specs.Tape.{field, number_in};

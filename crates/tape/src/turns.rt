@@ -5,21 +5,20 @@ ghost use Rattle.apply.specs.Drawn.{lists, Pictured};
 ghost use Rattle.apply.specs.Edited.{held, Ready, Kept};
 ghost use Rattle.tape.specs.Ran.{Turned, Ran};
 
-use answer::{Refusal, refuse_if};
+use answer::Refusal;
 use apply::EditedTable;
 use free::map::FreeMap;
 use header::next_mark;
-use kinds::kind::Kind;
+use kinds::requests::Request;
 
 // The request whose kind byte stands at `at`; the offset of the next kind byte.
 fn turn_at(edited: &mut EditedTable, tape: &[u8], at: usize) -> Result<usize, Refusal>
     requires { Ready edited.old × (at < length tape.now) }
     ensures { Turned tape.now at edited.old.capacity edited.old.depth (held edited.old) (held edited.new) (refusal_of result) (value_or at result) × Kept edited.old edited.new }
 {
-    let len = Kind::try_from(tape[at])?.body_length();
-    refuse_if(tape.len() - at <= len, Refusal::CutOff)?;
-    edited.request(tape, at)?;
-    Ok(at + 1 + len)
+    let (asked, next) = Request::read(tape, at)?;
+    edited.request(asked)?;
+    Ok(next)
 }
 
 // The requests done, what the next one is refused for, the offset of its kind byte or the tape's length, and the mark.
@@ -61,9 +60,9 @@ pub fn run_tape(
     };
     while run.offset < tape.len() {
         match turn_at(&mut edited, tape, run.offset) {
-            Ok(next) => {
+            Ok(offset) => {
                 run.done += 1;
-                run.offset = next;
+                run.offset = offset;
                 run.mark = next_mark(run.mark);
             }
             Err(refusal) => {
