@@ -7,7 +7,7 @@ ghost use Rattle.face.specs.Outputs.{Builds, Tapes, Checks, Counts, Scans, Looks
 
 use answer::{number_of, stop_number};
 use header::Header;
-use lookup::{Leaf, amount_of, status_of};
+use lookup::Leaf;
 use scan::four;
 
 // Builds the rectangle of level-0 cells, open or closed to a ring, and says the number in use.
@@ -119,8 +119,8 @@ pub fn grid_lookup(
     let found = grid::lookup(*header, table, values, capacity, speed, load);
     let leaf = found.unwrap_or(Leaf::NONE);
     *number = leaf.number;
-    *status = status_of(leaf.reading);
-    *value = amount_of(leaf.reading);
+    *status = leaf.reading.status();
+    *value = leaf.reading.amount();
     number_of(found)
 }
 
