@@ -1,5 +1,2 @@
--- The tests of what stands in a row, as the code makes them from what it read, are those of the definitions.
-pub mod EmptyRows
+-- The flags that the code sums up are those of the definitions.
 pub mod FlagSums
-pub mod CellRows
-pub mod ValueRows

@@ -9,6 +9,7 @@ use table::flag_bits::COMPLETE;
 use table::words::PARENT;
 
 // A blank row has the value +0, and its parent is blank if it is a cell.
+#[tactic(auto, unfolding(checker_laws::specs::Rowwise::blank_ok))]
 pub fn blank_ok(rows: &Rows, n: usize) -> bool
     requires { n ≤ rows.now.cap }
     ensures { result ≡ blank_ok rows.now.t.now rows.now.cap rows.now.v.now n }
@@ -31,6 +32,7 @@ fn carried_ok(rows: &Rows, n: usize) -> bool
 }
 
 // A row that is not blank is a cell with a finite value, measured or carried.
+#[tactic(auto, unfolding(checker_laws::specs::Rowwise::held_ok))]
 pub fn held_ok(rows: &Rows, n: usize) -> bool
     requires { n ≤ rows.now.cap }
     ensures { result ≡ held_ok rows.now.t.now rows.now.cap rows.now.v.now n }
@@ -48,6 +50,7 @@ pub fn held_ok(rows: &Rows, n: usize) -> bool
     carried_ok(rows, n)
 }
 
+#[tactic(auto, unfolding(checker_laws::specs::Rowwise::value_ok))]
 pub fn value_ok(rows: &Rows, n: usize) -> bool
     requires { n ≤ rows.now.cap }
     ensures { result ≡ value_ok rows.now.t.now rows.now.cap rows.now.v.now n }

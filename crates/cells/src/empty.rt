@@ -31,6 +31,7 @@ fn unlinked(rows: &Rows, n: usize) -> bool
 }
 
 // Whether the row n has nothing but flags.
+#[tactic(auto, unfolding(checker_laws::specs::Rowwise::empty_ok))]
 pub fn empty_ok(rows: &Rows, n: usize) -> bool
     requires { n ≤ rows.now.cap }
     ensures { result ≡ empty_ok rows.now.t.now rows.now.v.now n }
@@ -39,6 +40,7 @@ pub fn empty_ok(rows: &Rows, n: usize) -> bool
 }
 
 // Whether row 0 is the nil patch.
+#[tactic(auto, unfolding(checker_laws::specs::Rowwise::zero_ok))]
 pub fn zero_ok(rows: &Rows) -> bool
     ensures { result ≡ zero_ok rows.now.t.now rows.now.v.now }
 {

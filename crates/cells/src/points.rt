@@ -11,6 +11,7 @@ use table::words::{EAST, FLAGS, INDEX_I, INDEX_J, NE_KID, NORTH, NW_KID, PARENT,
 use worked::{kidless, touched};
 
 // A ghost has flags 0 and a kid.
+#[tactic(auto, unfolding(checker_laws::specs::Rowwise::ghost_ok))]
 pub fn ghost_ok(rows: &Rows, n: usize) -> bool
     requires { n ≤ rows.now.cap }
     ensures { result ≡ ghost_ok rows.now.t.now rows.now.cap n }
@@ -55,6 +56,7 @@ fn inside(rows: &Rows, n: usize) -> bool
 }
 
 // A cell has its patches E, N and NE, and its kids are four cells or none.
+#[tactic(auto, unfolding(checker_laws::specs::Rowwise::cell_ok))]
 pub fn cell_ok(rows: &Rows, n: usize) -> bool
     requires { n ≤ rows.now.cap }
     ensures { result ≡ cell_ok (header_of rows.now.header).grid rows.now.t.now rows.now.cap rows.now.d n }
@@ -72,6 +74,7 @@ pub fn cell_ok(rows: &Rows, n: usize) -> bool
 }
 
 // A sentenced row is a leaf above level 0.
+#[tactic(auto, unfolding(checker_laws::specs::Rowwise::sentence_ok))]
 pub fn sentence_ok(rows: &Rows, n: usize) -> bool
     requires { n ≤ rows.now.cap }
     ensures { result ≡ sentence_ok rows.now.t.now rows.now.cap rows.now.d n }
@@ -88,6 +91,7 @@ fn sentence_if(rows: &Rows, n: usize, sentenced: bool) -> bool
 }
 
 // A row from level 0 up.
+#[tactic(auto, unfolding(checker_laws::specs::Rowwise::point_ok, checker_laws::specs::Rowwise::sentence_ok))]
 pub fn point_ok(rows: &Rows, n: usize) -> bool
     requires { n ≤ rows.now.cap }
     ensures { result ≡ point_ok (header_of rows.now.header).grid rows.now.t.now rows.now.cap rows.now.d n }
