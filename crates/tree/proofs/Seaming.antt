@@ -4,7 +4,7 @@ use Prim.Native.Nat.{ℕ, suc, ◌+◌, ◌-◌, ◌%◌, ◌≤◌}
 use native.Mathlib.Omega.{arith}
 use native.Mathlib.Decide.{ℕ_discrete}
 use mathlib.Core.Path.{◌≡◌, refl, sym, ap, ◌∙◌}
-use mathlib.Core.Bool.{Bool, true, false, not, ◌&&◌, ◌||◌, cond, and-true, and-false, and_assoc}
+use mathlib.Core.Bool.{Bool, true, false, not, ◌&&◌, ◌||◌, cond, and-false}
 use mathlib.Core.Option.{Option}
 use mathlib.Core.List.{List}
 use lib.Dec.{eqb, ltb}
@@ -13,7 +13,7 @@ use borrow.Author.Tests.{eq-eqb, ne_eqb, eqb-true, lt-ltb}
 use Rattle.mesh.specs.Tools.{or_else}
 use Rattle.mesh.specs.Place.{Place, Grid, is_ring, at, base, lap, step, Wind, NE, SE, SW, NW, N, E, S, W}
 use Rattle.mesh.specs.Seam.{seam, crosses}
-use Rattle.mesh.specs.Picture.{parent_word, north_word, east_word, south_word, west_word, i_word, j_word}
+use Rattle.mesh.specs.Picture.{parent_word, i_word, j_word}
 use Rattle.table.specs.Words.{word_of, link_of, depth_of}
 use Rattle.worked.specs.Worked.{side_of, down_to, side_in, side_by}
 use Rattle.worked.proofs.Offsets.{side-digits}
@@ -23,33 +23,12 @@ use Rattle.place_laws.proofs.Laps.{lap-base, crosses-open}
 use Rattle.checker_laws.specs.Rowwise.{sides_ok}
 use Rattle.tree.specs.SideTests.{sides_by, sides_of, on_seam, seam_north, seam_south, sides_over}
 
--- ---- the seam, as it is asked for
-
-module _ (t : List ℤ) (g : Grid) (d n : ℕ) where
-  abbrev Asked : Bool → Type 0
-  Asked b = b ≡ (is_ring g && on_seam t g.rows d n)
-
-  pub no-ring : {b : Bool} → b ≡ is_ring g → b ≡ false → Asked false
-  no-ring e o = rw (← e, o)
-
-  pub other-level : {b : Bool} {x : ℕ} → b ≡ is_ring g → b ≡ true → x ≡ depth_of t d n → (x ≡ d → ⊥) → Asked false
-  other-level e o f h = rw (← e, o, ← f, ne_eqb _ d h)
-
-  pub this-level : {b : Bool} {x j : ℕ} → b ≡ is_ring g → b ≡ true → x ≡ depth_of t d n → x ≡ d → j ≡ word_of t n j_word → Asked (eqb j 0 || (eqb (j + 1) g.rows || eqb j g.rows))
-  this-level e o f h k = rw (← e, o, ← f, eq-eqb _ d h, ← k)
-
 -- ---- by the parent
 
 module _ (t : List ℤ) (cap n : ℕ) where
   pub sides-of-is : (l m : ℕ) {p i j : ℕ} {r : Bool} → p ≡ link_of t cap n parent_word → i ≡ word_of t n i_word → j ≡ word_of t n j_word → i % 2 ≡ l → j % 2 ≡ m → r ≡ sides_by t cap n p l m → r ≡ sides_of t cap n
   unfolding sides_by
   sides-of-is l m up col row a b q = rw (side-digits t cap n N, side-digits t cap n E, side-digits t cap n S, side-digits t cap n W, ← up, ← col, ← row, a, b) q
-
-  pub sides-over-is : (rows d : ℕ) {p i j : ℕ} {x y z u : ℕ} {a b c e : Bool} → p ≡ link_of t cap n parent_word → i ≡ word_of t n i_word → j ≡ word_of t n j_word
-      → x ≡ seam_north t cap rows d p i j → a ≡ eqb (word_of t n north_word) x → y ≡ side_by t cap p (i % 2) (j % 2) E → b ≡ eqb (word_of t n east_word) y
-      → z ≡ seam_south t cap rows d p i j → c ≡ eqb (word_of t n south_word) z → u ≡ side_by t cap p (i % 2) (j % 2) W → e ≡ eqb (word_of t n west_word) u
-      → (a && b && c && e) ≡ sides_over t cap rows d n
-  sides-over-is rows d up col row x a y b z c u e = rw (a, b, c, e, x, y, z, u, ← up, ← col, ← row) (simp (and-true, and_assoc))
 
   module _ (g : Grid) where
     -- in an open grid there is no seam

@@ -8,6 +8,7 @@ use table::words::{INDEX_I, INDEX_J, NE_KID, NW_KID, PARENT, SE_KID, SW_KID, is_
 use worked::kidless;
 
 // The root has no parent.
+#[tactic(auto, unfolding(checker_laws::specs::Rowwise::root_ok))]
 pub fn root_ok(rows: &Rows, n: usize) -> bool
     requires { n ≤ rows.now.cap }
     ensures { result ≡ root_ok rows.now.t.now rows.now.d n }
@@ -19,6 +20,7 @@ pub fn root_ok(rows: &Rows, n: usize) -> bool
 }
 
 // Any other row is a kid of its parent.
+#[tactic(auto, unfolding(checker_laws::specs::Rowwise::child_ok))]
 pub fn child_ok(rows: &Rows, n: usize) -> bool
     requires { n ≤ rows.now.cap }
     ensures { result ≡ child_ok rows.now.t.now rows.now.cap rows.now.d n }
@@ -54,6 +56,7 @@ pub fn child_ok(rows: &Rows, n: usize) -> bool
     rows.says(p, NE_KID, n as u32)
 }
 
+#[tactic(auto, unfolding(checker_laws::specs::Rowwise::place_ok))]
 pub fn place_ok(rows: &Rows, n: usize) -> bool
     requires { n ≤ rows.now.cap }
     ensures { result ≡ place_ok rows.now.t.now rows.now.cap rows.now.d n }
@@ -80,6 +83,7 @@ pub fn kid_ok(rows: &Rows, n: usize, w: usize) -> bool
         & (rows.index(k, INDEX_J) % 2 == e.m)
 }
 
+#[tactic(auto, unfolding(checker_laws::specs::Rowwise::kids_ok))]
 pub fn kids_ok(rows: &Rows, n: usize) -> bool
     requires { n ≤ rows.now.cap }
     ensures { result ≡ kids_ok rows.now.t.now rows.now.cap n }

@@ -13,6 +13,7 @@ use worked::down::down_to;
 use worked::side_by;
 
 // Whether each neighbour is the kid of the parent p or of the parent's neighbour, for a place that ends in the digits l and m.
+#[tactic(auto, unfolding(crate::specs::SideTests::sides_by))]
 fn sides_by(rows: &Rows, n: usize, p: usize, l: u32, m: u32) -> bool
     requires { (n ≤ rows.now.cap) × (p ≤ rows.now.cap) × (l < 2) × (m < 2) }
     ensures { result ≡ sides_by rows.now.t.now rows.now.cap n p l m }

