@@ -169,20 +169,6 @@ impl Reading {
     }
 }
 
-// The status, as a function of the reading.
-pub fn status_of(reading: Reading) -> u32
-    ensures { result ≡ status (value_of_reading reading) }
-{
-    reading.status()
-}
-
-// The amount, as a function of the reading.
-pub fn amount_of(reading: Reading) -> f64
-    ensures { result ≡ amount (value_of_reading reading) }
-{
-    reading.amount()
-}
-
 // The leaf that a lookup finds, and its value.
 pub fn lookup_out(
     header: Header,
