@@ -1,6 +1,6 @@
 -- The table of winds by place: what the code reads there is the wind's compass and word.
 -- Assumes nothing.
-use mathlib.Core.Path.{◌≡◌, refl, ap, ◌∙◌}
+use mathlib.Core.Path.{◌≡◌, refl, sym, ap, ◌∙◌}
 use mathlib.Core.Bool.{Bool, true, false, ◌&&◌, cond}
 use mathlib.Core.List.{List}
 use Prim.Native.Nat.{ℕ, zero, suc, ◌+◌, ◌-◌, ◌%◌, ◌≤◌, ◌<◌}
@@ -11,7 +11,7 @@ use lib.IntN.{ℤ}
 use Rattle.mesh.specs.Place.{Wind, NE, compass}
 use Rattle.mesh.specs.Picture.{i_word, j_word, parent_word}
 use Rattle.mesh.specs.Winds.{winds, word_of_wind}
-use Rattle.winds.specs.WindTable.{compass_at, kid_l, kid_m}
+use Rattle.winds.specs.WindTable.{compass_at, kid_l, kid_m, KidWind}
 use Rattle.winds.specs.declared.Compass.{Compass}
 use Rattle.winds.proofs.KidWinds.{each-kid}
 use Rattle.table.specs.Words.{word_of, link_of}
@@ -42,6 +42,14 @@ small x i h e = rw e ((at i h).east-small, (at i h).north-small)
 -- the word of the kid in the wind at place i
 pub kid-word-at : (i : ℕ) → i < 4 → kid_word (kid_l i) (kid_m i) ≡ i + 1
 kid-word-at = each-kid (λ i. kid_word (kid_l i) (kid_m i) ≡ i + 1) refl refl refl refl
+
+-- by the kid's digits
+pub kid-word-wind : {l m i : ℕ} → KidWind l m i → kid_word l m ≡ i + 1
+kid-word-wind {l} {m} {i} h = ap (λ x. kid_word x m) (sym h.l-is) ∙ ap (kid_word (kid_l i)) (sym h.m-is) ∙ kid-word-at i h.is-kid
+
+-- so there is one kid wind for two digits
+pub kid-wind-one : {l m i j : ℕ} → KidWind l m i → KidWind l m j → i ≡ j
+kid-wind-one h k = omega (arith, kid-word-wind h, kid-word-wind k)
 
 -- "1 to 4 kids"
 pub kid-word-range : (l m : ℕ) → m ≤ 1 → (1 ≤ kid_word l m) × (kid_word l m < 5)
