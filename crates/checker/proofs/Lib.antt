@@ -1,5 +1,4 @@
--- The test of a row and of all rows, the counts taken on the way, and the checker's answer.
-pub mod UsedRows
+-- The test of all rows, the counts taken on the way, and the checker's answer.
 pub mod Loop
 pub mod CountedRows
 pub mod Checking

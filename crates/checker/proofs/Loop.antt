@@ -19,20 +19,11 @@ module _ (g : Grid) (t : List ℤ) (cap : ℕ) (v : List Float) where
   pub rows_more : (k : ℕ) {x : Bool} → below k good ≡ true → x ≡ row_ok g t cap v (k + 1) → x ≡ true → below (k + 1) good ≡ true
   rows_more k a e h = below_more good k a (rw (← add-one k) (sym e ∙ h))
 
-  module _ {z : Bool} (first : z ≡ zero_ok t v) where
-    pub no_zero : z ≡ false → false ≡ rowwise g t cap v
+  module _ {z w : Bool} (first : z ≡ zero_ok t v) (ok : z ≡ true) (flags : w ≡ free_at t 1) where
+    pub no_row : w ≡ false → (k : ℕ) {x : Bool} → k < cap → x ≡ row_ok g t cap v (k + 1) → x ≡ false → false ≡ rowwise g t cap v
     unfolding rowwise
-    no_zero h = rw (← first, h)
+    no_row u k l e h = rw (← first, ok, ← flags, u) (sym (below_fails good cap k l (rw (← add-one k) (sym e ∙ h))))
 
-    module _ {w : Bool} (ok : z ≡ true) (flags : w ≡ free_at t 1) where
-      pub no-root : w ≡ true → false ≡ rowwise g t cap v
-      unfolding rowwise
-      no-root h = rw (← first, ok, ← flags, h)
-
-      pub no_row : w ≡ false → (k : ℕ) {x : Bool} → k < cap → x ≡ row_ok g t cap v (k + 1) → x ≡ false → false ≡ rowwise g t cap v
-      unfolding rowwise
-      no_row u k l e h = rw (← first, ok, ← flags, u) (sym (below_fails good cap k l (rw (← add-one k) (sym e ∙ h))))
-
-      pub all-rows : w ≡ false → (k : ℕ) → k ≡ cap → below k good ≡ true → true ≡ rowwise g t cap v
-      unfolding rowwise
-      all-rows u k q a = rw (← first, ok, ← flags, u) (sym (subst (λ (m : ℕ). below m good ≡ true) q a))
+    pub all-rows : w ≡ false → (k : ℕ) → k ≡ cap → below k good ≡ true → true ≡ rowwise g t cap v
+    unfolding rowwise
+    all-rows u k q a = rw (← first, ok, ← flags, u) (sym (subst (λ (m : ℕ). below m good ≡ true) q a))

@@ -20,6 +20,7 @@ use tree::family::{kids_ok, place_ok};
 use tree::sides::sides_ok;
 
 // A row in use.
+#[tactic(auto, unfolding(checker_laws::specs::Rowwise::used_ok))]
 fn used_ok(rows: &Rows, n: usize) -> bool
     requires { n ≤ rows.now.cap }
     ensures { result ≡ used_ok (header_of rows.now.header).grid rows.now.t.now rows.now.cap rows.now.v.now n }
@@ -39,6 +40,7 @@ fn used_ok(rows: &Rows, n: usize) -> bool
     value_ok(rows, n)
 }
 
+#[tactic(auto, unfolding(checker_laws::specs::Rowwise::row_ok))]
 fn row_ok(rows: &Rows, n: usize) -> bool
     requires { n ≤ rows.now.cap }
     ensures { result ≡ row_ok (header_of rows.now.header).grid rows.now.t.now rows.now.cap rows.now.v.now n }
@@ -51,6 +53,7 @@ fn row_ok(rows: &Rows, n: usize) -> bool
 }
 
 // The nil patch, the root in use, and every row. The leaves are counted on the way: each row is read once for both.
+#[tactic(auto, unfolding(checker_laws::specs::Rowwise::rowwise))]
 pub fn rowwise(rows: &Rows, c: &mut [u32]) -> bool
     requires { c.old ≡ replicate count_places 0 }
     ensures { (result ≡ rowwise (header_of rows.now.header).grid rows.now.t.now rows.now.cap rows.now.v.now) × (result ≡ true → c.new ≡ row_counts rows.now.t.now rows.now.v.now rows.now.cap rows.now.cap) }

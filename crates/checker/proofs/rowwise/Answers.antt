@@ -6,15 +6,9 @@ use mathlib.Core.Bool.{false}
 use Rattle.place_laws.proofs.Bools.{is-yes}
 use Rattle.tally.specs.TallyRows.{row_counts}
 use Rattle.tally.proofs.RowCounting.{rows-roomy}
-use Rattle.checker.proofs.Loop.{rows_more, no_zero, no-root, no_row, all-rows}
+use Rattle.checker.proofs.Loop.{rows_more, no_row, all-rows}
 use Rattle.checker.proofs.CountedRows.{row-placed, rows-added}
 use Rattle.checker.proofs.rowwise.Goals as goal
-
-pub returns-then-not-zero_ok : goal.returns-then-not-zero_ok
-returns-then-not-zero_ok c = (no_zero _ _ _ _ c.zero_ok.ensures c.if-not-zero_ok.true, λ e. absurd (is-yes false e))
-
-pub returns-then-is_free : goal.returns-then-is_free
-returns-then-is_free c = (no-root _ _ _ _ c.zero_ok.ensures c.if-not-zero_ok.false c.is_free.ensures c.if-is_free.true, λ e. absurd (is-yes false e))
 
 pub loop-n-init : goal.loop-n-init
 unfolding row_counts
