@@ -4,12 +4,13 @@
 pub mod rows;
 
 ghost use Rattle.std.specs.Prelude.{◌≡◌, ◌+◌, ◌*◌, ◌≤◌, ◌<◌, suc, leb, length};
-ghost use Rattle.mesh.specs.Picture.{row_words};
+ghost use Rattle.mesh.specs.Picture.{row_words, level_word, flags_word};
 ghost use Rattle.table.specs.Plain.{Sized};
-ghost use Rattle.table.specs.Words.{code, depth_from};
+ghost use Rattle.table.specs.Words.{code, depth_from, word_of};
 ghost use Rattle.checker_laws.specs.Rowwise.{below};
-ghost use Rattle.readable.specs.Readable.{linked, positive, plain_row};
+ghost use Rattle.readable.specs.Readable.{linked, positive, plain_row, Readable};
 
+use table::plain::word;
 use table::words::{
     EAST, FLAGS, INDEX_I, INDEX_J, LEVEL, NE_KID, NORTH, NW_KID, PARENT, SE_KID, SOUTH, SW_KID,
     WEST, named, raw,
@@ -65,4 +66,12 @@ pub fn plain(t: &[i32], cap: usize, d: u32) -> bool
     ensures { result ≡ below (suc cap) (plain_row t.now cap d) }
 {
     (0..cap + 1).all(|n| plain_row(t, cap, d, n))
+}
+
+// An index of the row n.
+pub fn index(t: &[i32], cap: usize, n: usize, w: usize) -> u32
+    requires { Readable t.now cap × (n ≤ cap) × (level_word < w) × (w < flags_word) }
+    ensures { result ≡ word_of t.now n w }
+{
+    word(t, n, w)
 }

@@ -55,7 +55,7 @@ impl Rows<'_> {
         requires { (n ≤ self.now.cap) × (level_word < w) × (w < flags_word) }
         ensures { result ≡ word_of self.now.t.now n w }
     {
-        table::plain::word(self.t, n, w)
+        crate::index(self.t, self.cap, n, w)
     }
 
     /// The depth of the row n.

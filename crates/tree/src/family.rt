@@ -1,10 +1,13 @@
 // The place of a row, its parent and its kids.
 ghost use Rattle.std.specs.Prelude.{◌≡◌, ◌≤◌, ◌<◌};
 ghost use Rattle.winds.specs.WindTable.{kid_l, kid_m};
+ghost use Rattle.readable.specs.Readable.{Readable};
 ghost use Rattle.checker_laws.specs.Rowwise.{root_ok, child_ok, place_ok, kid_ok, kids_ok};
 
+use readable::index;
 use readable::rows::Rows;
-use table::words::{INDEX_I, INDEX_J, NE_KID, NW_KID, PARENT, SE_KID, SW_KID, is_free};
+use table::plain::link;
+use table::words::{INDEX_I, INDEX_J, NE_KID, NW_KID, PARENT, SE_KID, SW_KID, is_free, says};
 use worked::kidless;
 
 // The root has no parent.
@@ -68,19 +71,19 @@ pub fn place_ok(rows: &Rows, n: usize) -> bool
 }
 
 // The word of the kid in the wind at place w of the table of winds is 0, or names a row in use whose parent is the row n.
-pub fn kid_ok(rows: &Rows, n: usize, w: usize) -> bool
-    requires { (n ≤ rows.now.cap) × (w < 4) }
-    ensures { result ≡ kid_ok rows.now.t.now rows.now.cap n (kid_l w) (kid_m w) }
+pub fn kid_ok(t: &[i32], cap: usize, n: usize, w: usize) -> bool
+    requires { Readable t.now cap × (n ≤ cap) × (w < 4) }
+    ensures { result ≡ kid_ok t.now cap n (kid_l w) (kid_m w) }
 {
-    let k = rows.link(n, w + 1);
+    let k = link(t, cap, n, w + 1);
     if k == 0 {
         return true;
     }
     let e = winds::kid_digits(w);
-    !is_free(rows.t, k)
-        & rows.says(k, PARENT, n as u32)
-        & (rows.index(k, INDEX_I) % 2 == e.l)
-        & (rows.index(k, INDEX_J) % 2 == e.m)
+    !is_free(t, k)
+        & says(t, k, PARENT, n as u32)
+        & (index(t, cap, k, INDEX_I) % 2 == e.l)
+        & (index(t, cap, k, INDEX_J) % 2 == e.m)
 }
 
 #[tactic(auto, unfolding(checker_laws::specs::Rowwise::kids_ok))]
@@ -91,14 +94,14 @@ pub fn kids_ok(rows: &Rows, n: usize) -> bool
     if kidless(rows.t, rows.cap, n) {
         return true;
     }
-    if !kid_ok(rows, n, winds::NE) {
+    if !kid_ok(rows.t, rows.cap, n, winds::NE) {
         return false;
     }
-    if !kid_ok(rows, n, winds::SE) {
+    if !kid_ok(rows.t, rows.cap, n, winds::SE) {
         return false;
     }
-    if !kid_ok(rows, n, winds::SW) {
+    if !kid_ok(rows.t, rows.cap, n, winds::SW) {
         return false;
     }
-    kid_ok(rows, n, winds::NW)
+    kid_ok(rows.t, rows.cap, n, winds::NW)
 }
