@@ -1,5 +1,5 @@
 // The values of rows in use.
-ghost use Rattle.std.specs.Prelude.{◌≡◌, ◌≤◌};
+ghost use Rattle.std.specs.Prelude.{◌≡◌, ◌≤◌, ◌<◌, length};
 ghost use Rattle.checker_laws.specs.Rowwise.{blank_ok, carried_ok, held_ok, value_ok};
 
 use carried::values::is_finite;
@@ -11,7 +11,7 @@ use table::words::PARENT;
 // A blank row has the value +0, and its parent is blank if it is a cell.
 #[tactic(auto, unfolding(checker_laws::specs::Rowwise::blank_ok))]
 pub fn blank_ok(rows: &Rows, n: usize) -> bool
-    requires { n ≤ rows.now.cap }
+    requires { (n ≤ rows.now.cap) × (rows.now.cap < length rows.now.v.now) }
     ensures { result ≡ blank_ok rows.now.t.now rows.now.cap rows.now.v.now n }
 {
     if !is_zero(carried_at(rows.t, rows.v, n)) {
@@ -23,7 +23,7 @@ pub fn blank_ok(rows: &Rows, n: usize) -> bool
 
 // A carried value is the one of the parent, which is not blank.
 fn carried_ok(rows: &Rows, n: usize) -> bool
-    requires { n ≤ rows.now.cap }
+    requires { (n ≤ rows.now.cap) × (rows.now.cap < length rows.now.v.now) }
     ensures { result ≡ carried_ok rows.now.t.now rows.now.cap rows.now.v.now n }
 {
     let own = carried_at(rows.t, rows.v, n);
@@ -34,7 +34,7 @@ fn carried_ok(rows: &Rows, n: usize) -> bool
 // A row that is not blank is a cell with a finite value, measured or carried.
 #[tactic(auto, unfolding(checker_laws::specs::Rowwise::held_ok))]
 pub fn held_ok(rows: &Rows, n: usize) -> bool
-    requires { n ≤ rows.now.cap }
+    requires { (n ≤ rows.now.cap) × (rows.now.cap < length rows.now.v.now) }
     ensures { result ≡ held_ok rows.now.t.now rows.now.cap rows.now.v.now n }
 {
     if !rows.flag(COMPLETE, n) {
@@ -52,7 +52,7 @@ pub fn held_ok(rows: &Rows, n: usize) -> bool
 
 #[tactic(auto, unfolding(checker_laws::specs::Rowwise::value_ok))]
 pub fn value_ok(rows: &Rows, n: usize) -> bool
-    requires { n ≤ rows.now.cap }
+    requires { (n ≤ rows.now.cap) × (rows.now.cap < length rows.now.v.now) }
     ensures { result ≡ value_ok rows.now.t.now rows.now.cap rows.now.v.now n }
 {
     if is_blank(carried_at(rows.t, rows.v, n)) {

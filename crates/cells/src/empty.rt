@@ -1,5 +1,5 @@
 // Rows without a patch.
-ghost use Rattle.std.specs.Prelude.{◌≡◌, ◌≤◌, eqb};
+ghost use Rattle.std.specs.Prelude.{◌≡◌, ◌≤◌, ◌<◌, eqb, length};
 ghost use Rattle.mesh.specs.Picture.{flags_word};
 ghost use Rattle.table.specs.Words.{word_of};
 ghost use Rattle.checker_laws.specs.Rowwise.{below, empty_ok, zero_ok};
@@ -33,7 +33,7 @@ fn unlinked(rows: &Rows, n: usize) -> bool
 // Whether the row n has nothing but flags.
 #[tactic(auto, unfolding(checker_laws::specs::Rowwise::empty_ok))]
 pub fn empty_ok(rows: &Rows, n: usize) -> bool
-    requires { n ≤ rows.now.cap }
+    requires { (n ≤ rows.now.cap) × (rows.now.cap < length rows.now.v.now) }
     ensures { result ≡ empty_ok rows.now.t.now rows.now.v.now n }
 {
     unlinked(rows, n) & is_nothing(carried_at(rows.t, rows.v, n))
@@ -42,6 +42,7 @@ pub fn empty_ok(rows: &Rows, n: usize) -> bool
 // Whether row 0 is the nil patch.
 #[tactic(auto, unfolding(checker_laws::specs::Rowwise::zero_ok))]
 pub fn zero_ok(rows: &Rows) -> bool
+    requires { rows.now.cap < length rows.now.v.now }
     ensures { result ≡ zero_ok rows.now.t.now rows.now.v.now }
 {
     empty_ok(rows, 0) & rows.says(0, FLAGS, 0)

@@ -4,7 +4,7 @@
 pub mod checks;
 pub mod first_checks;
 
-ghost use Rattle.std.specs.Prelude.{◌≡◌, true, ◌≤◌, replicate};
+ghost use Rattle.std.specs.Prelude.{◌≡◌, true, ◌≤◌, ◌<◌, length, replicate};
 ghost use Rattle.mesh.specs.LeafCounts.{count_places};
 ghost use Rattle.header.specs.Headers.{header_of};
 ghost use Rattle.checker_laws.specs.Rowwise.{used_ok, row_ok, rowwise};
@@ -22,7 +22,7 @@ use tree::sides::sides_ok;
 // A row in use.
 #[tactic(auto, unfolding(checker_laws::specs::Rowwise::used_ok))]
 fn used_ok(rows: &Rows, n: usize) -> bool
-    requires { n ≤ rows.now.cap }
+    requires { (n ≤ rows.now.cap) × (rows.now.cap < length rows.now.v.now) }
     ensures { result ≡ used_ok (header_of rows.now.header).grid rows.now.t.now rows.now.cap rows.now.v.now n }
 {
     if !place_ok(rows, n) {
@@ -42,7 +42,7 @@ fn used_ok(rows: &Rows, n: usize) -> bool
 
 #[tactic(auto, unfolding(checker_laws::specs::Rowwise::row_ok))]
 fn row_ok(rows: &Rows, n: usize) -> bool
-    requires { n ≤ rows.now.cap }
+    requires { (n ≤ rows.now.cap) × (rows.now.cap < length rows.now.v.now) }
     ensures { result ≡ row_ok (header_of rows.now.header).grid rows.now.t.now rows.now.cap rows.now.v.now n }
 {
     if is_free(rows.t, n) {
@@ -55,7 +55,7 @@ fn row_ok(rows: &Rows, n: usize) -> bool
 // The nil patch, the root in use, and every row. The leaves are counted on the way: each row is read once for both.
 #[tactic(auto, unfolding(checker_laws::specs::Rowwise::rowwise))]
 pub fn rowwise(rows: &Rows, c: &mut [u32]) -> bool
-    requires { c.old ≡ replicate count_places 0 }
+    requires { (rows.now.cap < length rows.now.v.now) × (c.old ≡ replicate count_places 0) }
     ensures { (result ≡ rowwise (header_of rows.now.header).grid rows.now.t.now rows.now.cap rows.now.v.now) × (result ≡ true → c.new ≡ row_counts rows.now.t.now rows.now.v.now rows.now.cap rows.now.cap) }
 {
     if !zero_ok(rows) {

@@ -1,5 +1,5 @@
 // The rows of a lent table that can be read as they stand.
-ghost use Rattle.std.specs.Prelude.{◌≡◌, ◌+◌, ◌≤◌, ◌<◌, eqb, length};
+ghost use Rattle.std.specs.Prelude.{◌≡◌, ◌+◌, ◌≤◌, ◌<◌, eqb};
 ghost use Rattle.mesh.specs.Place.{base};
 ghost use Rattle.mesh.specs.Picture.{flags_word, level_word, link_words, row_words};
 ghost use Rattle.header.specs.Headers.{header_of};
@@ -18,7 +18,6 @@ pub struct Rows<'a> {
     pub d: u32,
     pub ghost readable: { Readable t.now cap },
     pub ghost levelled: { Levelled t.now cap d },
-    pub ghost valued: { cap < length v.now },
     pub ghost rooted: { 1 ≤ cap },
     pub ghost depth_is: { d ≡ base (header_of header).grid },
     pub ghost shallow: { d ≤ 6 },

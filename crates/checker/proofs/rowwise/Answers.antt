@@ -12,7 +12,7 @@ use Rattle.checker.proofs.rowwise.Goals as goal
 
 pub loop-n-init : goal.loop-n-init
 unfolding row_counts
-loop-n-init c = (0, omega arith, refl, c.requires)
+loop-n-init c = (0, omega arith, refl, c.requires.1)
 
 pub returns-then-not-row_ok : goal.returns-then-not-row_ok
 returns-then-not-row_ok c =
@@ -23,7 +23,7 @@ pub count_row-requires : goal.count_row-requires
 count_row-requires c =
     let s = c.args.rows.now in
     let (k, next, _, counted) = c.loop-n.invariant in
-    (s.readable.plain, s.valued, omega arith, row-placed _ _ _ _ _ c.row_ok.ensures c.if-not-row_ok.false, rw counted (rows-roomy _ _ _ k (omega (arith, s.readable.plain.sized.small))))
+    (s.readable.plain, c.requires.0, omega arith, row-placed _ _ _ _ _ c.row_ok.ensures c.if-not-row_ok.false, rw counted (rows-roomy _ _ _ k (omega (arith, s.readable.plain.sized.small))))
 
 pub loop-n-preserved : goal.loop-n-preserved
 loop-n-preserved c =

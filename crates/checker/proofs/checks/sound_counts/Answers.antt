@@ -41,7 +41,6 @@ invariant_of-rows c =
     record {
       readable = plain-table _ _ _ all (record { words = omega (arith, f.words); small = f.high });
       levelled = levelled-table _ _ _ all (rw e (shallow _));
-      valued = omega (arith, f.values);
       rooted = omega (arith, f.low);
       depth_is = e;
       shallow = rw e (base-range _ r).1;
