@@ -12,23 +12,23 @@ use Rattle.apply.specs.declared.EditedTable.{EditedTable}
 
 -- what its lists hold, whatever header they are lent with
 abbrev pub held : EditedTable → Header → Counted
-held e = lists e.words.now e.values.now e.counts.now
+held e = lists e.t.now e.v.now e.c.now
 
 -- its lists picture a state, and its map is of their free numbers
 pub record Ready (e : EditedTable) : Type 0 where
-  pub pictured : Pictured e.capacity e.depth (held e)
-  pub maps : Maps e.map (free_at e.words.now)
+  pub pictured : Pictured e.cap e.d (held e)
+  pub maps : Maps e.map (free_at e.t.now)
 
 -- e became e': the same lists are lent, and the map is of the free numbers that they have now
 pub record Kept (e e' : EditedTable) : Type 0 where
-  pub same-words : e'.words.ghost_name ≡ e.words.ghost_name
-  pub same-values : e'.values.ghost_name ≡ e.values.ghost_name
-  pub same-counts : e'.counts.ghost_name ≡ e.counts.ghost_name
-  pub same-capacity : e'.capacity ≡ e.capacity
-  pub same-depth : e'.depth ≡ e.depth
-  pub maps : Maps e'.map (free_at e'.words.now)
+  pub same-words : e'.t.ghost_name ≡ e.t.ghost_name
+  pub same-values : e'.v.ghost_name ≡ e.v.ghost_name
+  pub same-counts : e'.c.ghost_name ≡ e.c.ghost_name
+  pub same-capacity : e'.cap ≡ e.cap
+  pub same-depth : e'.d ≡ e.d
+  pub maps : Maps e'.map (free_at e'.t.now)
 
 -- the request q made e' of e, and given is the refusal, 0 for none
 pub record Requested (q : Request) (e e' : EditedTable) (given : ℕ) : Type 0 where
-  pub applied : Applied q e.capacity e.depth (held e) (held e') given
+  pub applied : Applied q e.cap e.d (held e) (held e') given
   pub kept : Kept e e'

@@ -13,16 +13,16 @@ use refusals::one_row::{sentence_at, set_at};
 use refusals::requests::{
     kill_refusal, refine_refusal, remove_refusal, sentence_refusal, set_refusal,
 };
-use tally::moves::{killed, refined, removed, valued};
+use tally::moves::Rows;
 
 /// A lent table while requests edit it: its words, its values and its leaf counts, with level 0 at that depth, and the map of its free numbers.
 #[derive(Drop)]
 pub struct EditedTable<'t, 'v, 'c> {
-    pub words: &'t mut [i32],
-    pub values: &'v mut [f64],
-    pub counts: &'c mut [u32],
-    pub capacity: usize,
-    pub depth: u32,
+    pub t: &'t mut [i32],
+    pub v: &'v mut [f64],
+    pub c: &'c mut [u32],
+    pub cap: usize,
+    pub d: u32,
     pub map: FreeMap,
 }
 
@@ -31,20 +31,14 @@ impl EditedTable<'_, '_, '_> {
         requires { Ready self.old }
         ensures { Requested (refine n) self.old self.new (refusal_of result) }
     {
-        let cap = self.capacity;
-        let d = self.depth;
-        let EditedTable {
-            words,
-            values,
-            counts,
-            map,
-            ..
-        } = self;
-        let words = &mut **words;
-        let values = &mut **values;
-        refine_refusal(words, cap, n, map.count())?;
-        refined(words, values, counts, cap, n);
-        refine::refine(words, values, cap, map, d, n);
+        let cap = self.cap;
+        let d = self.d;
+        let EditedTable { t, v, c, map, .. } = self;
+        let t = &mut **t;
+        let v = &mut **v;
+        refine_refusal(t, cap, n, map.count())?;
+        Rows { t, v, cap }.refined(c, n);
+        refine::refine(t, v, cap, map, d, n);
         Ok(())
     }
 
@@ -52,10 +46,10 @@ impl EditedTable<'_, '_, '_> {
         requires { Ready self.old }
         ensures { Requested (sentence n) self.old self.new (refusal_of result) }
     {
-        let cap = self.capacity;
-        let words = &mut *self.words;
-        sentence_refusal(words, cap, n)?;
-        sentence_at(words, n);
+        let cap = self.cap;
+        let t = &mut *self.t;
+        sentence_refusal(t, cap, n)?;
+        sentence_at(t, n);
         Ok(())
     }
 
@@ -63,20 +57,14 @@ impl EditedTable<'_, '_, '_> {
         requires { Ready self.old }
         ensures { Requested (remove n) self.old self.new (refusal_of result) }
     {
-        let cap = self.capacity;
-        let d = self.depth;
-        let EditedTable {
-            words,
-            values,
-            counts,
-            map,
-            ..
-        } = self;
-        let words = &mut **words;
-        let values = &mut **values;
-        remove_refusal(words, cap, n)?;
-        removed(words, values, counts, cap, n);
-        remove::remove(words, values, cap, map, d, n);
+        let cap = self.cap;
+        let d = self.d;
+        let EditedTable { t, v, c, map, .. } = self;
+        let t = &mut **t;
+        let v = &mut **v;
+        remove_refusal(t, cap, n)?;
+        Rows { t, v, cap }.removed(c, n);
+        remove::remove(t, v, cap, map, d, n);
         Ok(())
     }
 
@@ -84,20 +72,14 @@ impl EditedTable<'_, '_, '_> {
         requires { Ready self.old }
         ensures { Requested (kill n) self.old self.new (refusal_of result) }
     {
-        let cap = self.capacity;
-        let d = self.depth;
-        let EditedTable {
-            words,
-            values,
-            counts,
-            map,
-            ..
-        } = self;
-        let words = &mut **words;
-        let values = &mut **values;
-        kill_refusal(words, cap, d, n)?;
-        killed(words, values, counts, cap, n);
-        kill::kill(words, values, cap, map, d, n);
+        let cap = self.cap;
+        let d = self.d;
+        let EditedTable { t, v, c, map, .. } = self;
+        let t = &mut **t;
+        let v = &mut **v;
+        kill_refusal(t, cap, d, n)?;
+        Rows { t, v, cap }.killed(c, n);
+        kill::kill(t, v, cap, map, d, n);
         Ok(())
     }
 
@@ -105,18 +87,13 @@ impl EditedTable<'_, '_, '_> {
         requires { Ready self.old }
         ensures { Requested (set_value n x) self.old self.new (refusal_of result) }
     {
-        let cap = self.capacity;
-        let EditedTable {
-            words,
-            values,
-            counts,
-            ..
-        } = self;
-        let words = &mut **words;
-        let values = &mut **values;
-        set_refusal(words, cap, n, x)?;
-        valued(words, values, counts, cap, n, x);
-        set_at(words, values, n, x);
+        let cap = self.cap;
+        let EditedTable { t, v, c, .. } = self;
+        let t = &mut **t;
+        let v = &mut **v;
+        set_refusal(t, cap, n, x)?;
+        Rows { t, v, cap }.valued(c, n, x);
+        set_at(t, v, n, x);
         Ok(())
     }
 

@@ -13,7 +13,7 @@ pub struct Sheet<'a> {
 }
 
 // The sum of the bytes of s, wrapping at 2^32.
-fn sum_of(s: &[u8]) -> u32
+pub fn sum_of(s: &[u8]) -> u32
     ensures { result ≡ total s.now % 2 ^ 32 }
 {
     let mut sum = 0u32;

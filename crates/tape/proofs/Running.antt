@@ -68,11 +68,11 @@ module _ (bytes : List ℕ) (cap d mark₀ : ℕ) (l₀ : Header → Counted) wh
 
 -- ---- the table that is edited
 
-module _ {bytes : List ℕ} {mark₀ : ℕ} {e₀ e : EditedTable} {at done mark : ℕ} (o : Ongoing bytes e₀.capacity e₀.depth mark₀ (held e₀) (held e) at done mark) (k : Kept e₀ e) where
-  pub ready : Pictured e₀.capacity e₀.depth (held e₀) → Ready e
+module _ {bytes : List ℕ} {mark₀ : ℕ} {e₀ e : EditedTable} {at done mark : ℕ} (o : Ongoing bytes e₀.cap e₀.d mark₀ (held e₀) (held e) at done mark) (k : Kept e₀ e) where
+  pub ready : Pictured e₀.cap e₀.d (held e₀) → Ready e
   ready p = record { pictured = rw (k.same-capacity, k.same-depth) (still-pictured _ _ _ _ _ o p); maps = k.maps }
 
-  pub turned-so : {l' : Header → Counted} {given next : ℕ} → Turned bytes at e.capacity e.depth (held e) l' given next → Turned bytes at e₀.capacity e₀.depth (held e) l' given next
+  pub turned-so : {l' : Header → Counted} {given next : ℕ} → Turned bytes at e.cap e.d (held e) l' given next → Turned bytes at e₀.cap e₀.d (held e) l' given next
   turned-so u = rw (← k.same-capacity, ← k.same-depth) u
 
 pub kept-on : {e₀ e e' : EditedTable} → Kept e₀ e → Kept e e' → Kept e₀ e'

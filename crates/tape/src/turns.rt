@@ -14,7 +14,7 @@ use kinds::requests::Request;
 // The request whose kind byte stands at `at`; the offset of the next kind byte.
 fn turn_at(edited: &mut EditedTable, tape: &[u8], at: usize) -> Result<usize, Refusal>
     requires { Ready edited.old × (at < length tape.now) }
-    ensures { Turned tape.now at edited.old.capacity edited.old.depth (held edited.old) (held edited.new) (refusal_of result) (value_or at result) × Kept edited.old edited.new }
+    ensures { Turned tape.now at edited.old.cap edited.old.d (held edited.old) (held edited.new) (refusal_of result) (value_or at result) × Kept edited.old edited.new }
 {
     let (asked, next) = Request::read(tape, at)?;
     edited.request(asked)?;
@@ -51,11 +51,11 @@ pub fn run_tape(
     };
     let map = FreeMap::load(t, cap);
     let mut edited = EditedTable {
-        words: t,
-        values: v,
-        counts: c,
-        capacity: cap,
-        depth: d,
+        t,
+        v,
+        c,
+        cap,
+        d,
         map,
     };
     while run.offset < tape.len() {

@@ -14,7 +14,7 @@ use table::plain::{flag, flags, link};
 use table::words::{LEVEL, PARENT, says, word};
 
 // 1 where a wall with one cell is boundary, 16 where it is green.
-fn boundary_or_green(one: bool, boundary: bool) -> u32
+pub fn boundary_or_green(one: bool, boundary: bool) -> u32
     ensures { (result < 32) × (result ≡ pair boundary (one && not boundary)) }
 {
     if boundary { 1 } else { weigh(one, 16) }

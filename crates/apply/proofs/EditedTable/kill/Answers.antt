@@ -20,12 +20,15 @@ returns-in_err-kill_refusal c =
     let o : refusal_of c.from_residual.result ≡ number c.in_err-kill_refusal.field-0.0 = search rules in
     record { applied = stopped _ _ _ _ _ _ o (kill-decides _ _ _ _ _ _ c.in_err-kill_refusal.ensures); kept = unchanged c.requires }
 
+pub invariant_of-killed : goal.invariant_of-killed
+invariant_of-killed c = let p = c.requires.pictured in record { plain = (drawn-tame p.drawn).plain; all_valued = omega (arith, (drawn-ranged p.drawn).values) }
+
 pub killed-requires : goal.killed-requires
 killed-requires c =
     let p = c.requires.pictured in
     let w = kill-within _ _ _ _ c.in_ok-kill_refusal.ensures refl in
     let (x, y) = kill-asks p _ refl c.in_ok-kill_refusal.ensures in
-    ((drawn-tame p.drawn).plain, omega (arith, (drawn-ranged p.drawn).values), w, x, y)
+    (w, x, y)
 
 pub kill-requires : goal.kill-requires
 kill-requires c =

@@ -17,12 +17,15 @@ returns-in_err-refine_refusal c =
     let o : refusal_of c.from_residual.result ≡ number c.in_err-refine_refusal.field-0.0 = search rules in
     record { applied = stopped _ _ _ _ _ _ o (refine-decides _ _ _ _ _ _ c.in_err-refine_refusal.ensures); kept = unchanged c.requires }
 
+pub invariant_of-refined : goal.invariant_of-refined
+invariant_of-refined c = let p = c.requires.pictured in record { plain = (drawn-tame p.drawn).plain; all_valued = omega (arith, (drawn-ranged p.drawn).values) }
+
 pub refined-requires : goal.refined-requires
 refined-requires c =
     let p = c.requires.pictured in
     let w = refine-within _ _ _ c.in_ok-refine_refusal.ensures refl in
     let (x, y, z) = refine-asks p _ refl c.in_ok-refine_refusal.ensures in
-    ((drawn-tame p.drawn).plain, omega (arith, (drawn-ranged p.drawn).values), w, x, y, z)
+    (w, x, y, z)
 
 pub refine-requires : goal.refine-requires
 refine-requires c =

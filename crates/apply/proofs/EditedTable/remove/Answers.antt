@@ -17,12 +17,15 @@ returns-in_err-remove_refusal c =
     let o : refusal_of c.from_residual.result ≡ number c.in_err-remove_refusal.field-0.0 = search rules in
     record { applied = stopped _ _ _ _ _ _ o (remove-decides _ _ _ _ _ _ c.in_err-remove_refusal.ensures); kept = unchanged c.requires }
 
+pub invariant_of-removed : goal.invariant_of-removed
+invariant_of-removed c = let p = c.requires.pictured in record { plain = (drawn-tame p.drawn).plain; all_valued = omega (arith, (drawn-ranged p.drawn).values) }
+
 pub removed-requires : goal.removed-requires
 removed-requires c =
     let p = c.requires.pictured in
     let w = remove-within _ _ _ c.in_ok-remove_refusal.ensures refl in
     let (x, y, z) = remove-asks p _ refl c.in_ok-remove_refusal.ensures in
-    ((drawn-tame p.drawn).plain, omega (arith, (drawn-ranged p.drawn).values), w, x, y, z)
+    (w, x, y, z)
 
 pub remove-requires : goal.remove-requires
 remove-requires c =

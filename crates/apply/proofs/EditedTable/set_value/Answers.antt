@@ -17,12 +17,15 @@ returns-in_err-set_refusal c =
     let o : refusal_of c.from_residual.result ≡ number c.in_err-set_refusal.field-0.0 = search rules in
     record { applied = stopped _ _ _ _ _ _ o (set-decides _ _ _ _ _ _ _ c.in_err-set_refusal.ensures); kept = unchanged c.requires }
 
+pub invariant_of-valued : goal.invariant_of-valued
+invariant_of-valued c = let p = c.requires.pictured in record { plain = (drawn-tame p.drawn).plain; all_valued = omega (arith, (drawn-ranged p.drawn).values) }
+
 pub valued-requires : goal.valued-requires
 valued-requires c =
     let p = c.requires.pictured in
     let w = set-within _ _ _ _ c.in_ok-set_refusal.ensures refl in
     let (x, y) = set-asks p _ refl _ c.in_ok-set_refusal.ensures in
-    ((drawn-tame p.drawn).plain, omega (arith, (drawn-ranged p.drawn).values), w, x, y)
+    (w, x, y)
 
 pub set_at-requires : goal.set_at-requires
 set_at-requires c =
