@@ -11,6 +11,8 @@ use patch::patches::Patches;
 use winds::{NE, NW, SE, SW, kid_digits};
 
 // Links in the kid of the row n in the wind at place w of the table of winds under the next free number, unless it is there or no number is free.
+// Unfolded at each of its nine places, where w is known and the struct needs no memory.
+#[inline(always)]
 fn supply(p: &mut Patches, d: u32, n: usize, w: usize)
     requires { (n ≤ p.old.cap) × (d ≤ 32) × (w < 4) × AllSmall 1073741824 p.old.t.now p.old.cap d × (length p.old.t.now ≡ row_words * (p.old.cap + 1)) }
     ensures { Stepped (λ t cap. supplied cap d (kid_spot n w) t) p.old p.new × Doubled p.old.t.now p.new.t.now p.old.cap d }
