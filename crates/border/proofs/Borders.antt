@@ -78,9 +78,6 @@ module _ (cap : ℕ) (ws : List ℕ) where
     pub same : t ≡ t₀
     pub rest : kids_bare t₀ e n ws ≡ kids_bare t₀ e n (drop q ws)
 
-  pub quiet-first : (t : List ℤ) (e n : ℕ) → Quiet t t e n 0
-  quiet-first t e n = record { same = refl; rest = refl }
-
   pub quiet-last : (e n q : ℕ) {t₀ t : List ℤ} → e ≢ 0 → length ws ≤ q → Quiet t₀ t (e - 1) n q → T (bare_down t₀ cap ws e n)
   unfolding bare_down
   quiet-last zero n q y l z = absurd (y refl)

@@ -15,7 +15,7 @@ use Rattle.worked.specs.Worked.{kidless, touched_in}
 use Rattle.free.specs.FreeMap.{switched, Maps}
 use Rattle.edit_laws.specs.PatchSteps.{take_out}
 use Rattle.edit_laws.proofs.FreeNumbers.{take-out-free}
-use Rattle.edit_laws.specs.Tables.{drop_untouched, drop_up, drop_corner}
+use Rattle.edit_laws.specs.Tables.{drop_up, drop_corner}
 
 -- ---- the map of free numbers
 
@@ -26,17 +26,7 @@ map_of e h = rw e h
 pub freed-mapped : {t u : List ℤ} {cap : ℕ} (k : ℕ) {m : List ℕ} → Plain t cap → k ≤ cap → u ≡ take_out t cap k → Maps m (switched (free_at t) k true) → Maps m (free_at u)
 freed-mapped {t} {cap = cap} k p l e h = rw (e, take-out-free t cap k (omega (arith, p.sized.words))) h
 
--- ---- a patch that no cell touches
-
-module _ (t : List ℤ) (cap n : ℕ) where
-  pub untouched-nil : n ≡ 0 → t ≡ drop_untouched cap t n
-  untouched-nil e = rw (eq-eqb n 0 e)
-
-  pub untouched-kept : {b : Bool} → n ≢ 0 → b ≡ touched_in t cap n → b ≡ true → t ≡ drop_untouched cap t n
-  untouched-kept z e h = rw (ne_eqb n 0 z, ← e, h)
-
-  pub untouched-gone : {b : Bool} {u : List ℤ} → n ≢ 0 → b ≡ touched_in t cap n → b ≡ false → u ≡ take_out t cap n → u ≡ drop_untouched cap t n
-  untouched-gone z e h i = rw (ne_eqb n 0 z, ← e, h) i
+-- ---- a corner that no cell touches
 
 module _ (t : List ℤ) (cap d n : ℕ) where
   pub corner-nil : n ≡ 0 → t ≡ drop_corner t cap d n

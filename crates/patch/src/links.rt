@@ -32,8 +32,7 @@ fn link_side(t: &mut [i32], cap: usize, p: usize, l: u32, m: u32, k: usize, w: u
     ensures { (t.new ≡ link_by t.old cap p l m k (get_or winds w NE)) × Plain t.new cap }
 {
     let x = side_by(t, cap, p, l, m, w);
-    let c = winds::wind(w);
-    let o = c.opposite;
+    let o = winds::wind(w).opposite;
     put(t, k, w + 1, x as u32);
     put_unless_nil(t, x, o + 1, k as u32);
 }
@@ -72,8 +71,7 @@ fn drop_side(t: &mut [i32], cap: usize, k: usize, w: usize)
     ensures { (t.new ≡ drop_side t.old cap k (get_or winds w NE)) × Plain t.new cap }
 {
     let x = link(t, cap, k, w + 1);
-    let c = winds::wind(w);
-    let o = c.opposite;
+    let o = winds::wind(w).opposite;
     put_unless_nil(t, x, o + 1, 0);
 }
 

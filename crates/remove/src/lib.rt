@@ -20,13 +20,9 @@ fn drop_untouched(p: &mut Patches, n: usize)
     requires { n ≤ p.old.cap }
     ensures { Stepped (λ t cap. drop_untouched cap t n) p.old p.new }
 {
-    if n == 0 {
-        return;
+    if n != 0 && !p.touched(n) {
+        p.free_row(n);
     }
-    if p.touched(n) {
-        return;
-    }
-    p.free_row(n);
 }
 
 // The kid of the row n in the wind at place w of the table of winds goes if no cell touches it.
