@@ -27,10 +27,7 @@ fn drop_up(p: &mut Patches, levels: u32, n: usize)
 {
     let mut k = n;
     for _level in 0..levels {
-        if k == 0 {
-            return;
-        }
-        if !p.kidless(k) {
+        if k == 0 || !p.kidless(k) {
             return;
         }
         let above = p.link(k, PARENT);
@@ -40,19 +37,16 @@ fn drop_up(p: &mut Patches, levels: u32, n: usize)
 }
 
 // A corner of the killed cell that no cell touches goes, and the ghosts above it that have no kid left.
+#[tactic(auto, using(patch::proofs::Steps::step_then), unfolding(edit_laws::specs::Tables::drop_corner))]
 fn drop_corner(p: &mut Patches, d: u32, n: usize)
     requires { n ≤ p.old.cap }
     ensures { Stepped (λ t cap. drop_corner t cap d n) p.old p.new }
 {
-    if n == 0 {
-        return;
+    if n != 0 && !p.touched(n) {
+        let above = p.link(n, PARENT);
+        p.free_row(n);
+        drop_up(p, d, above);
     }
-    if p.touched(n) {
-        return;
-    }
-    let above = p.link(n, PARENT);
-    p.free_row(n);
-    drop_up(p, d, above);
 }
 
 // The row n, or 0 if it is free.

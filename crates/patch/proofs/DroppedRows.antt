@@ -1,4 +1,4 @@
--- Patches that go: one that no cell touches, and the ghosts above it that have no kid left.
+-- Patches that go: the map of free numbers with them, and the ghosts above that have no kid left.
 -- Assumes nothing.
 use mathlib.Core.Path.{◌≡◌, refl}
 use mathlib.Core.Logic.{◌≢◌}
@@ -11,11 +11,11 @@ use lib.IntN.{ℤ}
 use Rattle.mesh.specs.Picture.{parent_word}
 use Rattle.table.specs.Words.{link_of, free_at}
 use Rattle.table.specs.Plain.{Plain}
-use Rattle.worked.specs.Worked.{kidless, touched_in}
+use Rattle.worked.specs.Worked.{kidless}
 use Rattle.free.specs.FreeMap.{switched, Maps}
 use Rattle.edit_laws.specs.PatchSteps.{take_out}
 use Rattle.edit_laws.proofs.FreeNumbers.{take-out-free}
-use Rattle.edit_laws.specs.Tables.{drop_up, drop_corner}
+use Rattle.edit_laws.specs.Tables.{drop_up}
 
 -- ---- the map of free numbers
 
@@ -26,20 +26,7 @@ map_of e h = rw e h
 pub freed-mapped : {t u : List ℤ} {cap : ℕ} (k : ℕ) {m : List ℕ} → Plain t cap → k ≤ cap → u ≡ take_out t cap k → Maps m (switched (free_at t) k true) → Maps m (free_at u)
 freed-mapped {t} {cap = cap} k p l e h = rw (e, take-out-free t cap k (omega (arith, p.sized.words))) h
 
--- ---- a corner that no cell touches
-
-module _ (t : List ℤ) (cap d n : ℕ) where
-  pub corner-nil : n ≡ 0 → t ≡ drop_corner t cap d n
-  unfolding drop_corner
-  corner-nil e = rw (eq-eqb n 0 e)
-
-  pub corner-kept : {b : Bool} → n ≢ 0 → b ≡ touched_in t cap n → b ≡ true → t ≡ drop_corner t cap d n
-  unfolding drop_corner
-  corner-kept z e h = rw (ne_eqb n 0 z, ← e, h)
-
-  pub corner-gone : {b : Bool} {p : ℕ} {u v : List ℤ} → n ≢ 0 → b ≡ touched_in t cap n → b ≡ false → p ≡ link_of t cap n parent_word → u ≡ take_out t cap n → v ≡ drop_up d u cap p → v ≡ drop_corner t cap d n
-  unfolding drop_corner
-  corner-gone z e h i j k = rw (ne_eqb n 0 z, ← e, h, k, j, i)
+-- ---- ghosts that have no kid left
 
 module _ (t : List ℤ) (cap n : ℕ) where
   pub up-end : (e : ℕ) → e ≡ 0 → t ≡ drop_up e t cap n

@@ -5,16 +5,15 @@ use Rattle.edit_laws.specs.Tables.{drop_up}
 use Rattle.patch.proofs.Steps.{same_then}
 use Rattle.patch.proofs.DroppedRows.{up-end, up-nil, up_kept, up-on}
 use Rattle.kill.proofs.drop_up.Goals as goal
+use Rattle.kill.proofs.drop_up.Goals.{then-k-eq0-via-then-k-eq0, then-k-eq0-via-else-k-eq0+then-not-kidless}
 
 pub returns-then-k-eq0 : goal.returns-then-k-eq0
 returns-then-k-eq0 c =
     let i = c.loop-level.invariant in
-    record { same = i.same; words = up-nil _ _ _ _ c.if-k-eq0.true ∙ sym i.left }
-
-pub returns-then-not-kidless : goal.returns-then-not-kidless
-returns-then-not-kidless c =
-    let i = c.loop-level.invariant in
-    record { same = i.same; words = up_kept _ _ _ _ c.if-k-eq0.false c.kidless.ensures c.if-not-kidless.true ∙ sym i.left }
+    elim c.then-k-eq0.branch [
+      | then-k-eq0-via-then-k-eq0 w ↦ record { same = i.same; words = up-nil _ _ _ _ w.if-k-eq0.true ∙ sym i.left }
+      | then-k-eq0-via-else-k-eq0+then-not-kidless w ↦ record { same = i.same; words = up_kept _ _ _ _ w.if-k-eq0.false w.kidless.ensures w.if-not-kidless.true ∙ sym i.left }
+    ]
 
 pub returns : goal.returns
 returns c =
