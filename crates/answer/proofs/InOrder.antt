@@ -14,10 +14,6 @@ pub record Decided {A : Type 0} (cs : List Check) (out : Result A Refusal) : Typ
 pub decided : {A : Type 0} (cs : List Check) {out : Result A Refusal} → Decided cs out → refusal_of out ≡ refusal cs
 decided cs d = d.is
 
-pub accepts : {A : Type 0} {x : A} {out : Result A Refusal} → out ≡ Ok x → Decided [] out
-unfolding refusal
-accepts o = record { is = ap refusal_of o }
-
 not-both : {A : Type 0} {r : Refusal} {x : A} → Ok x ≡ Err r → ⊥
 not-both {r = r} e = let n : 0 ≡ number r = ap refusal_of e in let z = above-zero r in omega arith
 

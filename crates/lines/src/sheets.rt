@@ -18,7 +18,7 @@ pub fn sum_of(s: &[u8]) -> u32
 {
     let mut sum = 0u32;
     for b in s {
-        sum = sum.wrapping_add(*b as u32);
+        sum = sum.wrapping_add(u32::from(*b));
     }
     sum
 }

@@ -1,5 +1,5 @@
 // Where the numbers of a walk go: into a lent list as far as they fit, or into a count up to a bound.
-ghost use Rattle.std.specs.Prelude.{◌≡◌, ℕ, ◌≤◌, List, [], ◌∷◌, ◌++◌, length};
+ghost use Rattle.std.specs.Prelude.{ℕ, List, [], ◌∷◌, ◌++◌};
 ghost use Rattle.listing.specs.Sinks.{Wrote, Counted};
 ghost use Rattle.listing.specs.SinkLaws.{numbers_none, numbers_more, count_none, count_more};
 

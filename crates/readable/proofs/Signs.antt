@@ -1,19 +1,19 @@
 -- Words that are read as they stand: what the test of a sign says, and what depth a level is.
 -- Assumes nothing.
 use mathlib.Core.Path.{◌≡◌, sym, ◌∙◌}
-use mathlib.Core.Bool.{true, not, ◌&&◌, cond}
+use mathlib.Core.Bool.{true, not, cond}
 use mathlib.Core.List.{List}
-use Prim.Native.Nat.{ℕ, suc, ◌+◌, ◌-◌, ◌*◌, ◌≤◌, ◌<◌}
+use Prim.Native.Nat.{ℕ, ◌+◌, ◌-◌, ◌*◌, ◌≤◌, ◌<◌}
 use native.Mathlib.Omega.{arith}
-use native.Mathlib.Decide.{dec_le, dec_lt, ℕ_discrete}
-use lib.Dec.{eqb, leb, ltb}
+use native.Mathlib.Decide.{dec_lt, ℕ_discrete}
+use lib.Dec.{eqb, ltb}
 use lib.IntN.{ℤ, pos, negsuc}
 use lib.ListN.{length}
-use lib.Signed.{le_z, lt_z}
+use lib.Signed.{le_z}
 use mir.Syntax.{w32}
 use mir.Val.{SFits, to_z, of_z}
-use mir.Facts.{to_z-of_z, to_z-neg}
-use borrow.Author.Tests.{eq-eqb, ne_eqb, le-leb, lt-leb, lt-ltb, le-ltb}
+use mir.Facts.{to_z-of_z}
+use borrow.Author.Tests.{eq-eqb, ne_eqb, le-leb, lt-ltb, le-ltb}
 use Rattle.mesh.specs.Picture.{level_word, row_words}
 use Rattle.table.specs.Words.{code, word_of, depth_from, depth_of}
 use Rattle.table.proofs.LinkRanges.{level-from}
@@ -26,29 +26,6 @@ sign-is {z} f = rw (to_z-of_z f) (go z f)
     go : (z : ℤ) → SFits w32 z → le_z (pos 0) z ≡ ltb (code z) 2147483648
     go (pos n) f = le-leb 0 n (omega arith) ∙ sym (lt-ltb n 2147483648 f.sfits)
     go (negsuc n) f = sym (le-ltb (2147483648 + n) 2147483648 (omega arith))
-
--- a test of a level
-pub level-test : (d : ℕ) → d ≤ 32 → {z : ℤ} → SFits w32 z → (lt_z (to_z w32 (4294967295 - d)) (to_z w32 (of_z w32 z)) && le_z (to_z w32 (of_z w32 z)) (pos 12)) ≡ leb (depth_from d (code z)) (d + 12)
-level-test d h {z} f =
-    let e : 4294967295 - d ≡ 4294967296 - suc d = omega arith in
-    let s : d < 2147483648 = omega arith in
-    rw (to_z-of_z f, e, to_z-neg w32 d s) (go z f)
-  where
-    high : (n : ℕ) → Dec (n ≤ 12) → leb n 12 ≡ leb (n + d) (d + 12)
-    high n (yes l) = le-leb n 12 l ∙ sym (le-leb (n + d) (d + 12) (omega arith))
-    high n (no l) = lt-leb n 12 (omega (arith, l)) ∙ sym (lt-leb (n + d) (d + 12) (omega (arith, l)))
-
-    low : (n : ℕ) → Dec (n < d) → (ltb n d && true) ≡ leb (cond (ltb n d) (d - 1 - n) (d + 13)) (d + 12)
-    low n (yes l) = rw (lt-ltb n d l) (sym (le-leb (d - 1 - n) (d + 12) (omega arith)))
-    low n (no l) = rw (le-ltb n d (omega (arith, l))) (sym (lt-leb (d + 13) (d + 12) (omega arith)))
-
-    go : (z : ℤ) → SFits w32 z → (lt_z (negsuc d) z && le_z z (pos 12)) ≡ leb (depth_from d (code z)) (d + 12)
-    go (pos n) f =
-        let s : n < 2147483648 = f.sfits in
-        rw (lt-ltb n 2147483648 s) (high n (dec_le n 12))
-    go (negsuc n) f =
-        let c : 2147483648 + n - 2147483648 ≡ n = omega arith in
-        rw (le-ltb (2147483648 + n) 2147483648 (omega arith), c) (low n (dec_lt n d))
 
 -- ---- levels that are not past the deepest
 

@@ -1,6 +1,6 @@
 // What each kind of request is refused for, by the checks of 01 and of 02, No. 1, in their order.
 ghost use Rattle.std.specs.Prelude.{◌≡◌, [], ◌∷◌, ◌≤◌};
-ghost use Rattle.mesh.specs.Refusal.{◌if◌, refusal};
+ghost use Rattle.mesh.specs.Refusal.{refusal};
 ghost use Rattle.answer.specs.Refusals.{refusal_of};
 ghost use Rattle.table.specs.Plain.{Plain, Sized};
 ghost use Rattle.free.specs.Free.{free_total};

@@ -1,8 +1,8 @@
 // Scan as a call that passed the first checks: refused by a number, or the numbers written.
 #![tactic(auto)]
 
-ghost use Rattle.std.specs.Prelude.{◌≡◌, ◌+◌, ◌≤◌, T, eqb, leb, length};
-ghost use Rattle.mesh.specs.Tools.{any, all};
+ghost use Rattle.std.specs.Prelude.{◌≡◌, ◌+◌, ◌≤◌, eqb, leb, length};
+ghost use Rattle.mesh.specs.Tools.{any};
 ghost use Rattle.mesh.specs.Refusal.{refusal};
 ghost use Rattle.mesh.specs.Scan.{permutation};
 ghost use Rattle.table.specs.Plain.{Sized};

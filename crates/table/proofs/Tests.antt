@@ -1,6 +1,6 @@
 -- What a branch says of a choice: the arm that a true test takes, and the arm that a false one takes.
 -- Assumes nothing.
-use mathlib.Core.Path.{◌≡◌, refl, sym, ◌∙◌}
+use mathlib.Core.Path.{◌≡◌, refl, sym}
 use mathlib.Core.Bool.{Bool, true, false, cond, ◌&&◌}
 use Prim.Native.Nat.{ℕ, ◌≤◌}
 use native.Mathlib.Omega.{arith}
@@ -13,13 +13,6 @@ chosen b x y e = rw e
 pub passed : {A : Type 0} (b : Bool) (x y : A) → b ≡ false → y ≡ cond b x y
 passed b x y e = rw e
 
--- a choice by two numbers
-pub by-yes : (a b x y : ℕ) → a ≡ b → x ≡ cond (eqb a b) x y
-by-yes a b x y e = rw (eq-eqb a b e)
-
-pub by-no : (a b x y : ℕ) → (a ≡ b → ⊥) → y ≡ cond (eqb a b) x y
-by-no a b x y h = rw (ne_eqb a b h)
-
 pub both-pass : (a b : Bool) → (a && b) ≡ true → (a ≡ true) × (b ≡ true)
 both-pass true b e = (refl, e)
 both-pass false b e = let z : ◌≡◌ {A = ℕ} 0 1 = cc in let no : ⊥ = omega arith in absurd no
@@ -31,14 +24,6 @@ kept-within y m = go (leb y m) refl
     go : (b : Bool) → leb y m ≡ b → cond b y 0 ≤ m
     go true e = leb-true y m e
     go false e = omega arith
-
--- a test of a definition, by a test of a number that equals it
-module _ {x y k : ℕ} (e : x ≡ y) where
-  pub is_eq : x ≡ k → eqb y k ≡ true
-  is_eq h = eq-eqb y k (omega arith)
-
-  pub is-other : (x ≡ k → ⊥) → eqb y k ≡ false
-  is-other h = ne_eqb y k (λ q. h (e ∙ q))
 
 -- a number equals what a bound keeps of it exactly where it is within the bound
 pub named-is : (y m : ℕ) → leb y m ≡ eqb y (cond (leb y m) y 0)

@@ -50,14 +50,6 @@ module _ (bytes : List ℕ) (cap d mark₀ : ℕ) (l₀ : Header → Counted) wh
             record { state = y.state; drawn = y.drawn; is-mark = λ n. y.next-mark ∙ ap (λ (k : ℕ). (k + 1) % 65536) (x.is-mark n) ∙ sym m; goes_on = x.goes_on ∙ y.goes_on done };
       }
 
-      pub ran-stopped : given ≢ 0 → Ran bytes cap d mark₀ l₀ (lists t' v' c') done given at mark
-      ran-stopped z = record {
-        answer = λ s p.
-            let x = o.present s p in
-            rw (x.goes_on, u.stops z x.state x.drawn done) (refl, refl, refl, subst (λ (l : Header → Counted). Drawn x.state cap d l) (sym (u.same z)) x.drawn);
-        marks = λ s p n. let x = o.present s p in rw (x.goes_on, u.stops z x.state x.drawn done) (x.is-mark n);
-      }
-
     pub ran_over : length bytes ≤ at → Ran bytes cap d mark₀ l₀ (lists t v c) done 0 at mark
     ran_over h = record {
       answer = λ s p.

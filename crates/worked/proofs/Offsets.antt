@@ -12,7 +12,6 @@ use Rattle.mesh.specs.Place.{Wind, NE, compass}
 use Rattle.mesh.specs.Picture.{i_word, j_word, parent_word}
 use Rattle.mesh.specs.Winds.{winds, word_of_wind}
 use Rattle.winds.specs.WindTable.{compass_at, kid_l, kid_m, KidWind}
-use Rattle.winds.specs.declared.Compass.{Compass}
 use Rattle.winds.proofs.KidWinds.{each-kid}
 use Rattle.table.specs.Words.{word_of, link_of}
 use Rattle.worked.specs.Worked.{kid_word, stays_in, side_of, side_by}
@@ -34,10 +33,6 @@ at (suc (suc (suc (suc (suc zero))))) h = record { east = refl; north = refl; ea
 at (suc (suc (suc (suc (suc (suc zero)))))) h = record { east = refl; north = refl; east-small = lit≤ tt; north-small = lit≤ tt; word = refl }
 at (suc (suc (suc (suc (suc (suc (suc zero))))))) h = record { east = refl; north = refl; east-small = lit≤ tt; north-small = lit≤ tt; word = refl }
 at (suc (suc (suc (suc (suc (suc (suc (suc i)))))))) h = let no : ⊥ = omega arith in absurd no
-
--- the offsets of what is read there
-pub small : (x : Compass) (i : ℕ) → i < 8 → x ≡ compass_at i → (x.east ≤ 2) × (x.north ≤ 2)
-small x i h e = rw e ((at i h).east-small, (at i h).north-small)
 
 -- the word of the kid in the wind at place i
 pub kid-word-at : (i : ℕ) → i < 4 → kid_word (kid_l i) (kid_m i) ≡ i + 1
