@@ -34,6 +34,7 @@ fn letter_of(c: Carried) -> u8
 }
 
 // Puts the letter and the value, which end a line.
+#[inline(always)]
 fn put_value(sheet: &mut Sheet, c: Carried)
     requires { HasRoom sheet.old 19 }
     ensures { PutOn sheet.old (line_end c) sheet.new }

@@ -24,6 +24,7 @@ pub fn sum_of(s: &[u8]) -> u32
 }
 
 impl Sheet<'_> {
+    #[inline(always)]
     pub fn byte(&mut self, b: u8)
         requires { HasRoom self.old 1 }
         ensures { PutOn self.old (b ∷ []) self.new }
@@ -32,6 +33,7 @@ impl Sheet<'_> {
         self.at += 1;
     }
 
+    #[inline(always)]
     pub fn text(&mut self, s: &[u8])
         requires { HasRoom self.old (length s.now) }
         ensures { PutOn self.old s.now self.new }
@@ -42,6 +44,7 @@ impl Sheet<'_> {
     }
 
     // The last digit is put first.
+    #[inline(always)]
     pub fn decimal(&mut self, x: u32)
         requires { HasRoom self.old (length (decimal x)) }
         ensures { PutOn self.old (decimal x) self.new }
@@ -56,6 +59,7 @@ impl Sheet<'_> {
     }
 
     /// A number and the blank after it.
+    #[inline(always)]
     pub fn number(&mut self, x: u32)
         requires { HasRoom self.old (length (decimal x) + 1) }
         ensures { PutOn self.old (decimal x ++ space ∷ []) self.new }
@@ -65,6 +69,7 @@ impl Sheet<'_> {
     }
 
     // The 16 hexadecimal digits of x, the last first.
+    #[inline(always)]
     pub fn hex(&mut self, x: u64)
         requires { HasRoom self.old 16 }
         ensures { PutOn self.old (hex_in 16 x []) self.new }
