@@ -289,6 +289,41 @@ class Compared(unittest.TestCase):
         other = dict(OLD, **{shapes: OLD[shapes].replace("std.specs.Prelude", "std.specs.Other")})
         self.assertEqual(names(compare.compare(OLD, other), "definition", "changed"), ["Demand3.gone", "Demand3.linked", "Demand3.tiled"])
 
+    def test_blocks(self):
+        """Methods by their type, whatever lifetimes, traits and ghost items stand around them, and what follows a block."""
+        text = """
+pub trait Sink: Sized {
+    ghost took: { Self → Self };
+
+    fn take(&mut self, n: u16)
+        ensures { took self.old ≡ self.new };
+}
+
+impl Sink for Numbers<'_> {
+    ghost took = { kept };
+
+    fn take(&mut self, n: u16) {
+        self.at += 1;
+    }
+}
+
+impl<T: Copy> Scan<'_, T> {
+    ghost use Rattle.std.specs.Prelude.{length};
+
+    pub fn count(&self) -> usize
+        ensures { result ≡ 1 }
+    {
+        1
+    }
+}
+
+pub fn after(x: u32) -> u32 {
+    x
+}
+"""
+        names = [item.name for item in compare.code_items(("a", "src", "lib"), text)]
+        self.assertEqual(names, ["Sink", "Numbers::take", "Scan::count", "after"])
+
     def test_report(self):
         text = compare.report(self.found, OLD["docs/PROMISES.md"], NEW["docs/PROMISES.md"], False)
         self.assertIn("| definitions | 3 | 1 | 1 | 1 | 4 |", text)
