@@ -4,8 +4,8 @@ use Rattle.std.specs.Prelude.{◌≡◌, ℕ, Bool, true, false, cond, List, [],
 use Rattle.std.proofs.Common.{refl, sym, ap, ◌∙◌, arith, subst}
 use Rattle.mesh.specs.Refusal.{Check, ◌if◌, refusal}
 use Rattle.answer.specs.declared.Refusal.{Refusal}
-use Rattle.answer.specs.Refusals.{number, refusal_of}
-use Rattle.answer.proofs.Numbers.{above-zero, same-number}
+use Rattle.answer.specs.Answered.{number, refusal_of}
+use Rattle.answer.proofs.RefusalNumbers.{above-zero, same-number}
 
 -- the answer is refused as the checks say
 pub record Decided {A : Type 0} (cs : List Check) (out : Result A Refusal) : Type 0 where

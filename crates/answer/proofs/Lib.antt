@@ -1,3 +1,3 @@
 -- The laws of refusals and their numbers.
-pub mod Numbers
+pub mod RefusalNumbers
 pub mod InOrder

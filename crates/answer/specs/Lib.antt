@@ -1,3 +1,3 @@
 -- The refusals by their numbers, and what a call that writes leaves.
-pub mod Refusals
+pub mod Answered
 pub mod OutputLists

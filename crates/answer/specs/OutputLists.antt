@@ -3,7 +3,7 @@
 use Rattle.std.specs.Prelude.{ℕ, List, Result}
 use Rattle.mesh.specs.Call as Call
 use Rattle.answer.specs.declared.Refusal.{Refusal}
-use Rattle.answer.specs.Refusals.{refusal_of, value_or}
+use Rattle.answer.specs.Answered.{refusal_of, value_or}
 
 -- how many places it wrote, 0 if it is refused
 abbrev pub wrote_of : Result ℕ Refusal → List ℕ → Call.Wrote

@@ -2,7 +2,7 @@
 #![tactic(auto)]
 
 ghost use Rattle.std.specs.Prelude.{◌≡◌, cond, Ok, Err};
-ghost use Rattle.answer.specs.Refusals.{number, refusal_of, stop_of};
+ghost use Rattle.answer.specs.Answered.{number, refusal_of, stop_of};
 
 /// What a call or a request is refused for, in the order of the numbers.
 #[derive(Clone, Copy, Debug, PartialEq, Eq, Hash)]

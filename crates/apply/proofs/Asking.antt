@@ -15,9 +15,9 @@ use Rattle.mesh.specs.Request.{Request, set_value, checks}
 use Rattle.number_laws.proofs.Checks.{passes}
 use Rattle.number_laws.proofs.Naming.{named}
 use Rattle.apply.specs.Applied.{Applied}
-use Rattle.kinds.specs.declared.requests.Request as Kinds
-use Rattle.kinds.specs.declared.requests.Request.TheVariants.{Refine, Sentence, Remove, Kill, SetValue}
-use Rattle.kinds.specs.Requests.{request_of, SetsFor, MadeFor}
+use Rattle.kinds.specs.declared.asked.Request as Kinds
+use Rattle.kinds.specs.declared.asked.Request.TheVariants.{Refine, Sentence, Remove, Kill, SetValue}
+use Rattle.kinds.specs.AskedFor.{request_of, SetsFor, MadeFor}
 
 -- an accepted value is finite
 finite-then : (s : State) (n : ℕ) (x : Float) → Valid s → refusal (checks s (set_value n x)) ≡ 0 → finite x ≡ true

@@ -2,8 +2,8 @@
 -- Assumes nothing.
 use Rattle.std.specs.Prelude.{Result}
 use Rattle.answer.specs.declared.Refusal.{Refusal}
-use Rattle.answer.specs.Refusals.{number, refusal_of}
-use Rattle.answer.proofs.Numbers.{not-zero}
+use Rattle.answer.specs.Answered.{number, refusal_of}
+use Rattle.answer.proofs.RefusalNumbers.{not-zero}
 use Prim.Native.Nat.{ℕ, ◌≤◌}
 use mathlib.Core.Path.{◌≡◌, refl, sym, ◌∙◌}
 use mathlib.Core.Logic.{◌≢◌}

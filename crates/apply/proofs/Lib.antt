@@ -5,5 +5,5 @@ pub mod Deciding
 pub mod Tallying
 pub mod Applying
 pub mod Following
-pub mod Keeping
+pub mod Untouched
 pub mod Asking

@@ -2,13 +2,13 @@
 #![tactic(auto)]
 
 ghost use Rattle.mesh.specs.Request.{refine, sentence, remove, kill, set_value};
-ghost use Rattle.answer.specs.Refusals.{refusal_of};
-ghost use Rattle.kinds.specs.Requests.{request_of};
+ghost use Rattle.answer.specs.Answered.{refusal_of};
+ghost use Rattle.kinds.specs.AskedFor.{request_of};
 ghost use Rattle.apply.specs.Edited.{Ready, Requested};
 
 use answer::Refusal;
 use free::map::FreeMap;
-use kinds::requests::Request;
+use kinds::asked::Request;
 use refusals::one_row::{sentence_at, set_at};
 use refusals::requests::{
     kill_refusal, refine_refusal, remove_refusal, sentence_refusal, set_refusal,

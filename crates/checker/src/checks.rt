@@ -1,6 +1,6 @@
 // The checker of lent lists: yes, or refusal 1, 2 or 3.
 ghost use Rattle.std.specs.Prelude.{◌≡◌, IfOk};
-ghost use Rattle.answer.specs.Refusals.{refusal_of};
+ghost use Rattle.answer.specs.Answered.{refusal_of};
 ghost use Rattle.mesh.specs.Call.{lent_refusal, check_call};
 ghost use Rattle.header.specs.Headers.{lent_of, counted_of};
 ghost use Rattle.table.specs.Words.{Fits};

@@ -1,6 +1,6 @@
 // What is lent with a capacity: refusals 1 and 2, which every call begins with.
 ghost use Rattle.header.specs.Headers.{lent_of};
-ghost use Rattle.answer.specs.Refusals.{refusal_of};
+ghost use Rattle.answer.specs.Answered.{refusal_of};
 ghost use Rattle.checker.specs.FirstChecks.{FirstRefusal};
 
 use answer::{Refusal, refuse_if};

@@ -30,8 +30,8 @@ use Rattle.number_laws.proofs.Checks.{passes}
 use Rattle.demand_laws.proofs.PicturedCalls.{Buildable, build-checked}
 use Rattle.std.specs.Prelude.{Ok, Err}
 use Rattle.answer.specs.declared.Refusal.{Refusal}
-use Rattle.answer.specs.Refusals.{number}
-use Rattle.answer.proofs.Numbers.{not-zero}
+use Rattle.answer.specs.Answered.{number}
+use Rattle.answer.proofs.RefusalNumbers.{not-zero}
 use Rattle.grid.specs.Calls.{built_of, asked, Builds}
 
 -- ---- the refusal

@@ -35,7 +35,7 @@ use Rattle.demand_laws.proofs.PicturedCalls.{tape-checked, after_calls}
 use Rattle.demand_laws.proofs.Demand as laws
 use Rattle.std.specs.Prelude.{None, Result}
 use Rattle.answer.specs.declared.Refusal.{Refusal}
-use Rattle.answer.specs.Refusals.{refusal_of, value_or, stop_of}
+use Rattle.answer.specs.Answered.{refusal_of, value_or, stop_of}
 use Rattle.grid.specs.declared.Taped.{Taped}
 use Rattle.answer.specs.OutputLists.{wrote_of}
 use Rattle.grid.specs.Calls.{asked, Builds, Tapes, count_of}

@@ -18,8 +18,8 @@ use Rattle.tape.specs.Ran.{Ran}
 use Rattle.tape.proofs.TapeCalled.{pictured, ran_call}
 use Rattle.std.specs.Prelude.{Option, Some}
 use Rattle.answer.specs.declared.Refusal.{Refusal}
-use Rattle.answer.specs.Refusals.{number, stop_of}
-use Rattle.answer.proofs.Numbers.{not-zero}
+use Rattle.answer.specs.Answered.{number, stop_of}
+use Rattle.answer.proofs.RefusalNumbers.{not-zero}
 use Rattle.grid.specs.Calls.{taped_of, Tapes}
 
 module _ (l : Counted) (cap : ℕ) (bytes : List ℕ) where

@@ -17,8 +17,8 @@ use Rattle.lookup.specs.declared.Reading.TheVariants.{Measured, Carried, Blank}
 use Rattle.lookup.specs.LookupRows.{value_of_reading, no_leaf, found_of}
 use Rattle.std.specs.Prelude.{Result}
 use Rattle.answer.specs.declared.Refusal.{Refusal}
-use Rattle.answer.specs.Refusals.{value_or}
-use Rattle.answer.proofs.Numbers.{same-answer, same-check, same-stop}
+use Rattle.answer.specs.Answered.{value_or}
+use Rattle.answer.proofs.RefusalNumbers.{same-answer, same-check, same-stop}
 use Rattle.grid.specs.declared.Taped.{Taped}
 use Rattle.grid.specs.declared.BuildOut.{BuildOut}
 use Rattle.grid.specs.declared.TapeOut.{TapeOut}

@@ -5,7 +5,7 @@ use Rattle.mesh.specs.Place.{Grid}
 use Rattle.mesh.specs.LeafCounts.{Counted}
 use Rattle.mesh.specs.Call as Call
 use Rattle.answer.specs.declared.Refusal.{Refusal}
-use Rattle.answer.specs.Refusals.{refusal_of, value_or, stop_of}
+use Rattle.answer.specs.Answered.{refusal_of, value_or, stop_of}
 use Rattle.grid.specs.declared.Taped.{Taped}
 
 -- ---- build

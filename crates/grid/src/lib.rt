@@ -6,7 +6,7 @@ ghost use Rattle.mesh.specs.Refusal.{refusal};
 ghost use Rattle.mesh.specs.Call.{check_call, scan_call, lookup_call, page_call, build_checks, count_call};
 ghost use Rattle.header.specs.Headers.{header_of, lent_of, counted_of};
 ghost use Rattle.lookup.specs.LookupRows.{found_of};
-ghost use Rattle.answer.specs.Refusals.{refusal_of};
+ghost use Rattle.answer.specs.Answered.{refusal_of};
 ghost use Rattle.answer.specs.OutputLists.{wrote_of};
 ghost use Rattle.grid.specs.Calls.{Builds, Tapes, count_of};
 

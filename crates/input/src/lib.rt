@@ -3,7 +3,7 @@
 
 ghost use Rattle.std.specs.Prelude.{◌≡◌};
 ghost use Rattle.mesh.specs.Refusal.{refusal};
-ghost use Rattle.answer.specs.Refusals.{refusal_of};
+ghost use Rattle.answer.specs.Answered.{refusal_of};
 ghost use Rattle.mesh.specs.Program.{input_checks};
 
 use answer::{Refusal, refuse_if};

@@ -7,7 +7,7 @@ ghost use Rattle.table.specs.Words.{free_at};
 ghost use Rattle.table.specs.Plain.{Plain};
 ghost use Rattle.free.specs.FreeMap.{Maps};
 ghost use Rattle.edit_laws.specs.Tables.{drop_up, drop_corner, cleared, dropped_corners, still_used, kill_table, kill_values};
-ghost use Rattle.patch.specs.Patches.{Stepped};
+ghost use Rattle.patch.specs.NextPatches.{Stepped};
 ghost use Rattle.border.specs.Borders.{Within, border_of};
 ghost use Rattle.kill.specs.KilledCell.{corners_gone, still_border};
 
@@ -37,7 +37,7 @@ fn drop_up(p: &mut Patches, levels: u32, n: usize)
 }
 
 // A corner of the killed cell that no cell touches goes, and the ghosts above it that have no kid left.
-#[tactic(auto, using(patch::proofs::Steps::step_then), unfolding(edit_laws::specs::Tables::drop_corner))]
+#[tactic(auto, using(patch::proofs::StepsInTurn::step_then), unfolding(edit_laws::specs::Tables::drop_corner))]
 fn drop_corner(p: &mut Patches, d: u32, n: usize)
     requires { n ≤ p.old.cap }
     ensures { Stepped (λ t cap. drop_corner t cap d n) p.old p.new }

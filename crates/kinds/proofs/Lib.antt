@@ -2,4 +2,4 @@
 pub mod HighFirst
 pub mod Patterns
 pub mod Bodies
-pub mod Reading
+pub mod RequestsRead

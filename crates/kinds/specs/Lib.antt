@@ -1,3 +1,3 @@
 -- What the bytes of a request stand for.
 pub mod BodyLengths
-pub mod Requests
+pub mod AskedFor

@@ -1,8 +1,8 @@
 // The bytes of a request: the kind that its first byte announces, and the numbers and values in its body.
 #![tactic(auto)]
 
+pub mod asked;
 pub mod kind;
-pub mod requests;
 
 ghost use Rattle.std.specs.Prelude.{◌≡◌, ◌+◌, ◌≤◌, ◌<◌, length, drop};
 ghost use Rattle.mesh.specs.Tape.{field, number_in};

@@ -2,6 +2,6 @@
 pub mod ListedRows
 pub mod Written
 pub mod Kinds
-pub mod Scans
+pub mod ScanLists
 pub mod Sinks
 pub mod SinkLaws

@@ -7,7 +7,7 @@ ghost use Rattle.table.specs.Words.{depth_of};
 ghost use Rattle.walk.specs.WalkRows.{is_end};
 ghost use Rattle.listing.specs.ListedRows.{listed_row, from_level};
 ghost use Rattle.listing.specs.Kinds.{number_of};
-ghost use Rattle.listing.specs.Scans.{lists, rows_from, rows_under};
+ghost use Rattle.listing.specs.ScanLists.{lists, rows_from, rows_under};
 ghost use Rattle.listing.specs.Written.{WroteWhatFits};
 
 pub mod kinds;

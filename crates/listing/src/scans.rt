@@ -4,7 +4,7 @@ ghost use Rattle.mesh.specs.Tools.{all};
 ghost use Rattle.walk.specs.WalkRows.{kids_word};
 
 use crate::kinds::Kind;
-use walk::rows::Rows;
+use walk::checked::Rows;
 
 /// A scan of the rows of a table: the order of the kids, the kind, and the level from which rows are listed.
 #[derive(Clone, Copy)]

@@ -11,7 +11,7 @@ use Rattle.carried.specs.Carried.{carried_of, value_carried}
 use Rattle.worked.specs.Worked.{kid_word}
 use Rattle.walk.specs.WalkRows.{leaf_row}
 use Rattle.answer.specs.declared.Refusal.{Refusal}
-use Rattle.answer.specs.Refusals.{refusal_of, value_or}
+use Rattle.answer.specs.Answered.{refusal_of, value_or}
 use Rattle.lookup.specs.declared.Leaf.{Leaf}
 use Rattle.lookup.specs.declared.Reading.{Reading}
 use Rattle.lookup.specs.declared.Reading.TheVariants.{Measured, Carried, Blank}

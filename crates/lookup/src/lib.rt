@@ -18,8 +18,8 @@ use carried::{Carried, carried_at, is_blank, is_measured};
 use header::{Header, is_ring};
 use table::plain;
 use trees::Tree;
+use walk::checked::Rows;
 use walk::leaf;
-use walk::rows::Rows;
 use worked::kid_word;
 
 // Whether a load, in 1/4096 of a level-0 cell, lies past the last row of a ring.

@@ -2,4 +2,4 @@
 pub mod Opposite
 pub mod LinkingIn
 pub mod DroppedRows
-pub mod Steps
+pub mod StepsInTurn

@@ -1,3 +1,3 @@
 -- The bounds that the steps ask for.
 pub mod Small
-pub mod Patches
+pub mod NextPatches

@@ -26,7 +26,7 @@ pub struct Patches<'a> {
 }
 
 impl Patches<'_> {
-    ghost use Rattle.patch.specs.Patches.{Stepped};
+    ghost use Rattle.patch.specs.NextPatches.{Stepped};
 
     // The row that the word w of the row n names, or 0.
     pub fn link(&self, n: usize, w: usize) -> usize

@@ -15,7 +15,7 @@ use Rattle.mesh.specs.Program.{head_checks, tape_page, program, program_call}
 use Rattle.call_laws.proofs.Rowed.{leaves-few}
 use Rattle.std.specs.Prelude.{Result}
 use Rattle.answer.specs.declared.Refusal.{Refusal}
-use Rattle.answer.specs.Refusals.{value_or}
+use Rattle.answer.specs.Answered.{value_or}
 use Rattle.answer.specs.OutputLists.{wrote_of}
 use Rattle.program.proofs.LineLengths.{refused-long, page-long}
 use Rattle.program.proofs.PrintedTape.{ran, ran-valid}

@@ -30,7 +30,7 @@ use Rattle.demand_laws.proofs.PicturedCalls.{tape-runs}
 use Rattle.call_laws.proofs.Called.{checks-after}
 use Rattle.std.specs.Prelude.{Result}
 use Rattle.answer.specs.declared.Refusal.{Refusal}
-use Rattle.answer.specs.Refusals.{refusal_of, stop_of}
+use Rattle.answer.specs.Answered.{refusal_of, stop_of}
 use Rattle.grid.specs.declared.Taped.{Taped}
 use Rattle.grid.specs.Calls.{taped_of, Builds, Tapes}
 use Rattle.input.proofs.Head.{head-sizes}

@@ -8,7 +8,7 @@ ghost use Rattle.mesh.specs.Refusal.{refusal};
 ghost use Rattle.mesh.specs.Program.{refused_line, program_call, input_checks};
 ghost use Rattle.mesh.specs.Call.{writing};
 ghost use Rattle.lines.specs.Sheets.{HasRoom, PutOn};
-ghost use Rattle.answer.specs.Refusals.{number};
+ghost use Rattle.answer.specs.Answered.{number};
 ghost use Rattle.answer.specs.OutputLists.{wrote_of};
 
 use answer::{Refusal, refuse_if};

@@ -20,8 +20,8 @@ use Rattle.edit_laws.specs.PatchSteps.{link_in}
 use Rattle.edit_laws.specs.Tables.{spot, kid_at, supplied}
 use Rattle.edit_laws.proofs.FreeNumbers.{link-in-free}
 use Rattle.patch.specs.declared.patches.Patches.{Patches}
-use Rattle.patch.specs.Patches.{Same, Stepped}
-use Rattle.patch.proofs.Steps.{same_then}
+use Rattle.patch.specs.NextPatches.{Same, Stepped}
+use Rattle.patch.proofs.StepsInTurn.{same_then}
 use Rattle.patch.specs.Small.{AllSmall, Doubled}
 use Rattle.refine.proofs.SmallKids.{all_more}
 

@@ -2,7 +2,7 @@
 ghost use Rattle.std.specs.Prelude.{◌≡◌, ◌+◌, ◌*◌, ◌<◌, ◌≤◌, length};
 ghost use Rattle.mesh.specs.Picture.{row_words};
 ghost use Rattle.edit_laws.specs.Tables.{supplied, supplied_near};
-ghost use Rattle.patch.specs.Patches.{Stepped};
+ghost use Rattle.patch.specs.NextPatches.{Stepped};
 ghost use Rattle.patch.specs.Small.{AllSmall, Doubled};
 ghost use Rattle.near.specs.NearSpots.{kid_spot};
 

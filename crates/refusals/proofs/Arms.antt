@@ -15,8 +15,8 @@ use Rattle.table.proofs.Taken.{taken-within}
 use Rattle.number_laws.proofs.Checks.{passes, kept}
 use Rattle.std.specs.Prelude.{Result}
 use Rattle.answer.specs.declared.Refusal.{Refusal}
-use Rattle.answer.specs.Refusals.{number, refusal_of}
-use Rattle.answer.proofs.Numbers.{above-zero}
+use Rattle.answer.specs.Answered.{number, refusal_of}
+use Rattle.answer.proofs.RefusalNumbers.{above-zero}
 use Rattle.answer.proofs.InOrder.{Decided}
 use Rattle.refusals.specs.OneRow.{sentence_table}
 use Rattle.refusals.specs.Decide.{row6, row7}

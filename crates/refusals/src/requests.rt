@@ -1,7 +1,7 @@
 // What each kind of request is refused for, by the checks of 01 and of 02, No. 1, in their order.
 ghost use Rattle.std.specs.Prelude.{◌≡◌, [], ◌∷◌, ◌≤◌};
 ghost use Rattle.mesh.specs.Refusal.{refusal};
-ghost use Rattle.answer.specs.Refusals.{refusal_of};
+ghost use Rattle.answer.specs.Answered.{refusal_of};
 ghost use Rattle.table.specs.Plain.{Plain, Sized};
 ghost use Rattle.free.specs.Free.{free_total};
 ghost use Rattle.refusals.specs.Decide.{row6, row7, refine_refusal, sentence_refusal, remove_refusal, kill_refusal, set_refusal};

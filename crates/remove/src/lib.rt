@@ -6,7 +6,7 @@ ghost use Rattle.edit_laws.specs.Tables.{wanted_spots, at_kid, each_at, drop_unt
 ghost use Rattle.table.specs.Plain.{Plain};
 ghost use Rattle.table.specs.Words.{free_at};
 ghost use Rattle.free.specs.FreeMap.{Maps};
-ghost use Rattle.patch.specs.Patches.{Stepped};
+ghost use Rattle.patch.specs.NextPatches.{Stepped};
 ghost use Rattle.near.specs.NearSpots.{kid_spot};
 
 use carried::blank;

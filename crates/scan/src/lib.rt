@@ -6,9 +6,9 @@ ghost use Rattle.mesh.specs.Tools.{any};
 ghost use Rattle.mesh.specs.Refusal.{refusal};
 ghost use Rattle.mesh.specs.Scan.{permutation};
 ghost use Rattle.table.specs.Plain.{Sized};
-ghost use Rattle.answer.specs.Refusals.{refusal_of};
+ghost use Rattle.answer.specs.Answered.{refusal_of};
 ghost use Rattle.answer.specs.OutputLists.{wrote_of};
-ghost use Rattle.listing.specs.Scans.{rows_from};
+ghost use Rattle.listing.specs.ScanLists.{rows_from};
 ghost use Rattle.scan.specs.FourBytes.{four_of};
 ghost use Rattle.scan.specs.ScanRows.{start_checks, Few, row_scan_out};
 ghost use Rattle.walk.specs.Walkable.{Walkable};
@@ -17,7 +17,7 @@ use answer::{Refusal, refuse_if};
 use listing::kinds::Kind;
 use listing::scans::Scan;
 use table::words::{LEVEL, is_taken, raw};
-use walk::rows::Rows;
+use walk::checked::Rows;
 
 // The order as four bytes; a list of another length is no permutation, and neither are four zeros.
 pub fn four(order: &[u8]) -> [u8; 4]

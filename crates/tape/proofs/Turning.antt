@@ -2,8 +2,8 @@
 -- Assumes nothing.
 use Rattle.std.specs.Prelude.{Result}
 use Rattle.answer.specs.declared.Refusal.{Refusal}
-use Rattle.answer.specs.Refusals.{number, refusal_of, value_or}
-use Rattle.answer.proofs.Numbers.{not-zero}
+use Rattle.answer.specs.Answered.{number, refusal_of, value_or}
+use Rattle.answer.proofs.RefusalNumbers.{not-zero}
 use Prim.Native.Nat.{ℕ, zero, suc, ◌+◌, ◌≤◌, ◌<◌}
 use native.Mathlib.Omega.{arith}
 use native.Mathlib.Numerals.{add-one}
@@ -20,8 +20,8 @@ use Rattle.mesh.specs.Request.{Request, checks, effect, marked, refused, accepte
 use Rattle.mesh.specs.Tape.{Kind, kind, asks, stop, next, step_by, run_from}
 use Rattle.mesh.proofs.Runs.{run-over, run-stop, run-next}
 use Rattle.apply.specs.Applied.{Applied}
-use Rattle.kinds.specs.declared.requests.Request as Read
-use Rattle.kinds.specs.Requests.{request_of, Announced, Unread}
+use Rattle.kinds.specs.declared.asked.Request as Read
+use Rattle.kinds.specs.AskedFor.{request_of, Announced, Unread}
 use Rattle.tape.specs.Ran.{Turned}
 use Rattle.apply.proofs.Drawing.{request-accepted, accepted-done}
 use Rattle.apply.proofs.Asking.{made-for}

@@ -1,6 +1,6 @@
 // The requests of a tape, one after the other, up to the first that is refused.
 ghost use Rattle.std.specs.Prelude.{◌<◌, length};
-ghost use Rattle.answer.specs.Refusals.{refusal_of, value_or, stop_of};
+ghost use Rattle.answer.specs.Answered.{refusal_of, value_or, stop_of};
 ghost use Rattle.apply.specs.Drawn.{lists, Pictured};
 ghost use Rattle.apply.specs.Edited.{held, Ready, Kept};
 ghost use Rattle.tape.specs.Ran.{Turned, Ran};
@@ -9,7 +9,7 @@ use answer::Refusal;
 use apply::EditedTable;
 use free::map::FreeMap;
 use header::next_mark;
-use kinds::requests::Request;
+use kinds::asked::Request;
 
 // The request whose kind byte stands at `at`; the offset of the next kind byte.
 fn turn_at(edited: &mut EditedTable, tape: &[u8], at: usize) -> Result<usize, Refusal>

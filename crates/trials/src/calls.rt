@@ -2,8 +2,8 @@
 // seen to stay.
 ghost use Rattle.std.specs.Prelude.{◌≤◌};
 
-use crate::kind::Call;
 use crate::loan::{Loan, keep, lend};
+use crate::runs::Call;
 use answer::{Refusal, number_of, stop_number};
 use header::Header;
 use lookup::{Leaf, Reading};

@@ -26,11 +26,11 @@
 #![tactic(auto)]
 
 mod calls;
-mod kind;
 mod loan;
+mod runs;
 
 use crate::calls::line;
-use crate::kind::Kind;
+use crate::runs::Kind;
 use reports::input::read_full;
 use reports::lists::Lent;
 use std::io;

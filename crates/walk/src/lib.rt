@@ -6,7 +6,7 @@ ghost use Rattle.mesh.specs.Picture.{row_words};
 ghost use Rattle.table.specs.Plain.{Plain, Sized};
 ghost use Rattle.walk.specs.WalkRows.{bare_row, leaf_row};
 
-pub mod rows;
+pub mod checked;
 
 use table::flag_bits::COMPLETE;
 use table::words::{NE_KID, NW_KID, SE_KID, SW_KID, says};

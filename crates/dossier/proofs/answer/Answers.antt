@@ -1,7 +1,7 @@
 -- What is printed fits the output.
 use Rattle.std.proofs.Common.{arith, rules, sym, ◌≡◌}
 use Rattle.std.proofs.lemmas.List.{length-take-le}
-use Rattle.answer.specs.Refusals.{value_or}
+use Rattle.answer.specs.Answered.{value_or}
 use Rattle.program.proofs.Fits.{count_fits}
 use Rattle.dossier.proofs.answer.Goals as goal
 

@@ -1,6 +1,6 @@
 -- `face::grid_build` meets its contract: what `grid::build` answers, and the number in use fits 32 bits.
 use Rattle.std.proofs.Common.{rules, ◌≡◌}
-use Rattle.answer.specs.Refusals.{value_or}
+use Rattle.answer.specs.Answered.{value_or}
 use Rattle.face.proofs.CountsFit.{build-fits}
 use Rattle.face.proofs.grid_build.Goals as goal
 

@@ -1,7 +1,7 @@
 -- `face::grid_scan` meets its contract: what `grid::scan` answers in the four bytes of the order, and the count fits 32 bits.
 use Rattle.std.proofs.Common.{rules, ◌≡◌}
 use mir.Facts.{to_z-of_z}
-use Rattle.answer.specs.Refusals.{value_or}
+use Rattle.answer.specs.Answered.{value_or}
 use Rattle.face.proofs.AnyOrder.{scanned}
 use Rattle.face.proofs.CountsFit.{scan-fits}
 use Rattle.face.proofs.grid_scan.Goals as goal

@@ -1,9 +1,9 @@
 -- `grid::build_refusal` meets its contract: one of the first two refusals, or the room for the patches.
 use Rattle.std.proofs.Common.{rules, refl, ◌≡◌, ◌∙◌, arith}
 use Rattle.std.proofs.lemmas.Bool.{eqb-true, eqb-false, ltb-true, ltb-false, not-true, not-false}
-use Rattle.answer.specs.Refusals.{number, refusal_of}
+use Rattle.answer.specs.Answered.{number, refusal_of}
 use Rattle.answer.specs.declared.Refusal.TheVariants.{BadLengths, TooFewFree}
-use Rattle.answer.proofs.Numbers.{not-zero}
+use Rattle.answer.proofs.RefusalNumbers.{not-zero}
 use Rattle.answer.proofs.InOrder.{refused_is, answered_is, passes}
 use Rattle.grid.proofs.BuildCalls.{miscounted, early, too_few, enough}
 use Rattle.grid.proofs.build_refusal.Goals as goal

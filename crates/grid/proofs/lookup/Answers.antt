@@ -1,7 +1,7 @@
 -- `grid::lookup` meets its contract: the first checks refuse, or the lookup by rows is the call's.
 use Rattle.std.proofs.Common.{rules, sym, ◌≡◌, ◌∙◌, Err, arith}
 use Rattle.lookup.specs.LookupRows.{found_of}
-use Rattle.answer.proofs.Numbers.{not-zero}
+use Rattle.answer.proofs.RefusalNumbers.{not-zero}
 use Rattle.picture_laws.proofs.Accepted.{lent-sizes}
 use Rattle.grid.proofs.First.{shallow, lent-walkable, lookup_first, lookup-done}
 use Rattle.grid.proofs.lookup.Goals as goal

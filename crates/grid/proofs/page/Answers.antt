@@ -1,7 +1,7 @@
 -- `grid::page` meets its contract: the first checks refuse, or what is lent is a picture and the page by rows is the call's.
 use Rattle.std.proofs.Common.{rules, sym, ◌≡◌, ◌∙◌, Err, arith}
 use Rattle.answer.specs.OutputLists.{wrote_of}
-use Rattle.answer.proofs.Numbers.{not-zero}
+use Rattle.answer.proofs.RefusalNumbers.{not-zero}
 use Rattle.header.specs.Headers.{lent_of}
 use Rattle.picture_laws.proofs.Accepted.{lent-sizes}
 use Rattle.grid.proofs.First.{page-first, page-listed, page-done}

@@ -1,7 +1,7 @@
 -- `grid::scan` meets its contract: the first checks refuse, or what is lent is a picture and the scan by rows is the call's.
 use Rattle.std.proofs.Common.{rules, sym, ◌≡◌, ◌∙◌, Err}
 use Rattle.answer.specs.OutputLists.{wrote_of}
-use Rattle.answer.proofs.Numbers.{not-zero}
+use Rattle.answer.proofs.RefusalNumbers.{not-zero}
 use mir.Facts.{to_z-of_z}
 use Rattle.grid.proofs.First.{lent-walkable, lent-few, scan-first, scan-done}
 use Rattle.header.specs.Headers.{lent_of}

@@ -1,5 +1,5 @@
 -- `kill::drop_corners` meets its contract.
-use Rattle.patch.proofs.Steps.{step_then}
+use Rattle.patch.proofs.StepsInTurn.{step_then}
 use Rattle.kill.proofs.drop_corners.Goals as goal
 
 pub returns : goal.returns

@@ -2,7 +2,7 @@
 use Rattle.std.proofs.Common.{arith, ◌≡◌, ◌-◌, ◌+◌, sym, ◌∙◌}
 use mathlib.Core.Path.{ap₂}
 use Rattle.edit_laws.specs.Tables.{drop_up}
-use Rattle.patch.proofs.Steps.{same_then}
+use Rattle.patch.proofs.StepsInTurn.{same_then}
 use Rattle.patch.proofs.DroppedRows.{up-end, up-nil, up_kept, up-on}
 use Rattle.kill.proofs.drop_up.Goals as goal
 use Rattle.kill.proofs.drop_up.Goals.{then-k-eq0-via-then-k-eq0, then-k-eq0-via-else-k-eq0+then-not-kidless}

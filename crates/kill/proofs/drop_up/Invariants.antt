@@ -1,7 +1,7 @@
 -- The invariant: what is left to do is the same from here as from the start.
 use Rattle.std.proofs.Common.{◌≡◌, ◌≤◌, ◌-◌}
 use Rattle.edit_laws.specs.Tables.{drop_up}
-use Rattle.patch.specs.Patches.{Same}
+use Rattle.patch.specs.NextPatches.{Same}
 use Rattle.kill.proofs.drop_up.Given as goal
 
 abbrev pub invariant-loop-level : goal.invariant-loop-level

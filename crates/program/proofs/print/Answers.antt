@@ -1,5 +1,5 @@
 -- `program::print` meets its contract: the head refuses, or all is printed on lists of the capacity.
-use Rattle.answer.proofs.Numbers.{not-zero}
+use Rattle.answer.proofs.RefusalNumbers.{not-zero}
 use Rattle.program.proofs.Printed.{prints, head-refused}
 use Rattle.program.proofs.print.Goals as goal
 

@@ -1,7 +1,7 @@
 -- `program::print_on` meets its contract: the build, the tape and the page on lists that picture the state, or the refusal of one of the first two.
 use Rattle.std.proofs.Common.{sym, ap, ◌∙◌, arith}
-use Rattle.answer.specs.Refusals.{refusal_of, stop_of}
-use Rattle.answer.proofs.Numbers.{not-zero}
+use Rattle.answer.specs.Answered.{refusal_of, stop_of}
+use Rattle.answer.proofs.RefusalNumbers.{not-zero}
 use Rattle.input.proofs.Head.{head-sizes}
 use Rattle.program.proofs.Printed.{prints, build-refused, offset-low, tape-refused, tape-printed}
 use Rattle.program.proofs.print_on.Goals as goal

@@ -3,7 +3,7 @@ use Rattle.std.proofs.Common.{rules, ℕ, length, ap, ◌≡◌, ◌∙◌, Err,
 use Rattle.std.proofs.lemmas.Bool.{ltb-true, ltb-false}
 use Rattle.answer.specs.declared.Refusal.{Refusal}
 use Rattle.answer.specs.declared.Refusal.TheVariants.{TooShort}
-use Rattle.answer.specs.Refusals.{number}
+use Rattle.answer.specs.Answered.{number}
 use Rattle.mesh.specs.Page.{decimal}
 use Rattle.answer.specs.OutputLists.{wrote_of}
 use Rattle.answer.proofs.InOrder.{refuses, passes}

@@ -2,7 +2,7 @@
 use mathlib.Core.Path.{◌∙◌}
 use Rattle.edit_laws.specs.Tables.{at_kid, drop_untouched}
 use Rattle.near.proofs.SpotSteps.{over-wanted}
-use Rattle.patch.proofs.Steps.{step_then}
+use Rattle.patch.proofs.StepsInTurn.{step_then}
 use Rattle.remove.proofs.drop_near.Goals as goal
 
 pub returns : goal.returns

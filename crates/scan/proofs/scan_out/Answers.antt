@@ -26,7 +26,7 @@ use Rattle.std.proofs.lemmas.Bool.{not-true, not-false}
 use Rattle.answer.specs.declared.Refusal.{Refusal}
 use Rattle.answer.specs.declared.Refusal.TheVariants.{TooShort}
 use Rattle.answer.specs.OutputLists.{wrote_of}
-use Rattle.answer.proofs.Numbers.{not-zero}
+use Rattle.answer.proofs.RefusalNumbers.{not-zero}
 use Rattle.answer.proofs.InOrder.{refuses, passes}
 use Rattle.scan.proofs.scan_out.Goals as goal
 

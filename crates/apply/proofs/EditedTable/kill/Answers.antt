@@ -1,12 +1,12 @@
 -- `apply::EditedTable::kill` meets its contract: the refusal is the rules', and what `kill::kill` writes is the picture of the state without the cell.
 use Rattle.std.proofs.Common.{rules, refl, ◌≡◌, arith}
-use Rattle.answer.specs.Refusals.{number, refusal_of}
+use Rattle.answer.specs.Answered.{number, refusal_of}
 use Rattle.apply.proofs.Deciding.{stopped, kill-decides, kill-within}
 use Rattle.apply.proofs.Tallying.{kill-asks}
 use Rattle.apply.proofs.Applying.{kill-applied}
 use Rattle.apply.proofs.Following.{kill-first, kill-left, same-mapped}
 use Rattle.apply.proofs.Tamed.{drawn-ranged, drawn-tame}
-use Rattle.apply.proofs.Keeping.{unchanged}
+use Rattle.apply.proofs.Untouched.{unchanged}
 use Rattle.apply.proofs.EditedTable.kill.Goals as goal
 
 pub kill_refusal-requires : goal.kill_refusal-requires

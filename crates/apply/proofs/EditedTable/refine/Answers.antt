@@ -1,12 +1,12 @@
 -- `apply::EditedTable::refine` meets its contract: the refusal is the rules', and what `refine::refine` writes is the picture of the refined state.
 use Rattle.std.proofs.Common.{rules, refl, ◌≡◌, arith}
-use Rattle.answer.specs.Refusals.{number, refusal_of}
+use Rattle.answer.specs.Answered.{number, refusal_of}
 use Rattle.apply.proofs.Deciding.{stopped, refine-decides, refine-within}
 use Rattle.apply.proofs.Tallying.{refine-asks}
 use Rattle.apply.proofs.Applying.{refine-applied}
 use Rattle.apply.proofs.Following.{refine-left, same-mapped, total-count}
 use Rattle.apply.proofs.Tamed.{drawn-ranged, drawn-tame}
-use Rattle.apply.proofs.Keeping.{unchanged}
+use Rattle.apply.proofs.Untouched.{unchanged}
 use Rattle.apply.proofs.EditedTable.refine.Goals as goal
 
 pub refine_refusal-requires : goal.refine_refusal-requires

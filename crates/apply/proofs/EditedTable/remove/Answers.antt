@@ -1,12 +1,12 @@
 -- `apply::EditedTable::remove` meets its contract: the refusal is the rules', and what `remove::remove` writes is the picture of the state without the kids.
 use Rattle.std.proofs.Common.{rules, refl, ◌≡◌, arith}
-use Rattle.answer.specs.Refusals.{number, refusal_of}
+use Rattle.answer.specs.Answered.{number, refusal_of}
 use Rattle.apply.proofs.Deciding.{stopped, remove-decides, remove-within}
 use Rattle.apply.proofs.Tallying.{remove-asks}
 use Rattle.apply.proofs.Applying.{remove-applied}
 use Rattle.apply.proofs.Following.{remove_first, remove-left, same-mapped}
 use Rattle.apply.proofs.Tamed.{drawn-ranged, drawn-tame}
-use Rattle.apply.proofs.Keeping.{unchanged}
+use Rattle.apply.proofs.Untouched.{unchanged}
 use Rattle.apply.proofs.EditedTable.remove.Goals as goal
 
 pub remove_refusal-requires : goal.remove_refusal-requires

@@ -1,11 +1,11 @@
 -- `apply::EditedTable::sentence` meets its contract: the refusal is the rules', and the one word that is written makes the picture of the state with the cell sentenced.
 use Rattle.std.proofs.Common.{rules, refl, ◌≡◌, arith}
-use Rattle.answer.specs.Refusals.{number, refusal_of}
+use Rattle.answer.specs.Answered.{number, refusal_of}
 use Rattle.apply.proofs.Deciding.{stopped, sentence-decides, sentence-within}
 use Rattle.apply.proofs.Applying.{sentence-applied}
 use Rattle.apply.proofs.Following.{sentence-free, same-mapped}
 use Rattle.apply.proofs.Tamed.{drawn-ranged, drawn-tame}
-use Rattle.apply.proofs.Keeping.{unchanged}
+use Rattle.apply.proofs.Untouched.{unchanged}
 use Rattle.apply.proofs.EditedTable.sentence.Goals as goal
 
 pub sentence_refusal-requires : goal.sentence_refusal-requires

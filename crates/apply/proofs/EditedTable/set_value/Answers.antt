@@ -1,12 +1,12 @@
 -- `apply::EditedTable::set_value` meets its contract: the refusal is the rules', and what is written is the picture of the state with the value.
 use Rattle.std.proofs.Common.{rules, refl, ◌≡◌, arith}
-use Rattle.answer.specs.Refusals.{number, refusal_of}
+use Rattle.answer.specs.Answered.{number, refusal_of}
 use Rattle.apply.proofs.Deciding.{stopped, set-decides, set-within}
 use Rattle.apply.proofs.Tallying.{set-asks}
 use Rattle.apply.proofs.Applying.{set-applied}
 use Rattle.apply.proofs.Following.{set_free, same-mapped}
 use Rattle.apply.proofs.Tamed.{drawn-ranged, drawn-tame}
-use Rattle.apply.proofs.Keeping.{unchanged}
+use Rattle.apply.proofs.Untouched.{unchanged}
 use Rattle.apply.proofs.EditedTable.set_value.Goals as goal
 
 pub set_refusal-requires : goal.set_refusal-requires

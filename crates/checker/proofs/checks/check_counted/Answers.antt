@@ -1,9 +1,9 @@
 -- `checker::checks::check_counted` meets its contract: the length of the lent counts comes first, and on a sound table they are compared with those of the rows.
 use Rattle.std.proofs.Common.{rules, ◌≡◌, ◌∙◌, refl}
 use Rattle.std.proofs.lemmas.Bool.{eqb-true, eqb-false, not-true, not-false}
-use Rattle.answer.specs.Refusals.{number, refusal_of}
+use Rattle.answer.specs.Answered.{number, refusal_of}
 use Rattle.answer.specs.declared.Refusal.TheVariants.{BadLengths, Unsound}
-use Rattle.answer.proofs.Numbers.{not-zero}
+use Rattle.answer.proofs.RefusalNumbers.{not-zero}
 use Rattle.answer.proofs.InOrder.{refused_is, answered_is, passes}
 use Rattle.tally_laws.proofs.CountedChecks.{miscounted, lent-refused}
 use Rattle.checker.proofs.CountedRows.{counts_same, counts-differ}

@@ -1,9 +1,9 @@
 -- `checker::checks::sound_counts` meets its contract: past the first two refusals the test by rows decides, and it has counted.
 use Rattle.std.proofs.Common.{rules, ◌≡◌}
 use Rattle.std.proofs.lemmas.Bool.{not-true, not-false}
-use Rattle.answer.specs.Refusals.{number, refusal_of}
+use Rattle.answer.specs.Answered.{number, refusal_of}
 use Rattle.answer.specs.declared.Refusal.TheVariants.{Unsound}
-use Rattle.answer.proofs.Numbers.{not-zero}
+use Rattle.answer.proofs.RefusalNumbers.{not-zero}
 use Rattle.answer.proofs.InOrder.{refused_is, passes}
 use native.Mathlib.Omega.{arith}
 use mathlib.Core.Path.{refl, sym, ◌∙◌}

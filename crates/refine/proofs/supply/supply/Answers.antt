@@ -2,7 +2,7 @@
 use mathlib.Core.Path.{refl}
 use native.Mathlib.Omega.{arith}
 use Rattle.free.proofs.FreeRows.{next-within}
-use Rattle.patch.proofs.Steps.{stands}
+use Rattle.patch.proofs.StepsInTurn.{stands}
 use Rattle.refine.proofs.SuppliedKid.{supplied-there, supplied-none, supplied-new, found, next-few, next-bit, without}
 use Rattle.refine.proofs.SmallKids.{doubled-same, doubled-new}
 use Rattle.refine.proofs.supply.supply.Goals as goal

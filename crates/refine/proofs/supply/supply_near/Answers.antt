@@ -3,7 +3,7 @@ use mathlib.Core.Path.{◌∙◌}
 use native.Mathlib.Omega.{arith}
 use Rattle.edit_laws.specs.Tables.{supplied}
 use Rattle.near.proofs.SpotSteps.{over-wanted}
-use Rattle.patch.proofs.Steps.{step_then}
+use Rattle.patch.proofs.StepsInTurn.{step_then}
 use Rattle.refine.proofs.SuppliedKid.{start, after, ready}
 use Rattle.refine.proofs.supply.supply_near.Goals as goal
 

@@ -4,7 +4,7 @@ use Rattle.std.proofs.Common.{rules, refl}
 use Rattle.apply.proofs.Following.{nil-taken}
 use Rattle.tape.proofs.Running.{starts, goes-next, ran_over, ready, turned-so, kept-on}
 use Rattle.apply.proofs.Tamed.{drawn-ranged}
-use Rattle.apply.proofs.Keeping.{unchanged}
+use Rattle.apply.proofs.Untouched.{unchanged}
 use Rattle.tape.proofs.turns.run_tape.Goals as goal
 
 pub load-map-requires : goal.load-map-requires

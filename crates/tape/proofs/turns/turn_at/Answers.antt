@@ -1,7 +1,7 @@
 -- `tape::turns::turn_at` meets its contract: no request, one that is refused, or one that is done.
 use Rattle.std.proofs.Common.{rules, ◌≡◌}
-use Rattle.answer.specs.Refusals.{number, refusal_of}
-use Rattle.apply.proofs.Keeping.{unchanged}
+use Rattle.answer.specs.Answered.{number, refusal_of}
+use Rattle.apply.proofs.Untouched.{unchanged}
 use Rattle.tape.proofs.Turning.{turned-unread, turned-request, turned-refused}
 use Rattle.tape.proofs.turns.turn_at.Goals as goal
 

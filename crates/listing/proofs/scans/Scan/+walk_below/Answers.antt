@@ -2,7 +2,7 @@
 use Rattle.std.proofs.Common.{rules, List, ℕ, ◌-◌, ◌<◌, ◌≤◌, length, refl, sym, ◌∙◌, subst}
 use Rattle.walk.specs.WalkRows.{row_walk}
 use Rattle.walk.proofs.WalkSteps.{parts_all, kid-more, walk_none, walk_end, walk-on, not_end}
-use Rattle.listing.specs.Scans.{lists}
+use Rattle.listing.specs.ScanLists.{lists}
 use Rattle.listing.proofs.scans.Scan.+walk_below.Goals as goal
 use Rattle.listing.proofs.scans.Scan.+walk_below.Goals.{then-kid-ne0+then-not-is_end, then-kid-ne0+else-not-is_end, else-kid-ne0}
 

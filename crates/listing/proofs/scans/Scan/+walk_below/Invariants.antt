@@ -1,6 +1,6 @@
 -- The measure is the levels left. The invariant: the sink took the parts of the first kids.
 use Rattle.walk.proofs.WalkSteps.{parts, kid_part}
-use Rattle.listing.specs.Scans.{lists}
+use Rattle.listing.specs.ScanLists.{lists}
 use Rattle.listing.proofs.scans.Scan.+walk_below.Given as goal
 
 abbrev pub invariant-loop-w : goal.invariant-loop-w

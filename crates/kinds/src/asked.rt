@@ -14,7 +14,7 @@ pub enum Request {
 
 impl Request {
     ghost use Rattle.std.specs.Prelude.{◌<◌, length, MatchResult};
-    ghost use Rattle.kinds.specs.Requests.{Announced, Unread};
+    ghost use Rattle.kinds.specs.AskedFor.{Announced, Unread};
 
     // The request whose kind byte stands at `at`, and the offset of the next kind byte.
     pub fn read(tape: &[u8], at: usize) -> Result<(Request, usize), Refusal>

@@ -14,9 +14,9 @@ use Rattle.mesh.specs.Tape as Tape
 use Rattle.mesh.specs.Tape.{field, number_in, value_in, kinds, kind, asks}
 use Rattle.kinds.specs.declared.kind.Kind.{Kind}
 use Rattle.kinds.specs.declared.kind.Kind.TheVariants.{Refine, Sentence, Remove, Kill, SetValue}
-use Rattle.kinds.specs.declared.requests.Request.{Request}
+use Rattle.kinds.specs.declared.asked.Request.{Request}
 use Rattle.kinds.specs.BodyLengths.{body_length, byte_of, StandsFor}
-use Rattle.kinds.specs.Requests.{MadeFor, SetsFor, Announced, Unread}
+use Rattle.kinds.specs.AskedFor.{MadeFor, SetsFor, Announced, Unread}
 use Rattle.kinds.proofs.Bodies.{field-body}
 
 -- ---- how long a body is

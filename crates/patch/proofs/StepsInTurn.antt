@@ -5,7 +5,7 @@ use mathlib.Core.List.{List}
 use Prim.Native.Nat.{ℕ}
 use lib.IntN.{ℤ}
 use Rattle.patch.specs.declared.patches.Patches.{Patches}
-use Rattle.patch.specs.Patches.{Same, Stepped}
+use Rattle.patch.specs.NextPatches.{Same, Stepped}
 
 pub same_then : {p q r : Patches} → Same p q → Same q r → Same p r
 same_then s e = record { cap = e.cap ∙ s.cap; long = e.long ∙ s.long; table = e.table ∙ s.table; numbers = e.numbers ∙ s.numbers }

@@ -1,4 +1,4 @@
--- `kinds::requests::Request::read` meets its contract: an unknown kind, a short body, or what the row of the kind byte asks for.
+-- `kinds::asked::Request::read` meets its contract: an unknown kind, a short body, or what the row of the kind byte asks for.
 use Rattle.std.proofs.Common.{rules, ◌∙◌, ap, arith}
 use Rattle.std.proofs.lemmas.Bool.{leb-true, leb-false}
 use Rattle.answer.specs.declared.Refusal.TheVariants.{CutOff}
@@ -7,9 +7,9 @@ use Rattle.mesh.specs.Request.{refine, sentence, remove, kill}
 use Rattle.mesh.specs.Tape.{kinds, kind}
 use Rattle.kinds.specs.BodyLengths.{body_length}
 use Rattle.kinds.proofs.Bodies.{announced}
-use Rattle.kinds.proofs.Reading.{with-number, with-value, short-unread, announced-as, number-asked, value-asked}
-use Rattle.kinds.proofs.requests.Request.read.Goals as goal
-use Rattle.kinds.proofs.requests.Request.read.Goals.{in-Refine, in-Sentence, in-Remove, in-Kill, in-SetValue}
+use Rattle.kinds.proofs.RequestsRead.{with-number, with-value, short-unread, announced-as, number-asked, value-asked}
+use Rattle.kinds.proofs.asked.Request.read.Goals as goal
+use Rattle.kinds.proofs.asked.Request.read.Goals.{in-Refine, in-Sentence, in-Remove, in-Kill, in-SetValue}
 
 pub returns-in_err-refuse_if : goal.returns-in_err-refuse_if
 returns-in_err-refuse_if c =

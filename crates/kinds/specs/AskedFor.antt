@@ -7,10 +7,10 @@ use Rattle.mesh.specs.Valid.{finite}
 use Rattle.mesh.specs.Request as Rules
 use Rattle.mesh.specs.Request.{refine, sentence, remove, kill, set_value}
 use Rattle.mesh.specs.Tape.{Kind, kind, asks, step_by, stop}
-use Rattle.kinds.specs.declared.requests.Request.{Request}
-use Rattle.kinds.specs.declared.requests.Request.TheVariants.{Refine, Sentence, Remove, Kill, SetValue}
+use Rattle.kinds.specs.declared.asked.Request.{Request}
+use Rattle.kinds.specs.declared.asked.Request.TheVariants.{Refine, Sentence, Remove, Kill, SetValue}
 use Rattle.answer.specs.declared.Refusal.{Refusal}
-use Rattle.answer.specs.Refusals.{number}
+use Rattle.answer.specs.Answered.{number}
 
 -- the rules' request that it is
 abbrev pub request_of : Request → Rules.Request
