@@ -58,15 +58,22 @@ pub record Kept (m : List ℕ) (top : ℕ) : Type 0 where
   pub none : map_bit m 0 ≡ 0
   pub tops : (w : ℕ) → w < 64 → bit top w ≡ cond (eqb (get_or m w 0) 0) 0 1
 
--- whether the bit of the number n is set
-unfoldable pub free_in : List ℕ → ℕ → Bool
-free_in m n = eqb (map_bit m n) 1
-
 -- the bits that are set are those of the numbers that f says
-pub record Maps (m : List ℕ) (f : ℕ → Bool) : Type 0 where
+pub record BitsOf (m : List ℕ) (f : ℕ → Bool) : Type 0 where
   pub each : (n : ℕ) → n < 4096 → map_bit m n ≡ cond (f n) 1 0
 
 pub record Mapped (f : ℕ → Bool) (m : List ℕ) (top count : ℕ) : Type 0 where
   pub kept : Kept m top
-  pub maps : Maps m f
+  pub maps : BitsOf m f
   pub counts : count ≡ total f 4096
+
+-- what a map is made of: the words, the word over them, and a count
+pub record FreeNumbers : Type 0 where
+  pub words : List ℕ
+  pub top : ℕ
+  pub count : ℕ
+
+-- it is the map of the numbers that f says: the bits are theirs, and so many are they
+pub record Maps (m : FreeNumbers) (f : ℕ → Bool) : Type 0 where
+  pub bits : BitsOf m.words f
+  pub counts : m.count ≡ total f 4096

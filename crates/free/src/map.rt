@@ -1,27 +1,29 @@
 // The free numbers from 1 to 4095, kept along a tape.
-ghost use Rattle.std.specs.Prelude.{◌≡◌, Bool, true, false, ℕ, ◌+◌, ◌*◌, ◌/◌, ◌^◌, ◌<◌, ◌≤◌, List, length};
+ghost use Rattle.std.specs.Prelude.{◌≡◌, Bool, true, false, ℕ, ◌+◌, ◌*◌, ◌/◌, ◌^◌, ◌<◌, ◌≤◌, length};
 ghost use Rattle.mesh.specs.Picture.{row_words};
 ghost use Rattle.table.specs.Words.{free_at};
-ghost use Rattle.free.specs.FreeMap.{on, off, Low, map_bit, switched, total, First, first_from, free_in, Maps, Mapped};
+ghost use Rattle.free.specs.FreeMap.{FreeNumbers, on, off, Low, map_bit, switched, total, First, first_from, BitsOf, Kept, Maps};
 
 use std::marker::Model;
 use table::words::is_free;
 
-// Bit n % 64 of word n / 64 is set if n is free, bit w of `top` if word w is not 0, and `count` numbers are free.
-#[derive(Drop)]
+// Bit n % 64 of word n / 64 is set if n is free, and bit w of `top` if word w is not 0. `count` says how many numbers are free.
+#[derive(Clone, Copy)]
 pub struct FreeMap {
-    words: [u64; 64],
-    top: u64,
-    count: usize,
+    pub words: [u64; 64],
+    pub top: u64,
+    pub count: usize,
 }
 
-// Clauses see the words.
+// The word over the words always is what they make it. The count is what `load`, `give` and `take` keep, and may be any in a map that is made by hand.
 impl Model for FreeMap {
-    ghost Value = { List ℕ };
+    ghost Value = { FreeNumbers };
 
-    ghost view = { λ m. m.words };
+    ghost view = { λ m. record { words = m.words; top = m.top; count = m.count } };
 
-    ghost invariant = { λ m. Mapped (free_in m.words) m.words m.top m.count };
+    ghost invariant = { λ m. Kept m.words m.top };
+
+    ghost inverse = { λ v. record { words = v.words; top = v.top; count = v.count } };
 }
 
 // The word x with the bit b set.
@@ -94,7 +96,7 @@ impl FreeMap {
     // 1 where the number n is not free, and otherwise 0.
     fn lacks(&self, n: usize) -> usize
         requires { n < 4096 }
-        ensures { result + map_bit self.now n ≡ 1 }
+        ensures { result + map_bit self.now.words n ≡ 1 }
     {
         1 - ((self.words[n / 64] >> (n % 64)) % 2) as usize
     }
@@ -108,25 +110,28 @@ impl FreeMap {
         let w = n / 64;
         self.words[w] = set_bit(self.words[w], n % 64);
         self.top = set_bit(self.top, w);
-        self.count += more;
+        // That of a map made by hand may be the largest number that there is.
+        self.count = self.count.wrapping_add(more);
     }
 
-    // The number n, which was, is free no longer.
+    // The number n is free no longer, whether it was or not.
     pub fn take(&mut self, n: usize)
-        requires { (n < 4096) × (map_bit self.old n ≡ 1) }
+        requires { n < 4096 }
         ensures { (f : ℕ → Bool) → Maps self.old f → Maps self.new (switched f n false) }
     {
+        let less = 1 - self.lacks(n);
         let w = n / 64;
         let x = clear_bit(self.words[w], n % 64);
         self.words[w] = x;
         self.top = settle(self.top, w, x);
-        self.count -= 1;
+        // That of a map made by hand may be 0.
+        self.count = self.count.wrapping_sub(less);
     }
 
     // The first free number from s on, or 4096.
     fn from(&self, s: usize) -> usize
         requires { s < 4096 }
-        ensures { (f : ℕ → Bool) → Maps self.now f → First f s result }
+        ensures { (f : ℕ → Bool) → BitsOf self.now.words f → First f s result }
     {
         let w = s / 64;
         let here = high(self.words[w], s % 64);
@@ -143,7 +148,7 @@ impl FreeMap {
 
     // "Each new patch takes the smallest free number": 0 if there is none.
     pub fn next(&self) -> usize
-        ensures { (f : ℕ → Bool) → Maps self.now f → result ≡ first_from f 4095 1 }
+        ensures { (f : ℕ → Bool) → BitsOf self.now.words f → result ≡ first_from f 4095 1 }
     {
         let r = self.from(1);
         if r < 4096 { r } else { 0 }

@@ -3,7 +3,7 @@ use mathlib.Core.Path.{refl}
 use native.Mathlib.Omega.{arith}
 use Rattle.free.proofs.FreeRows.{next-within}
 use Rattle.patch.proofs.StepsInTurn.{stands}
-use Rattle.refine.proofs.SuppliedKid.{supplied-there, supplied-none, supplied-new, found, next-few, next-bit, without}
+use Rattle.refine.proofs.SuppliedKid.{supplied-there, supplied-none, supplied-new, found, next-few, without}
 use Rattle.refine.proofs.SmallKids.{doubled-same, doubled-new}
 use Rattle.refine.proofs.supply.supply.Goals as goal
 
@@ -25,15 +25,14 @@ link_in-requires c =
 pub take-requires : goal.take-requires
 take-requires c =
     let p = c.args.p.now in
-    let next = found p.plain c.requires.4 p.mapped c.next-k.ensures in
-    (next-few p.plain p.mapped next, next-bit p.plain p.mapped next c.if-k-eq0.false)
+    next-few p.plain (found p.plain c.requires.4 p.mapped c.next-k.ensures)
 
 pub invariant_of-p-2 : goal.invariant_of-p-2
 invariant_of-p-2 c =
     let p = c.args.p.now in
     let next = found p.plain c.requires.4 p.mapped c.next-k.ensures in
     let (u, plain) = c.link_in.ensures in
-    record { plain = plain; mapped = without p.plain p.mapped next _ _ _ _ c.kid_digits-e.ensures.1 u (c.take.ensures _ p.mapped) }
+    record { plain = plain; mapped = without p.plain next _ _ _ _ c.kid_digits-e.ensures.1 u (c.take.ensures _ p.mapped) }
 
 pub returns : goal.returns
 returns c =

@@ -1,7 +1,7 @@
 -- `free::map::FreeMap::load` meets its contract: the map has the free rows from n on.
 use native.Mathlib.Omega.{arith}
 use mathlib.Core.Path.{refl, sym, ◌∙◌}
-use Rattle.free.proofs.Switching.{mapped-few, closed, given}
+use Rattle.free.proofs.Switching.{mapped-few, given, given-mapped}
 use Rattle.free.proofs.LoadingMap.{load-start, load-bit, load-free, load-taken, load-end}
 use Rattle.free.proofs.map.FreeMap.load.Goals as goal
 
@@ -14,14 +14,16 @@ overflow_add-count c = let few = mapped-few c.loop-n.invariant in omega arith
 pub loop-n-preserved-then-is_free : goal.loop-n-preserved-then-is_free
 loop-n-preserved-then-is_free c =
     let none = load-bit _ c.loop-n.n (omega arith) (omega arith) c.loop-n.invariant in
-    let more = given (omega arith) c.loop-n.invariant refl 1 (omega arith) c.set_bit.ensures c.set_bit-top.ensures (omega arith) in
-    load-free _ _ (omega arith) (sym c.is_free.ensures ∙ c.if-is_free.true) more
+    let more = given (omega arith) c.loop-n.invariant.kept refl (omega arith) c.set_bit.ensures c.set_bit-top.ensures in
+    load-free _ _ (omega arith) (sym c.is_free.ensures ∙ c.if-is_free.true) (given-mapped (omega arith) c.loop-n.invariant more none)
 
 pub loop-n-preserved : goal.loop-n-preserved
 loop-n-preserved c = load-taken _ _ (omega arith) (sym c.is_free.ensures ∙ c.if-is_free.false) c.loop-n.invariant
 
 pub invariant_of-result : goal.invariant_of-result
-invariant_of-result c = closed (load-end _ c.loop-n.n c.requires.2 (omega arith) c.loop-n.invariant)
+invariant_of-result c = c.loop-n.invariant.kept
 
 pub returns : goal.returns
-returns c = (load-end _ c.loop-n.n c.requires.2 (omega arith) c.loop-n.invariant).maps
+returns c =
+    let all = load-end _ c.loop-n.n c.requires.2 (omega arith) c.loop-n.invariant in
+    record { bits = all.maps; counts = all.counts }
