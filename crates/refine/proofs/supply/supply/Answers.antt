@@ -25,7 +25,7 @@ link_in-requires c =
 pub take-requires : goal.take-requires
 take-requires c =
     let p = c.args.p.now in
-    next-few p.plain (found p.plain c.requires.4 p.mapped c.next-k.ensures)
+    omega (arith, next-few p.plain (found p.plain c.requires.4 p.mapped c.next-k.ensures))
 
 pub invariant_of-p-2 : goal.invariant_of-p-2
 invariant_of-p-2 c =
