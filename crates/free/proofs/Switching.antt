@@ -69,7 +69,7 @@ mapped-same {f} {g} h e = record {
   counts = h.counts ∙ total-same f g 4096 e;
 }
 
--- ---- the count when a number is given or taken, and when it was free, or not, already
+-- ---- the count after a number is given, and after one is taken
 
 module _ {f : ℕ → Bool} {m : List ℕ} {n count : ℕ} (l : n < 4096) (h : BitsOf m f) (t : count ≡ total f 4096) where
   moved : (b c : Bool) → f n ≡ b → (map_bit m n ≡ cond b 1 0) × (total (switched f n c) 4096 + cond b 1 0 ≡ count + cond c 1 0)
@@ -179,6 +179,6 @@ module _ {m u : List ℕ} {top n x r : ℕ} (l : n < 4096) (k : Kept m top) (e :
             there = λ j i. refl;
           })
 
--- of a number that was not free
+-- and the whole map, where it was not free
 pub given-mapped : {f : ℕ → Bool} {m u : List ℕ} {top n r count : ℕ} → n < 4096 → Mapped f m top count → Becomes m n true u r → map_bit m n ≡ 0 → Mapped (switched f n true) u r (count + 1)
 given-mapped {f} l h s z = record { kept = s.kept; maps = s.bits f h.maps; counts = count-given l h.maps h.counts 1 (omega arith) }
