@@ -16,11 +16,12 @@ use table::words::LEVEL;
 
 // A ghost, or a row from level 0 up.
 pub fn kind_ok(rows: &Rows, n: usize) -> bool
-    requires { n ≤ rows.now.cap }
-    ensures { result ≡ kind_ok (header_of rows.now.header).grid rows.now.t.now rows.now.cap rows.now.d n }
+    requires { n ≤ rows.now.levels.cap }
+    ensures { result ≡ kind_ok (header_of rows.now.header).grid rows.now.levels.t.now rows.now.levels.cap rows.now.levels.d n }
 {
-    if !is_positive(rows.t, n, LEVEL) {
-        return points::ghost_ok(rows, n);
+    let levels = &rows.levels;
+    if !is_positive(levels.t, n, LEVEL) {
+        return points::ghost_ok(levels.t, levels.cap, n);
     }
-    points::point_ok(rows, n)
+    points::point_ok(levels, rows.header, n)
 }

@@ -11,7 +11,7 @@ use crate::rowwise;
 use answer::{Refusal, refuse_if};
 use header::Header;
 use readable::plain;
-use readable::rows::Rows;
+use readable::rows::{Levels, Rows};
 use tally::COUNT_PLACES;
 use tally::full::agree;
 
@@ -25,10 +25,10 @@ fn words_fit(t: &[i32])
 }
 
 // The leaf counts of a sound table, or its refusal: of any lists of any length, any capacity and any header. The mark plays no part.
-fn sound_counts(
+fn sound_counts<'a>(
     header: Header,
-    t: &[i32],
-    v: &[f64],
+    t: &'a [i32],
+    v: &'a [f64],
     capacity: u32,
 ) -> Result<[u32; COUNT_PLACES], Refusal>
     ensures refused { refusal_of result ≡ lent_refusal capacity (lent_of header t.now v.now) }
@@ -39,13 +39,8 @@ fn sound_counts(
     words_fit(t);
     let d = header::ground_depth(header);
     refuse_if(!plain(t, cap, d), Refusal::Unsound)?;
-    let rows = Rows {
-        t,
-        v,
-        cap,
-        header,
-        d,
-    };
+    let levels = Levels { t, cap, d };
+    let rows = Rows { levels, v, header };
     let mut counts = [0u32; COUNT_PLACES];
     refuse_if(!rowwise(&rows, &mut counts), Refusal::Unsound)?;
     Ok(counts)

@@ -22,8 +22,8 @@ use tree::sides::sides_ok;
 // A row in use.
 #[tactic(auto, unfolding(checker_laws::specs::Rowwise::used_ok))]
 fn used_ok(rows: &Rows, n: usize) -> bool
-    requires { (n ≤ rows.now.cap) × (rows.now.cap < length rows.now.v.now) }
-    ensures { result ≡ used_ok (header_of rows.now.header).grid rows.now.t.now rows.now.cap rows.now.v.now n }
+    requires { (n ≤ rows.now.levels.cap) × (rows.now.levels.cap < length rows.now.v.now) }
+    ensures { result ≡ used_ok (header_of rows.now.header).grid rows.now.levels.t.now rows.now.levels.cap rows.now.v.now n }
 {
     if !place_ok(rows, n) {
         return false;
@@ -42,11 +42,12 @@ fn used_ok(rows: &Rows, n: usize) -> bool
 
 #[tactic(auto, unfolding(checker_laws::specs::Rowwise::row_ok))]
 fn row_ok(rows: &Rows, n: usize) -> bool
-    requires { (n ≤ rows.now.cap) × (rows.now.cap < length rows.now.v.now) }
-    ensures { result ≡ row_ok (header_of rows.now.header).grid rows.now.t.now rows.now.cap rows.now.v.now n }
+    requires { (n ≤ rows.now.levels.cap) × (rows.now.levels.cap < length rows.now.v.now) }
+    ensures { result ≡ row_ok (header_of rows.now.header).grid rows.now.levels.t.now rows.now.levels.cap rows.now.v.now n }
 {
-    if is_free(rows.t, n) {
-        empty_ok(rows, n)
+    let t = rows.levels.t;
+    if is_free(t, n) {
+        empty_ok(t, rows.v, n)
     } else {
         used_ok(rows, n)
     }
@@ -55,20 +56,21 @@ fn row_ok(rows: &Rows, n: usize) -> bool
 // The nil patch, the root in use, and every row. The leaves are counted on the way: each row is read once for both.
 #[tactic(auto, unfolding(checker_laws::specs::Rowwise::rowwise))]
 pub fn rowwise(rows: &Rows, c: &mut [u32]) -> bool
-    requires { (rows.now.cap < length rows.now.v.now) × (c.old ≡ replicate count_places 0) }
-    ensures { (result ≡ rowwise (header_of rows.now.header).grid rows.now.t.now rows.now.cap rows.now.v.now) × (result ≡ true → c.new ≡ row_counts rows.now.t.now rows.now.v.now rows.now.cap rows.now.cap) }
+    requires { (rows.now.levels.cap < length rows.now.v.now) × (c.old ≡ replicate count_places 0) }
+    ensures { (result ≡ rowwise (header_of rows.now.header).grid rows.now.levels.t.now rows.now.levels.cap rows.now.v.now) × (result ≡ true → c.new ≡ row_counts rows.now.levels.t.now rows.now.v.now rows.now.levels.cap rows.now.levels.cap) }
 {
     if !zero_ok(rows) {
         return false;
     }
-    if is_free(rows.t, 1) {
+    let levels = &rows.levels;
+    if is_free(levels.t, 1) {
         return false;
     }
-    for n in 1..=rows.cap {
+    for n in 1..=levels.cap {
         if !row_ok(rows, n) {
             return false;
         }
-        count_row(rows.t, rows.v, c, rows.cap, n);
+        count_row(levels.t, rows.v, c, levels.cap, n);
     }
     true
 }

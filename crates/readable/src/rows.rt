@@ -8,23 +8,29 @@ ghost use Rattle.readable.specs.Readable.{Readable, Levelled};
 
 use header::Header;
 
-/// A lent table of that capacity, whose words can be read as they stand, with its values and its header, by which level 0 is at depth d.
+/// A lent table of that capacity, whose words can be read as they stand, with level 0 at depth d.
 #[derive(Clone, Copy)]
-pub struct Rows<'a> {
+pub struct Levels<'a> {
     pub t: &'a [i32],
-    pub v: &'a [f64],
     pub cap: usize,
-    pub header: Header,
     pub d: u32,
     pub ghost readable: { Readable t.now cap },
     pub ghost levelled: { Levelled t.now cap d },
-    pub ghost rooted: { 1 ≤ cap },
-    pub ghost depth_is: { d ≡ base (header_of header).grid },
-    pub ghost shallow: { d ≤ 6 },
+}
+
+/// The same with its values and its header, by which level 0 is at that depth.
+#[derive(Clone, Copy)]
+pub struct Rows<'a> {
+    pub levels: Levels<'a>,
+    pub v: &'a [f64],
+    pub header: Header,
+    pub ghost rooted: { 1 ≤ levels.cap },
+    pub ghost depth_is: { levels.d ≡ base (header_of header).grid },
+    pub ghost shallow: { levels.d ≤ 6 },
     pub ghost tall: { 1 ≤ header.rows },
 }
 
-impl Rows<'_> {
+impl Levels<'_> {
     /// The row that the word w of the row n names, or 0.
     pub fn link(&self, n: usize, w: usize) -> usize
         requires { (n ≤ self.now.cap) × (w < link_words) }

@@ -6,8 +6,8 @@ use Rattle.cells.proofs.kind_ok.Goals as goal
 
 pub returns-then-not-is_positive : goal.returns-then-not-is_positive
 returns-then-not-is_positive c =
-    rw (level-sign _ _ _ (c.args.rows.now.levelled.deep _ c.requires) ∙ ap not (sym c.is_positive.ensures) ∙ (ap not c.if-not-is_positive.true)) c.ghost_ok.ensures
+    rw (level-sign _ _ _ (c.args.rows.now.levels.levelled.deep _ c.requires) ∙ ap not (sym c.is_positive.ensures) ∙ (ap not c.if-not-is_positive.true)) c.ghost_ok.ensures
 
 pub returns : goal.returns
 returns c =
-    rw (level-sign _ _ _ (c.args.rows.now.levelled.deep _ c.requires) ∙ ap not (sym c.is_positive.ensures) ∙ (ap not c.if-not-is_positive.false)) c.point_ok.ensures
+    rw (level-sign _ _ _ (c.args.rows.now.levels.levelled.deep _ c.requires) ∙ ap not (sym c.is_positive.ensures) ∙ (ap not c.if-not-is_positive.false)) c.point_ok.ensures

@@ -23,7 +23,7 @@ pub count_row-requires : goal.count_row-requires
 count_row-requires c =
     let s = c.args.rows.now in
     let (k, next, _, counted) = c.loop-n.invariant in
-    (s.readable.plain, c.requires.0, omega arith, row-placed _ _ _ _ _ c.row_ok.ensures c.if-not-row_ok.false, rw counted (rows-roomy _ _ _ k (omega (arith, s.readable.plain.sized.small))))
+    (s.levels.readable.plain, c.requires.0, omega arith, row-placed _ _ _ _ _ c.row_ok.ensures c.if-not-row_ok.false, rw counted (rows-roomy _ _ _ k (omega (arith, s.levels.readable.plain.sized.small))))
 
 pub loop-n-preserved : goal.loop-n-preserved
 loop-n-preserved c =
@@ -33,7 +33,7 @@ loop-n-preserved c =
 pub returns-else-not-row_ok : goal.returns-else-not-row_ok
 returns-else-not-row_ok c =
     let (k, next, passed, counted) = c.loop-n.invariant in
-    let last : k + 1 ≡ c.args.rows.now.cap = omega arith in (
+    let last : k + 1 ≡ c.args.rows.now.levels.cap = omega arith in (
       all-rows _ _ _ _ c.zero_ok.ensures c.if-not-zero_ok.false c.is_free.ensures c.if-is_free.false (k + 1) last (rows_more _ _ _ _ k passed (rw next at c.row_ok.ensures) c.if-not-row_ok.false),
       λ _. rows-added _ _ _ k counted (rw next at c.count_row.ensures) ∙ ap (row_counts _ _ _) last,
     )

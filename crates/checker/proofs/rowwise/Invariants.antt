@@ -9,4 +9,4 @@ use Rattle.checker.proofs.Loop.{good}
 use Rattle.checker.proofs.rowwise.Given as goal
 
 abbrev pub invariant-loop-n : goal.invariant-loop-n
-invariant-loop-n l = (k : ℕ) × (l.n ≡ k + 1) × (below k (good (header_of l.rows.header).grid l.rows.t.now l.rows.cap l.rows.v.now) ≡ true) × (l.c ≡ row_counts l.rows.t.now l.rows.v.now l.rows.cap k)
+invariant-loop-n l = (k : ℕ) × (l.n ≡ k + 1) × (below k (good (header_of l.rows.header).grid l.rows.levels.t.now l.rows.levels.cap l.rows.v.now) ≡ true) × (l.c ≡ row_counts l.rows.levels.t.now l.rows.v.now l.rows.levels.cap k)

@@ -32,15 +32,22 @@ returns-in_err-refuse_if-clause-refused c =
     refused_is _ Unsound _ c.in_err-refuse_if.ensures (search rules)
     (λ h. rows-fail _ _ f r c.words_fit.ensures (not_plain _ _ _ _ (omega (arith, f.low)) r {b = c.plain.result} (rw (← c.ground_depth-d.ensures) c.plain.ensures) (not-true _ h)) refl)
 
-pub invariant_of-rows : goal.invariant_of-rows
-invariant_of-rows c =
+pub invariant_of-levels : goal.invariant_of-levels
+invariant_of-levels c =
     let f = c.in_ok-first_refusal.ensures.sizes refl in
-    let r = c.in_ok-first_refusal.ensures.rectangle refl in
     let e = c.ground_depth-d.ensures in
     let all = sym c.plain.ensures ∙ not-false _ (passes _ Unsound c.in_ok-refuse_if.ensures) in
     record {
       readable = plain-table _ _ _ all (record { words = omega (arith, f.words); small = f.high });
       levelled = levelled-table _ _ _ all (rw e (shallow _));
+    }
+
+pub invariant_of-rows : goal.invariant_of-rows
+invariant_of-rows c =
+    let f = c.in_ok-first_refusal.ensures.sizes refl in
+    let r = c.in_ok-first_refusal.ensures.rectangle refl in
+    let e = c.ground_depth-d.ensures in
+    record {
       rooted = omega (arith, f.low);
       depth_is = e;
       shallow = rw e (base-range _ r).1;

@@ -5,4 +5,4 @@ use Rattle.tree.proofs.family.kids_ok.Goals as goal
 
 pub returns-then-kidless : goal.returns-then-kidless
 returns-then-kidless c =
-    kids-bare _ _ _ (kept-as-is c.args.rows.now.readable.plain c.requires) c.kidless.ensures c.if-kidless.true
+    kids-bare _ _ _ (kept-as-is c.args.rows.now.levels.readable.plain c.requires) c.kidless.ensures c.if-kidless.true

@@ -1,7 +1,7 @@
--- `readable::rows::Rows::is_above` meets its contract: the depths differ by as much from whichever depth they are counted.
+-- `readable::rows::Levels::is_above` meets its contract: the depths differ by as much from whichever depth they are counted.
 use native.Mathlib.Omega.{arith}
 use Rattle.readable.proofs.Signs.{depth-read, levelled-high, above-is}
-use Rattle.readable.proofs.rows.Rows.is_above.Goals as goal
+use Rattle.readable.proofs.rows.Levels.is_above.Goals as goal
 
 pub depth-requires : goal.depth-requires
 depth-requires c =
