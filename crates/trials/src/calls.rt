@@ -1,6 +1,6 @@
 // The calls, each on as much of the lists as the numbers say. The sums that are told are those of the whole lists, so that what is not lent is
 // seen to stay.
-ghost use Rattle.std.specs.Prelude.{◌≤◌};
+ghost use Rattle.std.specs.Prelude.{◌<◌, ◌≤◌};
 
 use crate::loan::{Loan, keep, lend};
 use crate::runs::Call;
@@ -24,30 +24,13 @@ fn check(lines: &mut impl Write, loan: &Loan<'_>) -> io::Result<()> {
 }
 
 fn build(lines: &mut impl Write, loan: &mut Loan<'_>) -> io::Result<()> {
-    let [columns, rows, mode, ..] = loan.arguments;
-    let built = grid::build(
-        &mut loan.header,
-        loan.words,
-        loan.values,
-        loan.counts,
-        loan.capacity,
-        columns,
-        rows,
-        mode,
-    );
+    let built = loan.build();
     tell(lines, number_of(built))?;
     tell(lines, built.unwrap_or(0))
 }
 
 fn tape(lines: &mut impl Write, loan: &mut Loan<'_>, bytes: &[u8]) -> io::Result<()> {
-    let taped = grid::tape(
-        &mut loan.header,
-        loan.words,
-        loan.values,
-        loan.counts,
-        loan.capacity,
-        bytes,
-    );
+    let taped = loan.tape(bytes);
     tell(lines, taped.done)?;
     tell(lines, stop_number(taped.refusal))?;
     tell(lines, taped.offset)
@@ -108,7 +91,9 @@ fn lookup(lines: &mut impl Write, loan: &Loan<'_>) -> io::Result<()> {
 }
 
 // What a lookup found, mixed into a sum.
-fn mixed(found: Result<Leaf, Refusal>, sum: u64) -> u64 {
+fn mixed(found: Result<Leaf, Refusal>, sum: u64) -> u64
+    ensures { result < 4294967291 }
+{
     let leaf = found.unwrap_or(Leaf::NONE);
     let (status, value) = told(leaf.reading);
     let all = status.mix_into(leaf.number.mix_into(number_of(found).mix_into(sum)));

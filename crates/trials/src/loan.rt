@@ -1,4 +1,11 @@
-// What a call is lent, by the numbers.
+// What a call is lent, by the numbers, and the two calls that change it.
+ghost use Rattle.std.specs.Prelude.{slice_index};
+ghost use Rattle.header.specs.Headers.{counted_of};
+ghost use Rattle.grid.specs.Calls.{Builds, Tapes};
+ghost use Rattle.trials.specs.Loans.{Kept};
+
+use answer::Refusal;
+use grid::Taped;
 use header::{Header, fresh, with_mark};
 use reports::lists::Lent;
 
@@ -10,6 +17,40 @@ pub struct Loan<'a> {
     pub counts: &'a mut [u32],
     pub capacity: u32,
     pub arguments: [u32; 6],
+}
+
+impl Loan<'_> {
+    // A build of columns, rows and mode, the first three arguments.
+    pub fn build(&mut self) -> Result<usize, Refusal>
+        ensures built { Builds (counted_of self.old.header self.old.words.now self.old.values.now self.old.counts.now) self.old.capacity (slice_index self.old.arguments 0) (slice_index self.old.arguments 1) (slice_index self.old.arguments 2) (counted_of self.new.header self.new.words.now self.new.values.now self.new.counts.now) result }
+        ensures kept { Kept self.old self.new }
+    {
+        let [columns, rows, mode, ..] = self.arguments;
+        grid::build(
+            &mut self.header,
+            self.words,
+            self.values,
+            self.counts,
+            self.capacity,
+            columns,
+            rows,
+            mode,
+        )
+    }
+
+    pub fn tape(&mut self, bytes: &[u8]) -> Taped
+        ensures taped { Tapes (counted_of self.old.header self.old.words.now self.old.values.now self.old.counts.now) self.old.capacity bytes.now (counted_of self.new.header self.new.words.now self.new.values.now self.new.counts.now) result }
+        ensures kept { Kept self.old self.new }
+    {
+        grid::tape(
+            &mut self.header,
+            self.words,
+            self.values,
+            self.counts,
+            self.capacity,
+            bytes,
+        )
+    }
 }
 
 // As much of each list as the numbers say; None where there is not that much.

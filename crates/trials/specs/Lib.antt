@@ -1,0 +1,2 @@
+-- What the calls of the program are lent.
+pub mod Loans
