@@ -15,7 +15,7 @@ use Rattle.mesh.specs.Request.{Request, refine, sentence, remove, kill, set_valu
 use Rattle.number_laws.specs.Numbered.{Numbered}
 use Rattle.number_laws.proofs.NumberedPlaces.{valid-numbered}
 use Rattle.table.specs.Words.{free_at}
-use Rattle.free.specs.FreeMap.{FreeNumbers, total, Maps}
+use Rattle.free.specs.FreeMap.{FreeNumbers, total, IsMapOf}
 use Rattle.free.specs.Free.{free_total}
 use Rattle.edit_laws.specs.Tables.{supplied_near, emptied, dropped_near, cleared, dropped_corners}
 use Rattle.edit_laws.proofs.Starting.{free-numbers, free-kept}
@@ -77,9 +77,9 @@ module _ {cap d : ℕ} {t : List ℤ} {v : List Float} {c : List ℕ} (h : Pictu
 
 -- ---- the map
 
-pub total-count : (t : List ℤ) {m : FreeNumbers} {n : ℕ} → Maps m (free_at t) → ((f : ℕ → Bool) → Maps m f → n ≡ total f 4096) → n ≡ free_total t
+pub total-count : (t : List ℤ) {m : FreeNumbers} {n : ℕ} → IsMapOf m (free_at t) → ((f : ℕ → Bool) → IsMapOf m f → n ≡ total f 4096) → n ≡ free_total t
 unfolding free_total
 total-count t maps counts = counts (free_at t) maps
 
-pub same-mapped : {f g : ℕ → Bool} {m : FreeNumbers} → g ≡ f → Maps m f → Maps m g
+pub same-mapped : {f g : ℕ → Bool} {m : FreeNumbers} → g ≡ f → IsMapOf m f → IsMapOf m g
 same-mapped e x = rw e x

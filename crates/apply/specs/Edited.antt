@@ -5,7 +5,7 @@ use Rattle.mesh.specs.State.{Header}
 use Rattle.mesh.specs.LeafCounts.{Counted}
 use Rattle.mesh.specs.Request.{Request}
 use Rattle.table.specs.Words.{free_at}
-use Rattle.free.specs.FreeMap.{Maps}
+use Rattle.free.specs.FreeMap.{IsMapOf}
 use Rattle.apply.specs.Drawn.{lists, Pictured}
 use Rattle.apply.specs.Applied.{Applied}
 use Rattle.apply.specs.declared.EditedTable.{EditedTable}
@@ -17,7 +17,7 @@ held e = lists e.t.now e.v.now e.c.now
 -- its lists picture a state, and its map is of their free numbers
 pub record Ready (e : EditedTable) : Type 0 where
   pub pictured : Pictured e.cap e.d (held e)
-  pub maps : Maps e.map (free_at e.t.now)
+  pub maps : IsMapOf e.map (free_at e.t.now)
 
 -- e became e': the same lists are lent, and the map is of the free numbers that they have now
 pub record Kept (e e' : EditedTable) : Type 0 where
@@ -26,7 +26,7 @@ pub record Kept (e e' : EditedTable) : Type 0 where
   pub same-counts : e'.c.ghost_name ≡ e.c.ghost_name
   pub same-capacity : e'.cap ≡ e.cap
   pub same-depth : e'.d ≡ e.d
-  pub maps : Maps e'.map (free_at e'.t.now)
+  pub maps : IsMapOf e'.map (free_at e'.t.now)
 
 -- the request q made e' of e, and given is the refusal, 0 for none
 pub record Requested (q : Request) (e e' : EditedTable) (given : ℕ) : Type 0 where

@@ -9,7 +9,7 @@ use mathlib.Core.List.{List}
 use lib.Dec.{eqb}
 use lib.ListN.{get_or}
 use borrow.Author.Tests.{ne_eqb}
-use Rattle.free.specs.FreeMap.{bit, Low, map_bit, BitsOf, Kept, First, first_from}
+use Rattle.free.specs.FreeMap.{bit, Low, map_bit, Maps, Kept, First, first_from}
 use Rattle.free.proofs.MapBits.{bit-of-zero, bit_below, bit-shr}
 
 -- ---- what a bit says
@@ -48,7 +48,7 @@ pub record Bits (m : List ℕ) (s r : ℕ) : Type 0 where
   pub none : (n : ℕ) → s ≤ n → n < r → map_bit m n ≡ 0
   pub hit : r < 4096 → map_bit m r ≡ 1
 
-pub first_of : {m : List ℕ} {s r : ℕ} → Bits m s r → (f : ℕ → Bool) → BitsOf m f → First f s r
+pub first_of : {m : List ℕ} {s r : ℕ} → Bits m s r → (f : ℕ → Bool) → Maps m f → First f s r
 first_of {m} {s} {r} b f h =
     record {
       from = b.from;

@@ -11,7 +11,7 @@ use lib.Dec.{eqb}
 use lib.ListN.{get_or, set, length-set}
 use lib.Seq.{get_or-set_same, get_or-set_other}
 use borrow.Author.Tests.{eq-eqb, ne_eqb}
-use Rattle.free.specs.FreeMap.{bit, on, off, map_bit, BitsOf, Kept, Mapped, switched, total}
+use Rattle.free.specs.FreeMap.{bit, on, off, map_bit, Maps, Kept, Mapped, switched, total}
 use Rattle.free.proofs.MapBits.{bit-pos, on-here, on-there, off-here, off-there, off-pos}
 
 -- ---- how many there are
@@ -59,7 +59,7 @@ total-switched f n c (suc m) l = go (λ k. total-switched f n c m k) (ℕ_discre
 pub mapped-few : {f : ℕ → Bool} {m : List ℕ} {top count : ℕ} → Mapped f m top count → count ≤ 4096
 mapped-few {f} h = let t = total-le f 4096 in omega (arith, h.counts)
 
-bits-same : {f g : ℕ → Bool} {m : List ℕ} → BitsOf m f → ((n : ℕ) → n < 4096 → f n ≡ g n) → BitsOf m g
+bits-same : {f g : ℕ → Bool} {m : List ℕ} → Maps m f → ((n : ℕ) → n < 4096 → f n ≡ g n) → Maps m g
 bits-same h e = record { each = λ n l. h.each n l ∙ ap (λ (c : Bool). cond c 1 0) (e n l) }
 
 pub mapped-same : {f g : ℕ → Bool} {m : List ℕ} {top count : ℕ} → Mapped f m top count → ((n : ℕ) → n < 4096 → f n ≡ g n) → Mapped g m top count
@@ -71,7 +71,7 @@ mapped-same {f} {g} h e = record {
 
 -- ---- the count after a number is given, and after one is taken
 
-module _ {f : ℕ → Bool} {m : List ℕ} {n count : ℕ} (l : n < 4096) (h : BitsOf m f) (t : count ≡ total f 4096) where
+module _ {f : ℕ → Bool} {m : List ℕ} {n count : ℕ} (l : n < 4096) (h : Maps m f) (t : count ≡ total f 4096) where
   moved : (b c : Bool) → f n ≡ b → (map_bit m n ≡ cond b 1 0) × (total (switched f n c) 4096 + cond b 1 0 ≡ count + cond c 1 0)
   moved b c i = (rw i at (h.each n l), rw (t, ← i) (total-switched f n c 4096 l))
 
@@ -104,7 +104,7 @@ record Over (top w v r : ℕ) : Type 0 where
 -- the words m become u, and the word over them r: the bit of n becomes c
 pub record Becomes (m : List ℕ) (n : ℕ) (c : Bool) (u : List ℕ) (r : ℕ) : Type 0 where
   pub kept : Kept u r
-  pub bits : (f : ℕ → Bool) → BitsOf m f → BitsOf u (switched f n c)
+  pub bits : (f : ℕ → Bool) → Maps m f → Maps u (switched f n c)
 
 module _ (m : List ℕ) (top n v r : ℕ) (c : Bool) (p : n ≡ 0 → c ≡ false) (l : n < 4096) (k : Kept m top) (word : Word (get_or m (n / 64) 0) (n % 64) c v) (over : Over top (n / 64) v r) where
   word-here : get_or (set m (n / 64) v) (n / 64) 0 ≡ v
@@ -134,7 +134,7 @@ module _ (m : List ℕ) (top n v r : ℕ) (c : Bool) (p : n ≡ 0 → c ≡ fals
       go (yes e) = rw (e, word-here) over.here
       go (no e) = rw (get_or-set_other m (n / 64) w v 0 e) (over.there w e ∙ k.tops w s)
 
-  set-bits : (f : ℕ → Bool) → BitsOf m f → BitsOf (set m (n / 64) v) (switched f n c)
+  set-bits : (f : ℕ → Bool) → Maps m f → Maps (set m (n / 64) v) (switched f n c)
   unfolding switched
   set-bits f h = record { each = λ j s. go j s (ℕ_discrete j n) }
     where

@@ -59,12 +59,12 @@ pub record Kept (m : List ℕ) (top : ℕ) : Type 0 where
   pub tops : (w : ℕ) → w < 64 → bit top w ≡ cond (eqb (get_or m w 0) 0) 0 1
 
 -- the bits that are set are those of the numbers that f says
-pub record BitsOf (m : List ℕ) (f : ℕ → Bool) : Type 0 where
+pub record Maps (m : List ℕ) (f : ℕ → Bool) : Type 0 where
   pub each : (n : ℕ) → n < 4096 → map_bit m n ≡ cond (f n) 1 0
 
 pub record Mapped (f : ℕ → Bool) (m : List ℕ) (top count : ℕ) : Type 0 where
   pub kept : Kept m top
-  pub maps : BitsOf m f
+  pub maps : Maps m f
   pub counts : count ≡ total f 4096
 
 -- what a map is made of: the words, the word over them, and a count
@@ -74,6 +74,6 @@ pub record FreeNumbers : Type 0 where
   pub count : ℕ
 
 -- it is the map of the numbers that f says: the bits are theirs, and so many are they
-pub record Maps (m : FreeNumbers) (f : ℕ → Bool) : Type 0 where
-  pub bits : BitsOf m.words f
+pub record IsMapOf (m : FreeNumbers) (f : ℕ → Bool) : Type 0 where
+  pub bits : Maps m.words f
   pub counts : m.count ≡ total f 4096

@@ -2,7 +2,7 @@
 ghost use Rattle.std.specs.Prelude.{◌≡◌, Bool, true, false, ℕ, ◌+◌, ◌*◌, ◌/◌, ◌^◌, ◌<◌, ◌≤◌, length};
 ghost use Rattle.mesh.specs.Picture.{row_words};
 ghost use Rattle.table.specs.Words.{free_at};
-ghost use Rattle.free.specs.FreeMap.{FreeNumbers, on, off, Low, map_bit, switched, total, First, first_from, BitsOf, Kept, Maps};
+ghost use Rattle.free.specs.FreeMap.{FreeNumbers, on, off, Low, map_bit, switched, total, First, first_from, Maps, Kept, IsMapOf};
 
 use std::marker::Model;
 use table::words::is_free;
@@ -71,7 +71,7 @@ impl FreeMap {
     // The map of the free rows of a table.
     pub fn load(t: &[i32], cap: usize) -> FreeMap
         requires { (length t.now ≡ row_words * (cap + 1)) × (cap ≤ 4095) × (free_at t.now 0 ≡ false) }
-        ensures { Maps result (free_at t.now) }
+        ensures { IsMapOf result (free_at t.now) }
     {
         let mut words = [0; 64];
         let mut top = 0;
@@ -88,7 +88,7 @@ impl FreeMap {
 
     // How many numbers are free.
     pub fn count(&self) -> usize
-        ensures { (f : ℕ → Bool) → Maps self.now f → result ≡ total f 4096 }
+        ensures { (f : ℕ → Bool) → IsMapOf self.now f → result ≡ total f 4096 }
     {
         self.count
     }
@@ -104,7 +104,7 @@ impl FreeMap {
     // The number n becomes free, whether it was or not.
     pub fn give(&mut self, n: usize)
         requires { (0 < n) × (n < 4096) }
-        ensures { (f : ℕ → Bool) → Maps self.old f → Maps self.new (switched f n true) }
+        ensures { (f : ℕ → Bool) → IsMapOf self.old f → IsMapOf self.new (switched f n true) }
     {
         let more = self.lacks(n);
         let w = n / 64;
@@ -117,7 +117,7 @@ impl FreeMap {
     // The number n is free no longer, whether it was or not.
     pub fn take(&mut self, n: usize)
         requires { n < 4096 }
-        ensures { (f : ℕ → Bool) → Maps self.old f → Maps self.new (switched f n false) }
+        ensures { (f : ℕ → Bool) → IsMapOf self.old f → IsMapOf self.new (switched f n false) }
     {
         let less = 1 - self.lacks(n);
         let w = n / 64;
@@ -131,7 +131,7 @@ impl FreeMap {
     // The first free number from s on, or 4096.
     fn from(&self, s: usize) -> usize
         requires { s < 4096 }
-        ensures { (f : ℕ → Bool) → BitsOf self.now.words f → First f s result }
+        ensures { (f : ℕ → Bool) → Maps self.now.words f → First f s result }
     {
         let w = s / 64;
         let here = high(self.words[w], s % 64);
@@ -148,7 +148,7 @@ impl FreeMap {
 
     // "Each new patch takes the smallest free number": 0 if there is none.
     pub fn next(&self) -> usize
-        ensures { (f : ℕ → Bool) → BitsOf self.now.words f → result ≡ first_from f 4095 1 }
+        ensures { (f : ℕ → Bool) → Maps self.now.words f → result ≡ first_from f 4095 1 }
     {
         let r = self.from(1);
         if r < 4096 { r } else { 0 }

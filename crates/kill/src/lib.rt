@@ -5,7 +5,7 @@ ghost use Rattle.std.specs.Prelude.{◌≡◌, ◌+◌, ◌*◌, ◌<◌, ◌≤
 ghost use Rattle.mesh.specs.Picture.{row_words};
 ghost use Rattle.table.specs.Words.{free_at};
 ghost use Rattle.table.specs.Plain.{Plain};
-ghost use Rattle.free.specs.FreeMap.{Maps};
+ghost use Rattle.free.specs.FreeMap.{IsMapOf};
 ghost use Rattle.edit_laws.specs.Tables.{drop_up, drop_corner, cleared, dropped_corners, still_used, kill_table, kill_values};
 ghost use Rattle.patch.specs.NextPatches.{Stepped};
 ghost use Rattle.border.specs.Borders.{Within, border_of};
@@ -87,8 +87,8 @@ fn drop_corners(p: &mut Patches, d: u32, b: Border)
 
 // Kills the cell n. The map is that of the table when it is no cell, and then that of the table without the rows that go.
 pub fn kill(t: &mut [i32], v: &mut [f64], cap: usize, map: &mut FreeMap, d: u32, n: usize)
-    requires { Plain t.old cap × (cap < length v.old) × (n ≤ cap) × (d ≤ 32) × Maps map.old (free_at (cleared t.old n)) }
-    ensures { (t.new ≡ kill_table t.old cap d n) × (v.new ≡ kill_values n v.old) × Maps map.new (free_at (dropped_corners t.old cap d n)) }
+    requires { Plain t.old cap × (cap < length v.old) × (n ≤ cap) × (d ≤ 32) × IsMapOf map.old (free_at (cleared t.old n)) }
+    ensures { (t.new ≡ kill_table t.old cap d n) × (v.new ≡ kill_values n v.old) × IsMapOf map.new (free_at (dropped_corners t.old cap d n)) }
 {
     let b = Border {
         own: n,

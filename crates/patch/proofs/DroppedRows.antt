@@ -12,18 +12,18 @@ use Rattle.mesh.specs.Picture.{parent_word}
 use Rattle.table.specs.Words.{link_of, free_at}
 use Rattle.table.specs.Plain.{Plain}
 use Rattle.worked.specs.Worked.{kidless}
-use Rattle.free.specs.FreeMap.{FreeNumbers, switched, Maps}
+use Rattle.free.specs.FreeMap.{FreeNumbers, switched, IsMapOf}
 use Rattle.edit_laws.specs.PatchSteps.{take_out}
 use Rattle.edit_laws.proofs.FreeNumbers.{take-out-free}
 use Rattle.edit_laws.specs.Tables.{drop_up}
 
 -- ---- the map of free numbers
 
-pub map_of : {t u : List ℤ} {m : FreeNumbers} → u ≡ t → Maps m (free_at t) → Maps m (free_at u)
+pub map_of : {t u : List ℤ} {m : FreeNumbers} → u ≡ t → IsMapOf m (free_at t) → IsMapOf m (free_at u)
 map_of e h = rw e h
 
 -- with that of a row that goes
-pub freed-mapped : {t u : List ℤ} {cap : ℕ} (k : ℕ) {m : FreeNumbers} → Plain t cap → k ≤ cap → u ≡ take_out t cap k → Maps m (switched (free_at t) k true) → Maps m (free_at u)
+pub freed-mapped : {t u : List ℤ} {cap : ℕ} (k : ℕ) {m : FreeNumbers} → Plain t cap → k ≤ cap → u ≡ take_out t cap k → IsMapOf m (switched (free_at t) k true) → IsMapOf m (free_at u)
 freed-mapped {t} {cap = cap} k p l e h = rw (e, take-out-free t cap k (omega (arith, p.sized.words))) h
 
 -- ---- ghosts that have no kid left

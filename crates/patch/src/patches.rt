@@ -5,7 +5,7 @@ ghost use Rattle.table.specs.Words.{free_at, link_of};
 ghost use Rattle.winds.specs.WindTable.{kid_l, kid_m};
 ghost use Rattle.worked.specs.Around.{IsAround, Within};
 ghost use Rattle.worked.specs.Worked.{kidless, touched_in};
-ghost use Rattle.free.specs.FreeMap.{Maps};
+ghost use Rattle.free.specs.FreeMap.{IsMapOf};
 ghost use Rattle.edit_laws.specs.PatchSteps.{take_out};
 ghost use Rattle.edit_laws.specs.Tables.{kid_at, spot};
 
@@ -22,7 +22,7 @@ pub struct Patches<'a> {
     pub cap: usize,
     pub map: &'a mut FreeMap,
     pub ghost plain: { Plain t.now cap },
-    pub ghost mapped: { Maps map.now (free_at t.now) },
+    pub ghost mapped: { IsMapOf map.now (free_at t.now) },
 }
 
 impl Patches<'_> {

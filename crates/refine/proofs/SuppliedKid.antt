@@ -13,7 +13,7 @@ use lib.ListN.{length}
 use Rattle.mesh.specs.Picture.{row_words}
 use Rattle.table.specs.Plain.{Plain}
 use Rattle.table.specs.Words.{free_at}
-use Rattle.free.specs.FreeMap.{FreeNumbers, switched, first_from, BitsOf, Maps}
+use Rattle.free.specs.FreeMap.{FreeNumbers, switched, first_from, Maps, IsMapOf}
 use Rattle.free.specs.Free.{next_in}
 use Rattle.free.proofs.FreeRows.{next-in, next-within}
 use Rattle.edit_laws.specs.PatchSteps.{link_in}
@@ -42,15 +42,15 @@ module _ (t : List ℤ) (cap d p l m : ℕ) {x : ℕ} (e : x ≡ kid_at t cap (s
 -- ---- the number that it takes
 
 -- what the map gives is the next free number of the table
-pub found : {t : List ℤ} {cap k : ℕ} {m : FreeNumbers} → Plain t cap → length t ≡ row_words * (cap + 1) → Maps m (free_at t)
-    → ((f : ℕ → Bool) → BitsOf m.words f → k ≡ first_from f 4095 1) → k ≡ next_in t cap
+pub found : {t : List ℤ} {cap k : ℕ} {m : FreeNumbers} → Plain t cap → length t ≡ row_words * (cap + 1) → IsMapOf m (free_at t)
+    → ((f : ℕ → Bool) → Maps m.words f → k ≡ first_from f 4095 1) → k ≡ next_in t cap
 found {t} {cap} p l h e = next-in t cap l p.sized.small (e (free_at t) h.bits)
 
 module _ {t : List ℤ} {cap k : ℕ} (h : Plain t cap) (i : k ≡ next_in t cap) where
   pub next-few : k < 4096
   next-few = let b = next-within t cap i in omega (arith, h.sized.small)
 
-  pub without : (d p l m : ℕ) {u : List ℤ} {r : FreeNumbers} → m < 2 → u ≡ link_in t cap d p l m k → Maps r (switched (free_at t) k false) → Maps r (free_at u)
+  pub without : (d p l m : ℕ) {u : List ℤ} {r : FreeNumbers} → m < 2 → u ≡ link_in t cap d p l m k → IsMapOf r (switched (free_at t) k false) → IsMapOf r (free_at u)
   without d p l m a e r = rw (e, link-in-free t cap d p l m k a (omega (arith, next-within t cap i, h.sized.words))) r
 
 -- ---- one patch after the other

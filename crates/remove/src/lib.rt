@@ -5,7 +5,7 @@ ghost use Rattle.std.specs.Prelude.{◌≡◌, ◌<◌, ◌≤◌, length};
 ghost use Rattle.edit_laws.specs.Tables.{wanted_spots, at_kid, each_at, drop_untouched, emptied, dropped_near, remove_table, remove_values};
 ghost use Rattle.table.specs.Plain.{Plain};
 ghost use Rattle.table.specs.Words.{free_at};
-ghost use Rattle.free.specs.FreeMap.{Maps};
+ghost use Rattle.free.specs.FreeMap.{IsMapOf};
 ghost use Rattle.patch.specs.NextPatches.{Stepped};
 ghost use Rattle.near.specs.NearSpots.{kid_spot};
 
@@ -54,8 +54,8 @@ fn drop_near(p: &mut Patches, n: usize)
 
 // Removes the kids of the row n. The map is that of the table when they are no cells, and then that of the table without the rows that go.
 pub fn remove(t: &mut [i32], v: &mut [f64], cap: usize, map: &mut FreeMap, d: u32, n: usize)
-    requires { Plain t.old cap × (cap < length v.old) × (n ≤ cap) × (d ≤ 32) × Maps map.old (free_at (emptied t.old cap n)) }
-    ensures { (t.new ≡ remove_table t.old cap d n) × (v.new ≡ remove_values t.old cap n v.old) × Maps map.new (free_at (dropped_near t.old cap n)) }
+    requires { Plain t.old cap × (cap < length v.old) × (n ≤ cap) × (d ≤ 32) × IsMapOf map.old (free_at (emptied t.old cap n)) }
+    ensures { (t.new ≡ remove_table t.old cap d n) × (v.new ≡ remove_values t.old cap n v.old) × IsMapOf map.new (free_at (dropped_near t.old cap n)) }
 {
     put_cells(t, v, cap, n, 0, blank());
     drop_near(&mut Patches { t, cap, map }, n);
