@@ -1,5 +1,6 @@
 // The checker of lent lists: yes, or refusal 1, 2 or 3.
-ghost use Rattle.std.specs.Prelude.{◌≡◌, IfOk};
+ghost use Rattle.std.specs.Prelude.{◌≡◌, IfOk, replicate};
+ghost use Rattle.mesh.specs.LeafCounts.{count_places};
 ghost use Rattle.answer.specs.Answered.{refusal_of};
 ghost use Rattle.mesh.specs.Call.{lent_refusal, check_call};
 ghost use Rattle.header.specs.Headers.{lent_of, counted_of};
@@ -24,15 +25,18 @@ fn words_fit(t: &[i32])
     }
 }
 
-// The leaf counts of a sound table, or its refusal: of any lists of any length, any capacity and any header. The mark plays no part.
+// Whether a table is sound: of any lists of any length, any capacity and any header. The mark plays no part. The leaf counts of one that is are taken
+// on the way, into a list that is lent, so that nobody holds a second one.
 fn sound_counts<'a>(
     header: Header,
     t: &'a [i32],
     v: &'a [f64],
     capacity: u32,
-) -> Result<[u32; COUNT_PLACES], Refusal>
+    counts: &mut [u32],
+) -> Result<(), Refusal>
+    requires { counts.old ≡ replicate count_places 0 }
     ensures refused { refusal_of result ≡ lent_refusal capacity (lent_of header t.now v.now) }
-    ensures counted { IfOk result (λ c. c ≡ row_counts t.now v.now capacity capacity) }
+    ensures counted { IfOk result (λ _. counts.new ≡ row_counts t.now v.now capacity capacity) }
 {
     first_refusal(header, t, v, capacity)?;
     let cap = capacity as usize;
@@ -41,17 +45,16 @@ fn sound_counts<'a>(
     refuse_if(!plain(t, cap, d), Refusal::Unsound)?;
     let levels = Levels { t, cap, d };
     let rows = Rows { levels, v, header };
-    let mut counts = [0u32; COUNT_PLACES];
-    refuse_if(!rowwise(&rows, &mut counts), Refusal::Unsound)?;
-    Ok(counts)
+    refuse_if(!rowwise(&rows, counts), Refusal::Unsound)?;
+    Ok(())
 }
 
 // What scan, lookup and page begin with: they are lent no counts, so those taken on the way are not asked for.
 pub fn check(header: Header, t: &[i32], v: &[f64], capacity: u32) -> Result<(), Refusal>
     ensures { refusal_of result ≡ lent_refusal capacity (lent_of header t.now v.now) }
 {
-    sound_counts(header, t, v, capacity)?;
-    Ok(())
+    let mut own = [0u32; COUNT_PLACES];
+    sound_counts(header, t, v, capacity, &mut own)
 }
 
 // The checker, and what a tape begins with: the lent counts are those of the table too.
@@ -65,6 +68,7 @@ pub fn check_counted(
     ensures { refusal_of result ≡ check_call capacity (counted_of header t.now v.now c.now) }
 {
     refuse_if(c.len() != COUNT_PLACES, Refusal::BadLengths)?;
-    let own = sound_counts(header, t, v, capacity)?;
+    let mut own = [0u32; COUNT_PLACES];
+    sound_counts(header, t, v, capacity, &mut own)?;
     refuse_if(!agree(c, &own), Refusal::Unsound)
 }
