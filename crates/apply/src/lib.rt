@@ -17,16 +17,16 @@ use tally::moves::Rows;
 
 /// A lent table while requests edit it: its words, its values and its leaf counts, with level 0 at that depth, and the map of its free numbers.
 #[derive(Drop)]
-pub struct EditedTable<'t, 'v, 'c> {
+pub struct EditedTable<'t, 'v, 'c, 'm> {
     pub t: &'t mut [i32],
     pub v: &'v mut [f64],
     pub c: &'c mut [u32],
     pub cap: usize,
     pub d: u32,
-    pub map: FreeMap,
+    pub map: &'m mut FreeMap,
 }
 
-impl EditedTable<'_, '_, '_> {
+impl EditedTable<'_, '_, '_, '_> {
     pub fn refine(&mut self, n: usize) -> Result<(), Refusal>
         requires { Ready self.old }
         ensures { Requested (refine n) self.old self.new (refusal_of result) }

@@ -12,7 +12,7 @@ use lib.ListN.{length, get_or, replicate}
 use borrow.Author.Tests.{eq-eqb, ne_eqb, lt-ltb, le-ltb}
 use Rattle.mesh.specs.Picture.{row_words}
 use Rattle.table.specs.Words.{free_at}
-use Rattle.free.specs.FreeMap.{bit, map_bit, switched, Mapped}
+use Rattle.free.specs.FreeMap.{bit, map_bit, switched, Kept, Mapped}
 use Rattle.free.proofs.MapBits.{bit-of-zero}
 use Rattle.free.proofs.Switching.{total-none, mapped-same}
 use Rattle.free.proofs.FreeRows.{free-within}
@@ -28,9 +28,12 @@ empty-bit : (n : ℕ) → map_bit (replicate 64 0) n ≡ 0
 unfolding map_bit
 empty-bit n = ap (λ (x : ℕ). bit x (n % 64)) (zeros 64 (n / 64)) ∙ bit-of-zero (n % 64)
 
+pub empty-kept : Kept (replicate 64 0) 0
+empty-kept = record { long = refl; none = empty-bit 0; tops = λ w l. bit-of-zero w ∙ ap (λ (x : ℕ). cond (eqb x 0) 0 1) (sym (zeros 64 w)) }
+
 empty-mapped : Mapped (λ n. false) (replicate 64 0) 0 0
 empty-mapped = record {
-  kept = record { long = refl; none = empty-bit 0; tops = λ w l. bit-of-zero w ∙ ap (λ (x : ℕ). cond (eqb x 0) 0 1) (sym (zeros 64 w)) };
+  kept = empty-kept;
   maps = record { each = λ n l. empty-bit n };
   counts = sym (total-none 4096);
 }

@@ -68,22 +68,23 @@ fn high(x: u64, b: usize) -> u64
 }
 
 impl FreeMap {
-    // The map of the free rows of a table.
-    pub fn load(t: &[i32], cap: usize) -> FreeMap
+    // It becomes the map of the free rows of a table, whatever it was of.
+    pub fn load(&mut self, t: &[i32], cap: usize)
         requires { (length t.now ≡ row_words * (cap + 1)) × (cap ≤ 4095) × (free_at t.now 0 ≡ false) }
-        ensures { IsMapOf result (free_at t.now) }
+        ensures { IsMapOf self.new (free_at t.now) }
     {
-        let mut words = [0; 64];
+        self.words = [0; 64];
         let mut top = 0;
         let mut count = 0;
         for n in (1..cap + 1).rev() {
             if is_free(t, n) {
-                words[n / 64] = set_bit(words[n / 64], n % 64);
+                self.words[n / 64] = set_bit(self.words[n / 64], n % 64);
                 top = set_bit(top, n / 64);
                 count += 1;
             }
         }
-        FreeMap { words, top, count }
+        self.top = top;
+        self.count = count;
     }
 
     // How many numbers are free.

@@ -71,6 +71,7 @@ kept-on k l = record {
   same-words = l.same-words ∙ k.same-words;
   same-values = l.same-values ∙ k.same-values;
   same-counts = l.same-counts ∙ k.same-counts;
+  same-map = l.same-map ∙ k.same-map;
   same-capacity = l.same-capacity ∙ k.same-capacity;
   same-depth = l.same-depth ∙ k.same-depth;
   maps = l.maps;

@@ -30,7 +30,7 @@ pub struct Run {
     pub mark: u16,
 }
 
-// The map of free numbers is filled once, and then kept along the tape.
+// The map of free numbers is filled once, where it stands, and then lent along the tape: its words are too many to be copied.
 pub fn run_tape(
     t: &mut [i32],
     v: &mut [f64],
@@ -49,14 +49,19 @@ pub fn run_tape(
         offset: 0,
         mark,
     };
-    let map = FreeMap::load(t, cap);
+    let mut map = FreeMap {
+        words: [0; 64],
+        top: 0,
+        count: 0,
+    };
+    map.load(t, cap);
     let mut edited = EditedTable {
         t,
         v,
         c,
         cap,
         d,
-        map,
+        map: &mut map,
     };
     while run.offset < tape.len() {
         match turn_at(&mut edited, tape, run.offset) {

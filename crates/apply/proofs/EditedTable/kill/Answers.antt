@@ -42,4 +42,4 @@ pub returns : goal.returns
 returns c =
     let (words, values, mapped) = c.kill.ensures in
     let a = kill-applied _ _ _ _ _ _ _ _ _ c.in_ok-kill_refusal.ensures refl words values c.killed.ensures in
-    record { applied = a; kept = record { same-words = refl; same-values = refl; same-counts = refl; same-capacity = refl; same-depth = refl; maps = same-mapped (kill-left c.requires.pictured _ a) mapped } }
+    record { applied = a; kept = record { same-words = refl; same-values = refl; same-counts = refl; same-map = refl; same-capacity = refl; same-depth = refl; maps = same-mapped (kill-left c.requires.pictured _ a) mapped } }

@@ -39,4 +39,4 @@ pub returns : goal.returns
 returns c =
     let (words, values, mapped) = c.remove.ensures in
     let a = remove-applied _ _ _ _ _ _ _ _ _ c.in_ok-remove_refusal.ensures refl words values c.removed.ensures in
-    record { applied = a; kept = record { same-words = refl; same-values = refl; same-counts = refl; same-capacity = refl; same-depth = refl; maps = same-mapped (remove-left c.requires.pictured _ a) mapped } }
+    record { applied = a; kept = record { same-words = refl; same-values = refl; same-counts = refl; same-map = refl; same-capacity = refl; same-depth = refl; maps = same-mapped (remove-left c.requires.pictured _ a) mapped } }

@@ -24,4 +24,4 @@ sentence_at-requires c =
 pub returns : goal.returns
 returns c =
     let a = sentence-applied _ _ _ _ _ _ _ c.in_ok-sentence_refusal.ensures refl c.sentence_at.ensures in
-    record { applied = a; kept = record { same-words = refl; same-values = refl; same-counts = refl; same-capacity = refl; same-depth = refl; maps = same-mapped (sentence-free c.requires.pictured _ a) c.requires.maps } }
+    record { applied = a; kept = record { same-words = refl; same-values = refl; same-counts = refl; same-map = refl; same-capacity = refl; same-depth = refl; maps = same-mapped (sentence-free c.requires.pictured _ a) c.requires.maps } }

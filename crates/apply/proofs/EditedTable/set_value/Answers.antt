@@ -36,4 +36,4 @@ set_at-requires c =
 pub returns : goal.returns
 returns c =
     let a = set-applied _ _ _ _ _ _ _ _ _ _ c.in_ok-set_refusal.ensures refl c.set_at.ensures.0 c.set_at.ensures.1 c.valued.ensures in
-    record { applied = a; kept = record { same-words = refl; same-values = refl; same-counts = refl; same-capacity = refl; same-depth = refl; maps = same-mapped (set_free c.requires.pictured _ _ a) c.requires.maps } }
+    record { applied = a; kept = record { same-words = refl; same-values = refl; same-counts = refl; same-map = refl; same-capacity = refl; same-depth = refl; maps = same-mapped (set_free c.requires.pictured _ _ a) c.requires.maps } }

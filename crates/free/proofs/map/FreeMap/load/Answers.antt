@@ -20,8 +20,8 @@ loop-n-preserved-then-is_free c =
 pub loop-n-preserved : goal.loop-n-preserved
 loop-n-preserved c = load-taken _ _ (omega arith) (sym c.is_free.ensures ∙ c.if-is_free.false) c.loop-n.invariant
 
-pub invariant_of-result : goal.invariant_of-result
-invariant_of-result c = c.loop-n.invariant.kept
+pub invariant_of-self : goal.invariant_of-self
+invariant_of-self c = c.loop-n.invariant.kept
 
 pub returns : goal.returns
 returns c =

@@ -5,4 +5,4 @@ use Rattle.free.proofs.LoadingMap.{from}
 use Rattle.free.proofs.map.FreeMap.load.Given as goal
 
 abbrev pub invariant-loop-n : goal.invariant-loop-n
-invariant-loop-n l = Mapped (from l.n (free_at l.t)) l.words l.top l.count
+invariant-loop-n l = Mapped (from l.n (free_at l.t)) l.self-inside.words l.top l.count
