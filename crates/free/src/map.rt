@@ -74,6 +74,7 @@ impl FreeMap {
         ensures { IsMapOf self.new (free_at t.now) }
     {
         self.words = [0; 64];
+        // As fields these two would be read and written at each free row.
         let mut top = 0;
         let mut count = 0;
         for n in (1..cap + 1).rev() {
