@@ -1,9 +1,13 @@
 // One request on a lent table: it is decided first, and a refused one writes nothing. The counts move by the rows as they are before it writes.
 #![tactic(auto)]
 
+ghost use Rattle.std.specs.Prelude.{◌≡◌};
 ghost use Rattle.mesh.specs.Request.{refine, sentence, remove, kill, set_value};
+ghost use Rattle.table.specs.Words.{free_at};
 ghost use Rattle.answer.specs.Answered.{refusal_of};
 ghost use Rattle.kinds.specs.AskedFor.{request_of};
+ghost use Rattle.apply.specs.Drawn.{lists, Pictured};
+ghost use Rattle.apply.specs.Applied.{Applied};
 ghost use Rattle.apply.specs.Edited.{Ready, Requested};
 
 use answer::Refusal;
@@ -24,6 +28,42 @@ pub struct EditedTable<'t, 'v, 'c, 'm> {
     pub cap: usize,
     pub d: u32,
     pub map: &'m mut FreeMap,
+}
+
+/// Needs no map: no number becomes free, and none is taken. It writes no value and no count.
+pub fn sentence(
+    t: &mut [i32],
+    v: &[f64],
+    c: &[u32],
+    cap: usize,
+    d: u32,
+    n: usize,
+) -> Result<(), Refusal>
+    requires { Pictured cap d (lists t.old v.now c.now) }
+    ensures { Applied (sentence n) cap d (lists t.old v.now c.now) (lists t.new v.now c.now) (refusal_of result) × (free_at t.new ≡ free_at t.old) }
+{
+    sentence_refusal(t, cap, n)?;
+    sentence_at(t, n);
+    Ok(())
+}
+
+/// Needs no map either.
+pub fn set_value(
+    t: &mut [i32],
+    v: &mut [f64],
+    c: &mut [u32],
+    cap: usize,
+    d: u32,
+    n: usize,
+    x: f64,
+) -> Result<(), Refusal>
+    requires { Pictured cap d (lists t.old v.old c.old) }
+    ensures { Applied (set_value n x) cap d (lists t.old v.old c.old) (lists t.new v.new c.new) (refusal_of result) × (free_at t.new ≡ free_at t.old) }
+{
+    set_refusal(t, cap, n, x)?;
+    Rows { t, v, cap }.valued(c, n, x);
+    set_at(t, v, n, x);
+    Ok(())
 }
 
 impl EditedTable<'_, '_, '_, '_> {
@@ -47,10 +87,12 @@ impl EditedTable<'_, '_, '_, '_> {
         ensures { Requested (sentence n) self.old self.new (refusal_of result) }
     {
         let cap = self.cap;
-        let t = &mut *self.t;
-        sentence_refusal(t, cap, n)?;
-        sentence_at(t, n);
-        Ok(())
+        let d = self.d;
+        let EditedTable { t, v, c, .. } = self;
+        let t = &mut **t;
+        let v = &mut **v;
+        let c = &mut **c;
+        sentence(t, v, c, cap, d, n)
     }
 
     pub fn remove(&mut self, n: usize) -> Result<(), Refusal>
@@ -88,13 +130,12 @@ impl EditedTable<'_, '_, '_, '_> {
         ensures { Requested (set_value n x) self.old self.new (refusal_of result) }
     {
         let cap = self.cap;
+        let d = self.d;
         let EditedTable { t, v, c, .. } = self;
         let t = &mut **t;
         let v = &mut **v;
-        set_refusal(t, cap, n, x)?;
-        Rows { t, v, cap }.valued(c, n, x);
-        set_at(t, v, n, x);
-        Ok(())
+        let c = &mut **c;
+        set_value(t, v, c, cap, d, n, x)
     }
 
     pub fn request(&mut self, asked: Request) -> Result<(), Refusal>

@@ -1,27 +1,12 @@
--- `apply::EditedTable::sentence` meets its contract: the refusal is the rules', and the one word that is written makes the picture of the state with the cell sentenced.
-use Rattle.std.proofs.Common.{rules, refl, ◌≡◌, arith}
-use Rattle.answer.specs.Answered.{number, refusal_of}
-use Rattle.apply.proofs.Deciding.{stopped, sentence-decides, sentence-within}
-use Rattle.apply.proofs.Applying.{sentence-applied}
-use Rattle.apply.proofs.Following.{sentence-free, same-mapped}
-use Rattle.apply.proofs.Tamed.{drawn-ranged, drawn-tame}
-use Rattle.apply.proofs.Untouched.{unchanged}
+-- `apply::EditedTable::sentence` meets its contract: no number becomes free, so that the map stays the map of the table.
+use Rattle.std.proofs.Common.{refl}
+use Rattle.apply.proofs.Following.{same-mapped}
 use Rattle.apply.proofs.EditedTable.sentence.Goals as goal
 
-pub sentence_refusal-requires : goal.sentence_refusal-requires
-sentence_refusal-requires c = (drawn-tame c.requires.pictured.drawn).plain.sized
-
-pub returns-in_err-sentence_refusal : goal.returns-in_err-sentence_refusal
-returns-in_err-sentence_refusal c =
-    let o : refusal_of c.from_residual.result ≡ number c.in_err-sentence_refusal.field-0.0 = search rules in
-    record { applied = stopped _ _ _ _ _ _ o (sentence-decides _ _ _ _ _ _ c.in_err-sentence_refusal.ensures); kept = unchanged c.requires }
-
-pub sentence_at-requires : goal.sentence_at-requires
-sentence_at-requires c =
-    let p = c.requires.pictured in
-    (omega (arith, sentence-within _ _ _ c.in_ok-sentence_refusal.ensures refl, (drawn-ranged p.drawn).words), (drawn-tame p.drawn).flags _)
+pub sentence-requires : goal.sentence-requires
+sentence-requires c = c.requires.pictured
 
 pub returns : goal.returns
 returns c =
-    let a = sentence-applied _ _ _ _ _ _ _ c.in_ok-sentence_refusal.ensures refl c.sentence_at.ensures in
-    record { applied = a; kept = record { same-words = refl; same-values = refl; same-counts = refl; same-map = refl; same-capacity = refl; same-depth = refl; maps = same-mapped (sentence-free c.requires.pictured _ a) c.requires.maps } }
+    let (a, free) = c.sentence.ensures in
+    record { applied = a; kept = record { same-words = refl; same-values = refl; same-counts = refl; same-map = refl; same-capacity = refl; same-depth = refl; maps = same-mapped free c.requires.maps } }
