@@ -1,5 +1,5 @@
 -- The laws of the sinks: what is taken first and what is taken then are one list. An `impl` cites them, so they stand here, and no tactic finds
--- them. That numbers set one after the other are the list set at once is a law of `place_laws/proofs/Lists`, which the `impl` hands in.
+-- them.
 -- Assumes nothing.
 use Prim.Native.Nat.{ℕ, suc, ◌+◌, ◌<◌, ◌≤◌}
 use mathlib.Core.Path.{◌≡◌, refl, sym, ap, ◌∙◌, subst}
@@ -7,10 +7,10 @@ use mathlib.Core.Bool.{true, false}
 use mathlib.Core.Logic.{◌⊎◌, inl, inr}
 use mathlib.Core.List.{List, [], ◌∷◌, ◌++◌}
 use lib.Dec.{leb}
-use lib.ListN.{length, length-append}
+use lib.ListN.{length, set, length-append}
 use lib.Seq.{sets, length-sets, set_out}
 use Rattle.std.specs.Prelude.{min}
-use Rattle.std.proofs.Math.Nat.{le_refl, le_trans, le-suc, le_of_suc-le, le-add_right, add-zero, add_assoc, min-le_right, min-eq_left, min-eq_right}
+use Rattle.std.proofs.Math.Nat.{le_refl, le_trans, le-suc, le_of_suc-le, le-add_right, add-zero, add-suc, suc-add, add_assoc, min-le_right, min-eq_left, min-eq_right}
 use Rattle.std.proofs.lemmas.Bool.Decides.{leb_tells}
 use Rattle.listing.specs.Written.{WroteWhatFits}
 use Rattle.listing.specs.Sinks.{Wrote, Counted}
@@ -39,19 +39,32 @@ one_place at bound xs ys =
 
 -- ---- lists
 
+-- set in two parts or at once; `sets-append` of `place_laws/proofs/Lists` says it too, which no file of specs/ cites
+set_at_once : (xs ys l : List ℕ) (i : ℕ) → sets l i (xs ++ ys) ≡ sets (sets l i xs) (i + length xs) ys
+set_at_once [] ys l i = ap (λ (k : ℕ). sets l k ys) (sym (add-zero i))
+set_at_once (x ∷ xs) ys l i =
+    let next : suc i + length xs ≡ i + suc (length xs) = suc-add i (length xs) ∙ sym (add-suc i (length xs)) in
+    set_at_once xs ys (set l i x) (suc i) ∙ ap (λ (k : ℕ). sets (sets (set l i x) (suc i) xs) k ys) next
+
 sets-out : (ys l : List ℕ) (i : ℕ) → length l ≤ i → sets l i ys ≡ l
 sets-out [] l i h = refl
 sets-out (y ∷ ys) l i h = ap (λ (x : List ℕ). sets x (suc i) ys) (set_out l i y h) ∙ sets-out ys l (suc i) (le_trans h (le-suc i))
 
-wrote-length : {d : List ℕ} {n : ℕ} {xs e : List ℕ} {m : ℕ} → WroteWhatFits d n xs e m → length e ≡ length d
+pub wrote_none : (d : List ℕ) (n : ℕ) → n ≤ length d → WroteWhatFits d n [] d n
+wrote_none d n h = record { stored = refl; next = from_here n (length d) h }
+
+pub wrote-le : {d : List ℕ} {n : ℕ} {xs e : List ℕ} {m : ℕ} → WroteWhatFits d n xs e m → m ≤ length d
+wrote-le {d} {n} {xs} w = subst (λ (i : ℕ). i ≤ length d) (sym w.next) (min-le_right (n + length xs) (length d))
+
+pub wrote-length : {d : List ℕ} {n : ℕ} {xs e : List ℕ} {m : ℕ} → WroteWhatFits d n xs e m → length e ≡ length d
 wrote-length {d} {n} {xs} w = ap length w.stored ∙ length-sets d n xs
 
 wrote-within : {d : List ℕ} {n : ℕ} {xs e : List ℕ} {m : ℕ} → WroteWhatFits d n xs e m → m ≤ length e
-wrote-within {d} {n} {xs} {e} {m} w = subst (λ (i : ℕ). i ≤ length e) (sym (w.next ∙ ap (λ (b : ℕ). min (n + length xs) b) (sym (wrote-length w)))) (min-le_right (n + length xs) (length e))
+wrote-within {m = m} w = subst (λ (b : ℕ). m ≤ b) (sym (wrote-length w)) (wrote-le w)
 
-wrote-more : {d : List ℕ} {n : ℕ} {xs e : List ℕ} {m : ℕ} {ys f : List ℕ} {k : ℕ} → sets d n (xs ++ ys) ≡ sets (sets d n xs) (n + length xs) ys → WroteWhatFits d n xs e m → WroteWhatFits e m ys f k → WroteWhatFits d n (xs ++ ys) f k
-wrote-more {d} {n} {xs} {e} {m} {ys} {f} {k} joined w v = record {
-  stored = v.stored ∙ go (leb_tells (n + length xs) (length d)) ∙ sym joined;
+pub wrote-more : {d : List ℕ} {n : ℕ} {xs e : List ℕ} {m : ℕ} {ys f : List ℕ} {k : ℕ} → WroteWhatFits d n xs e m → WroteWhatFits e m ys f k → WroteWhatFits d n (xs ++ ys) f k
+wrote-more {d} {n} {xs} {e} {m} {ys} {f} {k} w v = record {
+  stored = v.stored ∙ go (leb_tells (n + length xs) (length d)) ∙ sym (set_at_once xs ys d n);
   next =
       v.next
       ∙ ap (λ (b : ℕ). min (m + length ys) b) (wrote-length w)
@@ -71,12 +84,12 @@ wrote-more {d} {n} {xs} {e} {m} {ys} {f} {k} joined w v = record {
 -- ---- sinks
 
 pub numbers_none : (s : Numbers) → Wrote s [] s
-numbers_none s = record { same = refl; wrote = λ h. record { stored = refl; next = from_here _ _ h } }
+numbers_none s = record { same = refl; wrote = λ h. wrote_none _ _ h }
 
-pub numbers_more : (s e f : Numbers) (xs ys : List ℕ) → sets s.out.now s.at (xs ++ ys) ≡ sets (sets s.out.now s.at xs) (s.at + length xs) ys → Wrote s xs e → Wrote e ys f → Wrote s (xs ++ ys) f
-numbers_more s e f xs ys joined w v = record {
+pub numbers_more : (s e f : Numbers) (xs ys : List ℕ) → Wrote s xs e → Wrote e ys f → Wrote s (xs ++ ys) f
+numbers_more s e f xs ys w v = record {
   same = v.same ∙ w.same;
-  wrote = λ h. wrote-more joined (w.wrote h) (v.wrote (wrote-within (w.wrote h)));
+  wrote = λ h. wrote-more (w.wrote h) (v.wrote (wrote-within (w.wrote h)));
 }
 
 pub count_none : (s : Count) → Counted s [] s

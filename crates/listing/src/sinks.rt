@@ -2,7 +2,6 @@
 ghost use Rattle.std.specs.Prelude.{ℕ, List, [], ◌∷◌, ◌++◌};
 ghost use Rattle.listing.specs.Sinks.{Wrote, Counted};
 ghost use Rattle.listing.specs.SinkLaws.{numbers_none, numbers_more, count_none, count_more};
-ghost use Rattle.place_laws.proofs.Lists.{sets-append};
 
 /// What takes numbers, one after the other.
 pub trait Sink {
@@ -36,7 +35,7 @@ impl Sink for Numbers<'_> {
 
     ghost took_none = { numbers_none };
 
-    ghost took_more = { λ s e f xs ys. numbers_more s e f xs ys (sets-append xs ys s.out.now s.at) };
+    ghost took_more = { numbers_more };
 
     fn take(&mut self, n: u16) {
         if self.at < self.out.len() {
