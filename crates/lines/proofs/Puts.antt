@@ -4,7 +4,7 @@ use Rattle.std.proofs.Common.{◌≡◌, ℕ, zero, suc, ◌+◌, ◌-◌, ◌/�
 use Rattle.std.proofs.lemmas.List.{take_more}
 use lib.Seq.{sets, length-sets, set_comm, take-append_seam, sets-eq}
 use borrow.Rule.Slice.PartMut.{put_mid, Post-is}
-use Rattle.place_laws.proofs.Lists.{sets-append}
+use Rattle.place_laws.specs.SetsInTurn.{sets-append}
 use Rattle.mesh.specs.Page.{total}
 use Rattle.lines.specs.Puts.{Put}
 

@@ -1,5 +1,4 @@
--- The laws of the sinks: what is taken first and what is taken then are one list. An `impl` cites them, so they stand here, and no tactic finds
--- them.
+-- The laws of the sinks: what is taken first and what is taken then are one list. An `impl` cites them, so they stand here and no tactic is used.
 -- Assumes nothing.
 use Prim.Native.Nat.{ℕ, suc, ◌+◌, ◌<◌, ◌≤◌}
 use mathlib.Core.Path.{◌≡◌, refl, sym, ap, ◌∙◌, subst}
@@ -7,11 +6,12 @@ use mathlib.Core.Bool.{true, false}
 use mathlib.Core.Logic.{◌⊎◌, inl, inr}
 use mathlib.Core.List.{List, [], ◌∷◌, ◌++◌}
 use lib.Dec.{leb}
-use lib.ListN.{length, set, length-append}
+use lib.ListN.{length, length-append}
 use lib.Seq.{sets, length-sets, set_out}
 use Rattle.std.specs.Prelude.{min}
-use Rattle.std.proofs.Math.Nat.{le_refl, le_trans, le-suc, le_of_suc-le, le-add_right, add-zero, add-suc, suc-add, add_assoc, min-le_right, min-eq_left, min-eq_right}
+use Rattle.std.proofs.Math.Nat.{le_refl, le_trans, le-suc, le_of_suc-le, le-add_right, add-zero, add_assoc, min-le_right, min-eq_left, min-eq_right}
 use Rattle.std.proofs.lemmas.Bool.Decides.{leb_tells}
+use Rattle.place_laws.specs.SetsInTurn.{sets-append}
 use Rattle.listing.specs.Written.{WroteWhatFits}
 use Rattle.listing.specs.Sinks.{Wrote, Counted}
 use Rattle.listing.specs.declared.sinks.Numbers.{Numbers}
@@ -39,13 +39,6 @@ one_place at bound xs ys =
 
 -- ---- lists
 
--- set in two parts or at once; `sets-append` of `place_laws/proofs/Lists` says it too, which no file of specs/ cites
-set_at_once : (xs ys l : List ℕ) (i : ℕ) → sets l i (xs ++ ys) ≡ sets (sets l i xs) (i + length xs) ys
-set_at_once [] ys l i = ap (λ (k : ℕ). sets l k ys) (sym (add-zero i))
-set_at_once (x ∷ xs) ys l i =
-    let next : suc i + length xs ≡ i + suc (length xs) = suc-add i (length xs) ∙ sym (add-suc i (length xs)) in
-    set_at_once xs ys (set l i x) (suc i) ∙ ap (λ (k : ℕ). sets (sets (set l i x) (suc i) xs) k ys) next
-
 sets-out : (ys l : List ℕ) (i : ℕ) → length l ≤ i → sets l i ys ≡ l
 sets-out [] l i h = refl
 sets-out (y ∷ ys) l i h = ap (λ (x : List ℕ). sets x (suc i) ys) (set_out l i y h) ∙ sets-out ys l (suc i) (le_trans h (le-suc i))
@@ -64,7 +57,7 @@ wrote-within {m = m} w = subst (λ (b : ℕ). m ≤ b) (sym (wrote-length w)) (w
 
 pub wrote-more : {d : List ℕ} {n : ℕ} {xs e : List ℕ} {m : ℕ} {ys f : List ℕ} {k : ℕ} → WroteWhatFits d n xs e m → WroteWhatFits e m ys f k → WroteWhatFits d n (xs ++ ys) f k
 wrote-more {d} {n} {xs} {e} {m} {ys} {f} {k} w v = record {
-  stored = v.stored ∙ go (leb_tells (n + length xs) (length d)) ∙ sym (set_at_once xs ys d n);
+  stored = v.stored ∙ go (leb_tells (n + length xs) (length d)) ∙ sym (sets-append xs ys d n);
   next =
       v.next
       ∙ ap (λ (b : ℕ). min (m + length ys) b) (wrote-length w)

@@ -9,7 +9,7 @@ use mathlib.Core.Bool.{Bool, true, false, not, ◌||◌, cond}
 use mathlib.Core.List.{List, [], ◌∷◌, ◌++◌, map}
 use lib.Dec.{T, eqb}
 use lib.ListN.{length, get_or, set, length-set}
-use lib.Seq.{get_or-set_same, set-set, set-get_or, sets}
+use lib.Seq.{get_or-set_same, set-set, set-get_or}
 use Rattle.mesh.specs.Tools.{any, all, keep, count, first, foremost, every}
 use Rattle.place_laws.proofs.Bools.{yes-is, is-yes, or_left, or_right, or_cases, and_both, and_left, and_right, neither}
 
@@ -195,9 +195,3 @@ module _ {A : Type 0} (f : A → ℕ) (b : A → Bool) (h : (x : A) → eqb (f x
   foremost-first (y ∷ xs) ys x n t =
       let (p, q) = neither (b y) (any b xs) n in
       rw (h y, p) (foremost-first xs ys x q t)
-
-pub sets-append : (xs ys l : List ℕ) (i : ℕ) → sets l i (xs ++ ys) ≡ sets (sets l i xs) (i + length xs) ys
-sets-append [] ys l i = rw add-zero
-sets-append (x ∷ xs) ys l i =
-    let e : i + suc (length xs) ≡ suc i + length xs = omega arith in
-    rw e (sets-append xs ys (set l i x) (suc i))

@@ -1,2 +1,2 @@
-// Laws about places and sets of cells: no code, only the modules of proofs/ that other crates cite.
+// Laws about places and sets of cells: no code, only the modules of specs/ and proofs/ that other crates cite.
 #![tactic(auto)]

@@ -1,0 +1,2 @@
+-- The laws that laws of `specs/` cite.
+pub mod SetsInTurn
